@@ -1,0 +1,1 @@
+// Graphs, walks and edge slots: definitions and laws only.
