@@ -1,0 +1,7 @@
+-- The definitions that the contracts of `neighbours` cite, and their laws. Assumes nothing.
+pub mod Groups
+pub mod Steps
+pub mod Parts
+pub mod Direction
+pub mod Lists
+pub mod Grouped
