@@ -1,0 +1,2 @@
+-- The laws that the proofs of `layout` cite. Assumes nothing.
+pub mod Writes
