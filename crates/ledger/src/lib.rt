@@ -1,0 +1,1 @@
+// The move graph's ledger: definitions and laws only.
