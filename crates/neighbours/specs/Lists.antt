@@ -31,6 +31,24 @@ pub record Graph (starts list : List ℕ) (n : ℕ) : Type 0 where
   pub inside : (x : ℕ) → x < n → getD starts (x + 1) 0 ≤ length list
   pub ends : (x i : ℕ) → x < n → i < deg starts x → nb starts list x i < n
 
+-- node x's bounds are in range
+pub record Row (starts : List ℕ) (x : ℕ) : Type 0 where
+  pub long : x + 1 < length starts
+  pub rise : getD starts x 0 ≤ getD starts (x + 1) 0
+  pub short : getD starts (x + 1) 0 < 2 ^ 31
+
+-- node x has an i-th neighbour
+pub record Place (starts list : List ℕ) (x i : ℕ) : Type 0 where
+  pub long : x + 1 < length starts
+  pub rise : getD starts x 0 ≤ getD starts (x + 1) 0
+  pub inside : getD starts (x + 1) 0 ≤ length list
+  pub short : length list < 2 ^ 31
+  pub there : i < deg starts x
+
+pub place-long : {starts list : List ℕ} {x i : ℕ} → Place starts list x i → {part : List ℕ} → part ≡ partOf starts list x → length part ≡ deg starts x
+place-long {starts} {list} {x} v is =
+    ap length is ∙ length-take-le (deg starts x) (drop (getD starts x 0) list) (rw length-drop (omega (arith, v .rise, v .inside)))
+
 -- the edges e between nodes below n, told by lists: node x has d x neighbours, the i-th is f x i. All that a walk needs
 pub record Listed (e : ℕ → ℕ → Bool) (n : ℕ) (d : ℕ → ℕ) (f : ℕ → ℕ → ℕ) : Type 0 where
   pub ends : (x i : ℕ) → x < n → i < d x → f x i < n
@@ -56,3 +74,9 @@ module _ {starts list : List ℕ} {n : ℕ} (g : Graph starts list n) where
         let r = occ-place y (partOf starts list x) (ltb-true 0 _ (and-right (ltb x n) _ h)) in
         (r .0, omega (arith, r .1, part-long x b), r .2);
   }
+
+  pub row-of : (x : ℕ) → x < n → Row starts x
+  row-of x h = record { long = omega (arith, g .rows); rise = g .rise x h; short = omega (arith, g .inside x h, g .short) }
+
+  pub place-of : (x i : ℕ) → x < n → i < deg starts x → Place starts list x i
+  place-of x i h b = record { long = omega (arith, g .rows); rise = g .rise x h; inside = g .inside x h; short = g .short; there = b }
