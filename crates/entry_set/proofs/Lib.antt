@@ -1,0 +1,4 @@
+pub mod Compare
+pub mod Ones
+pub mod Places
+pub mod Writing
