@@ -10,3 +10,6 @@ pub mod Listing
 pub mod MoveLaws
 pub mod LoadLaws
 pub mod Sound
+pub mod Nodes
+pub mod NodeLaws
+pub mod NodeWalks
