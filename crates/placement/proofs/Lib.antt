@@ -1,0 +1,2 @@
+-- The laws that the proofs of `placement` cite. Assumes nothing.
+pub mod Deciding

@@ -1,0 +1,2 @@
+-- The definitions that the contracts of `placement` cite. Assumes nothing.
+pub mod Compare
