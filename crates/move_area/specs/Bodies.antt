@@ -1,0 +1,87 @@
+-- The fields of a move graph's area: what stands where, whatever it means. Assumes nothing.
+--     edges, N rows of N | 24 header numbers | 24 lanes of N | 24 lanes of A | 24 lanes of D | 24 lanes of E
+use mathlib.Core.Path.{_≡_}
+use mathlib.Core.List.{List, [], _∷_}
+use Prim.Native.Nat.{ℕ, _+_, _*_, _≤_, _<_}
+use lib.ListN.{length, getD}
+use Rattle.layout.specs.Patch.{part}
+use Rattle.layout.specs.Fields.{Field, field, lay}
+
+-- where the node lane j starts, and the atoms' first lane
+abbrev pub laneAt : ℕ → ℕ → ℕ
+laneAt n j = n * n + 24 + j * n
+
+abbrev pub atomAt : ℕ → ℕ
+atomAt n = n * n + 24 + 24 * n
+
+-- what the fields hold
+pub record Bodies : Type 0 where
+  -- the multiplicities, N rows of N
+  pub edges : List ℕ
+  -- how many sets are registered
+  pub registered : ℕ
+  -- the walk counter
+  pub counter : ℕ
+  -- 1 where the graph has no cycle, else 0
+  pub acyclic : ℕ
+  -- word j of each registered set
+  pub words : ℕ → List ℕ
+  -- how many atoms each node has
+  pub counts : List ℕ
+  -- each node's walk mark
+  pub marks : List ℕ
+  -- 1 for each node of the stored component, else 0
+  pub component : List ℕ
+  -- each atom's node
+  pub nodes : List ℕ
+
+abbrev pub header : Bodies → List ℕ
+header b = b .registered ∷ b .counter ∷ b .acyclic ∷ []
+
+-- what stands where
+abbrev pub fieldsOf : ℕ → Bodies → List Field
+fieldsOf n b =
+    field 0 (b .edges)
+    ∷ field (n * n) (header b)
+    ∷ field (laneAt n 0) (b .words 0)
+    ∷ field (laneAt n 1) (b .words 1)
+    ∷ field (laneAt n 2) (b .words 2)
+    ∷ field (laneAt n 3) (b .words 3)
+    ∷ field (laneAt n 4) (b .words 4)
+    ∷ field (laneAt n 5) (b .words 5)
+    ∷ field (laneAt n 6) (b .words 6)
+    ∷ field (laneAt n 7) (b .words 7)
+    ∷ field (laneAt n 8) (b .counts)
+    ∷ field (laneAt n 9) (b .marks)
+    ∷ field (laneAt n 10) (b .component)
+    ∷ field (atomAt n) (b .nodes)
+    ∷ []
+
+-- an area with the fields written, and the rest as it was
+unfoldable pub write : ℕ → Bodies → List ℕ → List ℕ
+write n b l = lay (fieldsOf n b) l
+
+-- what the fields of an area hold
+unfoldable pub bodiesIn : ℕ → ℕ → List ℕ → Bodies
+bodiesIn n a l =
+    record {
+      edges = part 0 (n * n) l;
+      registered = getD l (n * n) 0;
+      counter = getD l (n * n + 1) 0;
+      acyclic = getD l (n * n + 2) 0;
+      words = λ j. part (laneAt n j) (getD l (n * n) 0) l;
+      counts = part (laneAt n 8) n l;
+      marks = part (laneAt n 9) n l;
+      component = part (laneAt n 10) n l;
+      nodes = part (atomAt n) a l;
+    }
+
+-- the lists are as long as the places for them
+pub record Sized (n a : ℕ) (b : Bodies) : Type 0 where
+  pub edges : length (b .edges) ≡ n * n
+  pub few : b .registered ≤ n
+  pub words : (j : ℕ) → j < 8 → length (b .words j) ≡ b .registered
+  pub counts : length (b .counts) ≡ n
+  pub marks : length (b .marks) ≡ n
+  pub component : length (b .component) ≡ n
+  pub nodes : length (b .nodes) ≡ a

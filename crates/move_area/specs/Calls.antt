@@ -1,0 +1,88 @@
+-- What each call of a move graph answers, and the area that it leaves. A refused call leaves the area as it was. Assumes nothing.
+use mathlib.Core.Bool.{Bool, not, cond, _&&_}
+use mathlib.Core.List.{List}
+use Prim.Native.Nat.{ℕ, _+_}
+use lib.Dec.{eqb, ltb, leb}
+use lib.ListN.{length, set, replicate}
+use Rattle.graphs.specs.Lists.{has}
+use Rattle.graphs.specs.Tab.{tab}
+use Rattle.graphs.specs.Walk.{via, cyclic}
+use Rattle.ledger.specs.Sets.{value, legal}
+use Rattle.ledger.specs.Graph.{Load, at, edge}
+use Rattle.ledger.specs.Answer.{Answer, refused, is-refused}
+use Rattle.ledger.specs.Ledger.{Ledger, loaded, step1, step3, full, move, Question, ask}
+use Rattle.ledger.specs.Loading.{refusal, entry-sets, loading}
+use Rattle.move_area.specs.Area.{State, encode, decode, consistent}
+
+-- an answer, and the area afterwards
+pub record Called : Type 0 where
+  pub answer : Answer
+  pub area : List ℕ
+
+-- a call's answer and its area; the area it was lent where it is refused
+abbrev pub unless-refused : List ℕ → Answer → List ℕ → Called
+unless-refused before answer after = record { answer = answer; area = cond (is-refused answer) before after }
+
+-- after loading: each atom in a node of its own, no walk yet
+abbrev pub first : Load → ℕ → List ℕ → State
+first load N sets = record { ledger = loaded (entry-sets load sets); counter = 0; marks = replicate N 0 }
+
+-- `new`
+unfoldable pub new : Load → ℕ → List ℕ → List ℕ → Called
+new load N sets area = unless-refused area (loading load N sets (length area)) (encode load N (first load N sets) area)
+
+-- a later call's rows 1 to 6 and 9 come before its own
+unfoldable pub checked : Load → ℕ → List ℕ → Answer → Answer
+checked load N area answer =
+    let q = refusal load N (length area) in
+    cond (eqb q 0) (cond (consistent load N area) answer (refused 9)) (refused q)
+
+-- a question is answered from the atoms' sets
+unfoldable pub asked : Load → ℕ → List ℕ → Question → Answer
+asked load N area q = checked load N area (ask load (decode load N area .ledger .place) q)
+
+-- no row from 10 to 13 fits, and step 1 doesn't reject: the target is registered and the atom moved on trial
+unfoldable pub tried : Load → ℕ → Ledger → ℕ → List ℕ → Bool
+tried load N l a s =
+    ltb a (load .A)
+    && (legal (load .E) s && (not (eqb (value s) (at (l .place) a)) && (not (step1 load (l .place) a) && not (full N (l .registered) (value s)))))
+
+-- "mark at 4,294,967,295 clears marks and restarts"
+abbrev pub last : ℕ → Bool
+last counter = eqb counter 4294967295
+
+unfoldable pub next : ℕ → ℕ
+next counter = cond (last counter) 1 (counter + 1)
+
+-- a newly registered node has no mark
+unfoldable pub marks-for : List ℕ → ℕ → List ℕ → List ℕ
+marks-for seen T marks = cond (has T seen) marks (set marks (length seen) 0)
+
+-- the marks after the walk from the target's node in the moved graph: the nodes that it reaches in one step or more have the new counter
+unfoldable pub walked : Load → Ledger → ℕ → ℕ → List ℕ → List ℕ
+walked load moved T counter marks =
+    tab
+    (λ x.
+    cond (ltb x (length (moved .registered)) && via (edge load (moved .place)) (moved .place) T (at (moved .registered) x)) (next counter)
+    (cond (last counter) 0 (at marks x)))
+    (length marks)
+
+-- the state after a move. The walk is made where the graph had no cycle before
+unfoldable pub after : Load → ℕ → State → ℕ → List ℕ → State
+after load N st a s =
+    let l = st .ledger in
+    let T = value s in
+    let marks = marks-for (l .registered) T (st .marks) in
+    cond (tried load N l a s)
+    (record {
+      ledger = move load N l a s .after;
+      counter = cond (cyclic (edge load (l .place)) (l .place)) (st .counter) (next (st .counter));
+      marks = cond (cyclic (edge load (l .place)) (l .place)) marks (walked load (step3 l a T) T (st .counter) marks);
+    })
+    st
+
+-- `try_move`
+unfoldable pub try-move : Load → ℕ → List ℕ → ℕ → List ℕ → Called
+try-move load N area a s =
+    let st = decode load N area in
+    unless-refused area (checked load N area (move load N (st .ledger) a s .answer)) (encode load N (after load N st a s) area)

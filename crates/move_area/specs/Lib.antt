@@ -1,0 +1,9 @@
+-- The area of a move graph. Assumes nothing.
+pub mod Bodies
+pub mod BodyLaws
+pub mod Area
+pub mod Calls
+pub mod ListLaws
+pub mod Held
+pub mod NodeBodies
+pub mod Checked
