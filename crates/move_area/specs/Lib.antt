@@ -5,5 +5,7 @@ pub mod Area
 pub mod Calls
 pub mod ListLaws
 pub mod Held
+pub mod CallLaws
+pub mod History
 pub mod NodeBodies
 pub mod Checked
