@@ -3,11 +3,11 @@
 use Prim.Native.Nat.{ℕ, zero, suc}
 use mathlib.Core.Bool.{Bool, not, cond, _&&_}
 use mathlib.Core.List.{List, [], _∷_, _++_}
-use lib.Dec.{leb, eqb}
+use lib.Dec.{leb, ltb, eqb}
 use lib.ListN.{length, set}
 use Rattle.graphs.specs.Lists.{has}
 use Rattle.graphs.specs.Walk.{cyclic, only}
-use Rattle.ledger.specs.Sets.{value, legal, words}
+use Rattle.entry_set.specs.Sets.{value, legal, words}
 use Rattle.ledger.specs.Graph.{Load, Edge, at, members, mult, edge, edges}
 use Rattle.ledger.specs.Answer.{Answer, refused, accepted, rejected}
 use Rattle.ledger.specs.Answer as answer
@@ -64,8 +64,8 @@ move load N l a s =
 
 -- "Public questions also give an atom's set, a set's atom count, one edge's multiplicity (..), the number of distinct edges, and the k-th edge, from 0"
 pub data Question : Type 0 where
-  set-of : ℕ → Question
-  count-of : List ℕ → Question
+  atom-set : ℕ → Question
+  atom-count : List ℕ → Question
   multiplicity : List ℕ → List ℕ → Question
   edge-count : Question
   edge-at : ℕ → Question
@@ -78,8 +78,8 @@ kth (e ∷ es) (suc k) = kth es k
 
 -- "unless the table refuses it, is answered from the load and the atoms' sets"
 unfoldable pub ask : Load → List ℕ → Question → Answer
-ask load place (set-of a) = cond (leb (load .A) a) (refused 10) (answer.set (words 4 (at place a)))
-ask load place (count-of s) = cond (legal (load .E) s) (answer.number (members load place (value s))) (refused 11)
+ask load place (atom-set a) = cond (leb (load .A) a) (refused 10) (answer.set (words 4 (at place a)))
+ask load place (atom-count s) = cond (legal (load .E) s) (answer.number (members load place (value s))) (refused 11)
 ask load place (multiplicity s t) = cond (legal (load .E) s && legal (load .E) t) (answer.number (mult load place (value s) (value t))) (refused 11)
 ask load place edge-count = answer.number (length (edges load place))
 ask load place (edge-at k) = kth (edges load place) k

@@ -15,7 +15,7 @@ use Rattle.graphs.specs.Count.{ind, count, count-le}
 use Rattle.graphs.specs.Lists.{some-below, some-none}
 use Rattle.graphs.specs.Tab.{tab-length, tab-at}
 use Rattle.graphs.specs.Walk.{cyclic}
-use Rattle.ledger.specs.Sets.{width}
+use Rattle.entry_set.specs.Sets.{width}
 use Rattle.ledger.specs.Graph.{Load, none, at, owner, edge}
 use Rattle.ledger.specs.Answer.{Answer, refused, acyclic, is-refused}
 use Rattle.ledger.specs.Answer as answer

@@ -7,7 +7,7 @@ use lib.ListN.{length, take, drop}
 use Rattle.graphs.specs.Lists.{some-below}
 use Rattle.graphs.specs.Tab.{tab}
 use Rattle.graphs.specs.Walk.{cyclic}
-use Rattle.ledger.specs.Sets.{value, width}
+use Rattle.entry_set.specs.Sets.{value, width}
 use Rattle.ledger.specs.Graph.{Load, none, at, owner, edge}
 use Rattle.ledger.specs.Answer.{Answer, refused, acyclic}
 use Rattle.ledger.specs.Answer as answer

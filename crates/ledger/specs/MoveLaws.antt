@@ -11,7 +11,7 @@ use borrow.Author.Tests.{eqb-true, eq-eqb}
 use Rattle.graphs.specs.Bools.{alike}
 use Rattle.graphs.specs.Lists.{any, has}
 use Rattle.graphs.specs.Walk.{cyclic}
-use Rattle.ledger.specs.Sets.{value, legal}
+use Rattle.entry_set.specs.Sets.{value, legal}
 use Rattle.ledger.specs.Graph.{Load, at, edge}
 use Rattle.ledger.specs.Answer.{Answer, refused, accepted, rejected, is-refused}
 use Rattle.ledger.specs.Ledger.{Ledger, Answered, gives, register, full, step1, step2, step3, move, Call, try-move, asks, call, ledger}

@@ -11,7 +11,7 @@ use lib.Seq.{getD-set-same, getD-set-other, getD-at}
 use borrow.Author.Tests.{ltb-true, leb-false, eq-eqb, not-false}
 use Rattle.graphs.specs.Bools.{or-right, and-right, and-both, fails}
 use Rattle.graphs.specs.Lists.{has, has-at}
-use Rattle.ledger.specs.Sets.{value, width, legal}
+use Rattle.entry_set.specs.Sets.{value, width, legal}
 use Rattle.ledger.specs.Graph.{Load, at}
 use Rattle.ledger.specs.Ledger.{Ledger, loaded, register, full, step2, step3, move, Call, try-move, asks, call, ledger}
 use Rattle.ledger.specs.MoveLaws.{move-steps, steps-keep, has-snoc, seen-stays, register-old, register-new}

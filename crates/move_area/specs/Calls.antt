@@ -7,7 +7,7 @@ use lib.ListN.{length, set, replicate}
 use Rattle.graphs.specs.Lists.{has}
 use Rattle.graphs.specs.Tab.{tab}
 use Rattle.graphs.specs.Walk.{via, cyclic}
-use Rattle.ledger.specs.Sets.{value, legal}
+use Rattle.entry_set.specs.Sets.{value, legal}
 use Rattle.ledger.specs.Graph.{Load, at, edge}
 use Rattle.ledger.specs.Answer.{Answer, refused, is-refused}
 use Rattle.ledger.specs.Ledger.{Ledger, loaded, step1, step3, full, move, Question, ask}

@@ -1,0 +1,33 @@
+-- The table of bench cases, and the one test: what comes out of each case is what must. Assumes nothing.
+use mathlib.Core.Path.{_≡_, refl}
+use mathlib.Core.List.{List, map}
+use Rattle.graphs.specs.Lists.{any, all, has, below}
+use Rattle.graphs.specs.Count.{count}
+use Rattle.graphs.specs.Tab.{tab}
+use Rattle.graphs.specs.Walk.{via, cyclic, only}
+use Rattle.entry_set.specs.Joined.{joined, parts}
+use Rattle.ledger.specs.Graph.{owner, lies, members, entry, facade, mult, edge, insert, rising, row, rows, edges}
+use Rattle.ledger.specs.Ledger.{register, move, kth, ask, call, answers, ledger}
+use Rattle.ledger.specs.Loading.{row4, row5, row6, first-row, entry-sets, row7, row8, loading-row, loading}
+use Rattle.cases.specs.Run.{MoveCase, MoveOutcome, move-outcome, tries, every, shut}
+use Rattle.cases.specs.Moves.{move-cases}
+
+-- a case, and an outcome, of one of the graphs
+pub data Case : Type 0 where
+  moves : MoveCase → Case
+
+pub data Outcome : Type 0 where
+  moved : MoveOutcome → Outcome
+
+abbrev pub outcome : Case → Outcome
+outcome (moves c) = moved (move-outcome c)
+
+abbrev pub expected : Case → Outcome
+expected (moves c) = moved (c .expected)
+
+abbrev pub table : List Case
+table = map moves move-cases
+
+pub cases-right : map outcome table ≡ map expected table
+unfolding move-outcome tries every shut any all has below count tab via cyclic only joined parts owner lies members entry facade mult edge insert rising row rows edges register move kth ask call answers ledger row4 row5 row6 first-row entry-sets row7 row8 loading-row loading
+cases-right = refl

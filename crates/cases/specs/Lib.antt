@@ -1,0 +1,4 @@
+-- The bench cases: what a case is, the cases, and the one test of them all. Assumes nothing.
+pub mod Run
+pub mod Moves
+pub mod Cases

@@ -1,0 +1,209 @@
+-- The bench cases of the move graph: P1 to P8 of 01, and further ones. Assumes nothing.
+use Prim.Native.Nat.{ℕ}
+use mathlib.Core.List.{List, [], _∷_, _++_}
+use lib.ListN.{replicate}
+use Rattle.ledger.specs.Graph.{Load, none}
+use Rattle.ledger.specs.Answer.{Answer, refused, acyclic, cyclic, accepted, rejected, set, number, edge}
+use Rattle.ledger.specs.Answer as answer
+use Rattle.ledger.specs.Ledger.{Ledger, Call, try-move, asks, atom-set, atom-count, multiplicity, edge-count, edge-at}
+use Rattle.cases.specs.Run.{MoveCase, MoveOutcome, every, shut}
+
+abbrev nobody : ℕ → List ℕ
+nobody n = replicate n none
+
+abbrev kept : List ℕ → List ℕ → Ledger
+kept place registered = record { place = place; registered = registered }
+
+-- an edge answered
+abbrev found : ℕ → ℕ → ℕ → Answer
+found from to times = edge (record { from = from; to = to; multiplicity = times })
+
+-- the program's input, with its N and E
+abbrev pub P1 : MoveCase
+P1 =
+    record {
+      load = record { A = 3; D = 2; E = 16; starts = 0 ∷ 0 ∷ 1 ∷ 2 ∷ []; dependencies = 0 ∷ 0 ∷ []; hosts = 1 ∷ 2 ∷ nobody 14 };
+      N = 96;
+      sets = 3 ∷ 1 ∷ 2 ∷ [];
+      size = 16384;
+      calls = try-move 0 (1 ∷ []) ∷ try-move 1 (3 ∷ []) ∷ asks edge-count ∷ asks (edge-at 0) ∷ asks (edge-at 1) ∷ asks (atom-set 0) ∷ [];
+      expected =
+          record {
+            start = acyclic;
+            replies = accepted ∷ rejected ∷ number 1 ∷ found 2 1 1 ∷ answer.none ∷ set (1 ∷ 0 ∷ 0 ∷ 0 ∷ []) ∷ [];
+            end = kept (1 ∷ 1 ∷ 2 ∷ []) (3 ∷ 1 ∷ 2 ∷ []);
+          };
+    }
+
+-- "A = 0: acyclic"
+abbrev pub P2 : MoveCase
+P2 =
+    record {
+      load = record { A = 0; D = 0; E = 0; starts = 0 ∷ []; dependencies = []; hosts = [] };
+      N = 0;
+      sets = [];
+      size = 24;
+      calls = [];
+      expected = record { start = acyclic; replies = []; end = kept [] [] };
+    }
+
+-- "atoms 0 and 1 depend on each other, sets 1, 2, no hosts: cyclic; 0 to set 2 accepted"; before it, inside the component: 13 where N sets are registered
+abbrev pub P3 : MoveCase
+P3 =
+    record {
+      load = record { A = 2; D = 2; E = 2; starts = 0 ∷ 1 ∷ 2 ∷ []; dependencies = 1 ∷ 0 ∷ []; hosts = nobody 2 };
+      N = 2;
+      sets = 1 ∷ 2 ∷ [];
+      size = 16384;
+      calls = try-move 0 (3 ∷ []) ∷ try-move 0 (2 ∷ []) ∷ [];
+      expected = record { start = cyclic; replies = refused 13 ∷ accepted ∷ []; end = kept (2 ∷ 2 ∷ []) (1 ∷ 2 ∷ []) };
+    }
+
+-- "a second such pair beside it, sets 4 and 8: every move that isn't refused is rejected": each of 4 atoms to each of 16 sets, though N sets
+-- are registered, for step 1 rejects before 13
+abbrev pub P4 : MoveCase
+P4 =
+    record {
+      load = record { A = 4; D = 4; E = 4; starts = 0 ∷ 1 ∷ 2 ∷ 3 ∷ 4 ∷ []; dependencies = 1 ∷ 0 ∷ 3 ∷ 2 ∷ []; hosts = nobody 4 };
+      N = 4;
+      sets = 1 ∷ 2 ∷ 4 ∷ 8 ∷ [];
+      size = 16384;
+      calls = every 4 16;
+      expected =
+          record {
+            start = cyclic;
+            replies = shut (1 ∷ 2 ∷ 4 ∷ 8 ∷ []) (every 4 16);
+            end = kept (1 ∷ 2 ∷ 4 ∷ 8 ∷ []) (1 ∷ 2 ∷ 4 ∷ 8 ∷ []);
+          };
+    }
+
+-- "sets 3, 5, atom 1 on 0, host of bit 2 is atom 1: 0 to set 4 rejected, 4 registered empty": it has no atom and no facade edge
+abbrev pub P5 : MoveCase
+P5 =
+    record {
+      load = record { A = 2; D = 1; E = 3; starts = 0 ∷ 0 ∷ 1 ∷ []; dependencies = 0 ∷ []; hosts = none ∷ none ∷ 1 ∷ [] };
+      N = 3;
+      sets = 3 ∷ 5 ∷ [];
+      size = 16384;
+      calls = try-move 0 (4 ∷ []) ∷ asks (atom-count (4 ∷ [])) ∷ asks (multiplicity (4 ∷ []) (5 ∷ [])) ∷ [];
+      expected = record { start = acyclic; replies = rejected ∷ number 0 ∷ number 0 ∷ []; end = kept (3 ∷ 5 ∷ []) (3 ∷ 5 ∷ 4 ∷ []) };
+    }
+
+-- "host None: accepted"
+abbrev pub P6 : MoveCase
+P6 =
+    record {
+      load = record { A = 2; D = 1; E = 3; starts = 0 ∷ 0 ∷ 1 ∷ []; dependencies = 0 ∷ []; hosts = nobody 3 };
+      N = 3;
+      sets = 3 ∷ 5 ∷ [];
+      size = 16384;
+      calls = try-move 0 (4 ∷ []) ∷ [];
+      expected = record { start = acyclic; replies = accepted ∷ []; end = kept (4 ∷ 5 ∷ []) (3 ∷ 5 ∷ 4 ∷ []) };
+    }
+
+-- "a repeated dependency: multiplicity 2"
+abbrev pub P7 : MoveCase
+P7 =
+    record {
+      load = record { A = 2; D = 2; E = 2; starts = 0 ∷ 2 ∷ 2 ∷ []; dependencies = 1 ∷ 1 ∷ []; hosts = nobody 2 };
+      N = 2;
+      sets = 1 ∷ 2 ∷ [];
+      size = 16384;
+      calls = asks (multiplicity (1 ∷ []) (2 ∷ [])) ∷ asks (multiplicity (2 ∷ []) (1 ∷ [])) ∷ asks (multiplicity (1 ∷ []) (1 ∷ [])) ∷ asks (edge-at 0) ∷ [];
+      expected = record { start = acyclic; replies = number 2 ∷ number 0 ∷ number 0 ∷ found 1 2 2 ∷ []; end = kept (1 ∷ 2 ∷ []) (1 ∷ 2 ∷ []) };
+    }
+
+-- "N = A, acyclic, unseen target: 13"; and the rows 10 to 12
+abbrev pub P8 : MoveCase
+P8 =
+    record {
+      load = record { A = 2; D = 1; E = 3; starts = 0 ∷ 0 ∷ 1 ∷ []; dependencies = 0 ∷ []; hosts = nobody 3 };
+      N = 2;
+      sets = 3 ∷ 5 ∷ [];
+      size = 16384;
+      calls = try-move 0 (4 ∷ []) ∷ try-move 2 (4 ∷ []) ∷ try-move 0 (8 ∷ []) ∷ try-move 0 (3 ∷ []) ∷ [];
+      expected =
+          record { start = acyclic; replies = refused 13 ∷ refused 10 ∷ refused 11 ∷ refused 12 ∷ []; end = kept (3 ∷ 5 ∷ []) (3 ∷ 5 ∷ []) };
+    }
+
+-- not of 01: edges in the order of their sets, which isn't that of the atoms; and a move that takes a facade edge off with its set's last atom,
+-- while the cycle that the graph has stays
+abbrev pub vanishing : MoveCase
+vanishing =
+    record {
+      load = record { A = 3; D = 3; E = 4; starts = 0 ∷ 1 ∷ 3 ∷ 3 ∷ []; dependencies = 1 ∷ 0 ∷ 2 ∷ []; hosts = none ∷ none ∷ 0 ∷ none ∷ [] };
+      N = 4;
+      sets = 3 ∷ 5 ∷ 4 ∷ [];
+      size = 16384;
+      calls = asks edge-count ∷ asks (edge-at 0) ∷ asks (edge-at 1) ∷ asks (edge-at 2) ∷ asks (edge-at 3) ∷ asks (edge-at 4) ∷ try-move 2 (9 ∷ []) ∷ [];
+      expected =
+          record {
+            start = cyclic;
+            replies = number 4 ∷ found 3 5 1 ∷ found 4 3 1 ∷ found 5 3 1 ∷ found 5 4 1 ∷ answer.none ∷ rejected ∷ [];
+            end = kept (3 ∷ 5 ∷ 4 ∷ []) (3 ∷ 5 ∷ 4 ∷ 9 ∷ []);
+          };
+    }
+
+-- not of 01: sets of two numbers. Atom 0 in the set {64} reaches atom 1 by its dependency and by the facade edge of bit 64, until it leaves
+abbrev pub two-numbers : MoveCase
+two-numbers =
+    record {
+      load = record { A = 3; D = 2; E = 65; starts = 0 ∷ 1 ∷ 1 ∷ 2 ∷ []; dependencies = 1 ∷ 1 ∷ []; hosts = nobody 64 ++ 1 ∷ [] };
+      N = 3;
+      sets = 0 ∷ 1 ∷ 5 ∷ 0 ∷ 1 ∷ 1 ∷ [];
+      size = 16384;
+      calls =
+          asks (atom-set 2)
+          ∷ try-move 0 (1 ∷ [])
+          ∷ try-move 0 (1 ∷ 2 ∷ [])
+          ∷ asks (edge-at 0)
+          ∷ asks (edge-at 1)
+          ∷ asks (edge-at 2)
+          ∷ try-move 0 (1 ∷ 1 ∷ [])
+          ∷ asks (multiplicity (0 ∷ 1 ∷ []) (5 ∷ 0 ∷ []))
+          ∷ asks (multiplicity (1 ∷ 1 ∷ []) (5 ∷ 0 ∷ []))
+          ∷ asks (atom-count (1 ∷ 1 ∷ []))
+          ∷ [];
+      expected =
+          record {
+            start = acyclic;
+            replies =
+                set (1 ∷ 1 ∷ 0 ∷ 0 ∷ [])
+                ∷ refused 11
+                ∷ refused 11
+                ∷ found 18446744073709551616 5 2
+                ∷ found 18446744073709551617 5 1
+                ∷ answer.none
+                ∷ accepted
+                ∷ number 0
+                ∷ number 2
+                ∷ number 2
+                ∷ [];
+            end = kept (18446744073709551617 ∷ 5 ∷ 18446744073709551617 ∷ []) (18446744073709551616 ∷ 5 ∷ 18446744073709551617 ∷ []);
+          };
+    }
+
+-- not of 01: each row of loading. Two atoms, one dependency, two bits, sets 1 and 2 pass; each other case changes one thing, and what comes
+-- later in the table may be wrong too
+abbrev lent : List ℕ → List ℕ → List ℕ → Load
+lent starts dependencies hosts = record { A = 2; D = 1; E = 2; starts = starts; dependencies = dependencies; hosts = hosts }
+
+abbrev pub loads : Load → ℕ → List ℕ → ℕ → Answer → MoveCase
+loads load N sets size answer =
+    record { load = load; N = N; sets = sets; size = size; calls = []; expected = record { start = answer; replies = []; end = kept sets sets } }
+
+abbrev pub loadings : List MoveCase
+loadings =
+    loads (lent (0 ∷ 1 ∷ 1 ∷ []) (1 ∷ []) (none ∷ 1 ∷ [])) 2 (1 ∷ 2 ∷ []) 196 acyclic
+    ∷ loads (lent (0 ∷ 1 ∷ 1 ∷ []) (1 ∷ []) (none ∷ 1 ∷ [])) 1 (1 ∷ 2 ∷ []) 196 (refused 1)
+    ∷ loads (lent (0 ∷ 1 ∷ 1 ∷ []) (1 ∷ 0 ∷ []) (none ∷ 1 ∷ [])) 2 (1 ∷ 2 ∷ []) 0 (refused 2)
+    ∷ loads (lent (0 ∷ 1 ∷ 2 ∷ []) (1 ∷ []) (none ∷ 1 ∷ [])) 2 (1 ∷ 2 ∷ []) 195 (refused 3)
+    ∷ loads (lent (0 ∷ 1 ∷ 2 ∷ []) (2 ∷ []) (none ∷ 1 ∷ [])) 2 (1 ∷ 2 ∷ []) 196 (refused 4)
+    ∷ loads (lent (0 ∷ 1 ∷ 1 ∷ []) (0 ∷ []) (none ∷ 2 ∷ [])) 2 (1 ∷ 2 ∷ []) 196 (refused 5)
+    ∷ loads (lent (0 ∷ 1 ∷ 1 ∷ []) (1 ∷ []) (none ∷ 2 ∷ [])) 2 (4 ∷ 2 ∷ []) 196 (refused 6)
+    ∷ loads (lent (0 ∷ 1 ∷ 1 ∷ []) (1 ∷ []) (none ∷ 1 ∷ [])) 2 (4 ∷ 4 ∷ []) 196 (refused 7)
+    ∷ loads (lent (0 ∷ 1 ∷ 1 ∷ []) (1 ∷ []) (none ∷ 1 ∷ [])) 2 (3 ∷ 3 ∷ []) 196 (refused 8)
+    ∷ []
+
+abbrev pub move-cases : List MoveCase
+move-cases = P1 ∷ P2 ∷ P3 ∷ P4 ∷ P5 ∷ P6 ∷ P7 ∷ P8 ∷ vanishing ∷ two-numbers ∷ loadings

@@ -1,0 +1,1 @@
+// The bench cases as one table, and its test: no code.

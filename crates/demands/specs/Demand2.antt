@@ -1,0 +1,66 @@
+-- Demand 2 of the move graph: what an unrefused move answers and leaves. Assumes nothing.
+use Prim.Native.Nat.{ℕ}
+use mathlib.Core.Path.{_≡_, refl, ap}
+use mathlib.Core.Logic.{_↔_}
+use mathlib.Core.Bool.{Bool, true, false, not, _&&_}
+use mathlib.Core.List.{List}
+use lib.Dec.{leb, eqb}
+use lib.ListN.{length, set, length-set}
+use borrow.Author.Tests.{not-true}
+use Rattle.graphs.specs.Bools.{and-left, and-right}
+use Rattle.graphs.specs.Lists.{has}
+use Rattle.graphs.specs.Walk.{Walk, cyclic}
+use Rattle.graphs.specs.Walks.{acyclic-walk}
+use Rattle.entry_set.specs.Sets.{value, legal}
+use Rattle.ledger.specs.Graph.{Load, at, mult, edge}
+use Rattle.ledger.specs.GraphLaws.{edge-source, outside-stays}
+use Rattle.ledger.specs.Answer.{accepted, rejected, is-refused}
+use Rattle.ledger.specs.Ledger.{Ledger, Answered, full, step1, step2, step3, move, Call}
+use Rattle.ledger.specs.MoveLaws.{move-steps, steps-exact}
+use Rattle.demands.specs.History.{history, history-length}
+
+-- "has no cycle": "A cycle is a closed walk of at least one edge"
+abbrev pub no-cycle : Load → List ℕ → Type 0
+no-cycle load place = (X : ℕ) → Walk (edge load place) X X → ⊥
+
+-- the placement with atom a moved to the lent set s
+abbrev pub moved : Ledger → ℕ → List ℕ → List ℕ
+moved l a s = set (l .place) a (value s)
+
+-- "a move that isn't refused is"
+pub record Decided (load : Load) (before : Ledger) (a : ℕ) (s : List ℕ) (r : Answered) : Type 0 where
+  -- "accepted exactly when the moved chunk graph, facade edges included, has no cycle";
+  pub exactly : (r .answer ≡ accepted) ↔ no-cycle load (moved before a s)
+  pub moves : r .answer ≡ accepted → r .after .place ≡ moved before a s
+  -- "and otherwise every atom and edge is as before"
+  pub rejects : (r .answer ≡ accepted → ⊥) → r .answer ≡ rejected
+  pub atoms-stay : (r .answer ≡ accepted → ⊥) → r .after .place ≡ before .place
+  pub edges-stay : (r .answer ≡ accepted → ⊥) → (X Y : ℕ) → mult load (r .after .place) X Y ≡ mult load (before .place) X Y
+
+-- from any ledger that has a set for each atom
+pub moved-exactly-acyclic : (load : Load) (N : ℕ) (l : Ledger) (a : ℕ) (s : List ℕ) → length (l .place) ≡ load .A
+    → is-refused (move load N l a s .answer) ≡ false → Decided load l a s (move load N l a s)
+moved-exactly-acyclic load N l a s n u =
+    let e = steps-exact (leb (load .A) a) (not (legal (load .E) s)) (eqb (value s) (at (l .place) a)) (step1 load (l .place) a) (full N (l .registered) (value s)) (cyclic (edge load q) q) l (step2 l (value s)) (step3 l a (value s)) refl stays (rw (move-steps load N l a s) at u) in
+    rw (move-steps load N l a s)
+    (record {
+      exactly = (λ h. acyclic-walk (edge load q) q from .0 (e .accepts .0 h), λ f. e .accepts .1 (acyclic-walk (edge load q) q from .1 f));
+      moves = λ h. ap (λ m. m .place) (e .moves h);
+      rejects = λ h. e .rejects h .0;
+      atoms-stay = λ h. e .rejects h .1;
+      edges-stay = λ h X Y. ap (λ p. mult load p X Y) (e .rejects h .1);
+    })
+  where
+    q : List ℕ
+    q = moved l a s
+
+    from : (X Y : ℕ) → edge load q X Y ≡ true → has X q ≡ true
+    from = edge-source load q (rw length-set n)
+
+    stays : step1 load (l .place) a ≡ true → cyclic (edge load q) q ≡ true
+    stays h = outside-stays load (l .place) a (value s) n (and-left (cyclic (edge load (l .place)) (l .place)) _ h) (not-true _ (and-right (cyclic (edge load (l .place)) (l .place)) _ h))
+
+-- and so after every loading and list of calls
+pub moved-in-history : (load : Load) (N : ℕ) (sets : List ℕ) (calls : List Call) (a : ℕ) (s : List ℕ)
+    → is-refused (move load N (history load N sets calls) a s .answer) ≡ false → Decided load (history load N sets calls) a s (move load N (history load N sets calls) a s)
+moved-in-history load N sets calls a s = moved-exactly-acyclic load N (history load N sets calls) a s (history-length load N sets calls)

@@ -1,0 +1,4 @@
+-- One file for each demand, and what the demands speak of. Assumes nothing.
+pub mod History
+pub mod Demand2
+pub mod Demand3

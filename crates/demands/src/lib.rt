@@ -1,0 +1,1 @@
+// What the demands say, as theorems: no code.
