@@ -1,2 +1,5 @@
 -- The definitions that the contracts of `placement` cite. Assumes nothing.
 pub mod Compare
+pub mod Written
+pub mod Slots
+pub mod Steps

@@ -1,5 +1,9 @@
+// From the node of each atom to the edge slots of the chunk graph, and comparisons of lists; all over lent lists.
 mod compare;
+mod slots;
 
 pub use compare::all_below;
 pub use compare::none_above;
 pub use compare::same_numbers;
+pub use slots::tally;
+pub use slots::write_slots;
