@@ -1,0 +1,3 @@
+-- The laws that the proofs of `load_checks` cite. Assumes nothing.
+pub mod Spans
+pub mod Rows
