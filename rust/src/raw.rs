@@ -1,0 +1,79 @@
+//! The C interface as it stands: lent areas, pointers and lengths. `include/nidskalm.h` says the same for C.
+//!
+//! A call writes only into its `*mut` lists. It reads `length` numbers at each pointer, so each pair must describe
+//! valid memory; nothing else is asked. Any numbers whatsoever get an answer or a refusal, and a refusal writes nothing.
+
+/// A refusal's row (0: not refused) and a value (0 where refused).
+#[repr(C)]
+#[derive(Clone, Copy, Debug, Default, PartialEq, Eq)]
+pub struct Reply {
+    pub refusal: u64,
+    pub value: u64,
+}
+
+/// A refusal's row and a set, bit 0 lowest in `set0`.
+#[repr(C)]
+#[derive(Clone, Copy, Debug, Default, PartialEq, Eq)]
+pub struct SetReply {
+    pub refusal: u64,
+    pub set0: u64,
+    pub set1: u64,
+    pub set2: u64,
+    pub set3: u64,
+}
+
+/// A refusal's row and an edge; `found` is 0 past the last edge.
+#[repr(C)]
+#[derive(Clone, Copy, Debug, Default, PartialEq, Eq)]
+pub struct EdgeReply {
+    pub refusal: u64,
+    pub found: u64,
+    pub from0: u64,
+    pub from1: u64,
+    pub from2: u64,
+    pub from3: u64,
+    pub to0: u64,
+    pub to1: u64,
+    pub to2: u64,
+    pub to3: u64,
+    pub multiplicity: u64,
+}
+
+#[rustfmt::skip]
+unsafe extern "C" {
+    /// Loads a move graph; value 0 acyclic, 1 cyclic.
+    pub fn reduced_chunk_graph_new(a: u64, d: u64, e: u64, n: u64, starts: *const u32, starts_length: usize, dependencies: *const u32, dependencies_length: usize, hosts: *const u32, hosts_length: usize, sets: *const u64, sets_length: usize, area: *mut u32, area_length: usize) -> Reply;
+    /// Tries a move; value 1 accepted, 0 rejected.
+    pub fn reduced_chunk_graph_try_move(a: u64, d: u64, e: u64, n: u64, starts: *const u32, starts_length: usize, dependencies: *const u32, dependencies_length: usize, hosts: *const u32, hosts_length: usize, area: *mut u32, area_length: usize, atom: u32, bits: *const u64, bits_length: usize) -> Reply;
+    /// An atom's set.
+    pub fn reduced_chunk_graph_atom_set(a: u64, d: u64, e: u64, n: u64, starts: *const u32, starts_length: usize, dependencies: *const u32, dependencies_length: usize, hosts: *const u32, hosts_length: usize, area: *const u32, area_length: usize, atom: u32) -> SetReply;
+    /// The number of atoms in a set.
+    pub fn reduced_chunk_graph_atom_count(a: u64, d: u64, e: u64, n: u64, starts: *const u32, starts_length: usize, dependencies: *const u32, dependencies_length: usize, hosts: *const u32, hosts_length: usize, area: *const u32, area_length: usize, bits: *const u64, bits_length: usize) -> Reply;
+    /// An edge's multiplicity.
+    pub fn reduced_chunk_graph_multiplicity(a: u64, d: u64, e: u64, n: u64, starts: *const u32, starts_length: usize, dependencies: *const u32, dependencies_length: usize, hosts: *const u32, hosts_length: usize, area: *const u32, area_length: usize, from: *const u64, from_length: usize, to: *const u64, to_length: usize) -> Reply;
+    /// The number of distinct edges.
+    pub fn reduced_chunk_graph_edge_count(a: u64, d: u64, e: u64, n: u64, starts: *const u32, starts_length: usize, dependencies: *const u32, dependencies_length: usize, hosts: *const u32, hosts_length: usize, area: *const u32, area_length: usize) -> Reply;
+    /// The k-th edge, from 0, by rising source set, then target set.
+    pub fn reduced_chunk_graph_edge_at(a: u64, d: u64, e: u64, n: u64, starts: *const u32, starts_length: usize, dependencies: *const u32, dependencies_length: usize, hosts: *const u32, hosts_length: usize, area: *const u32, area_length: usize, k: u64) -> EdgeReply;
+
+    /// Loads a merge graph.
+    pub fn chunk_optimization_graph_new(c: u64, m: u64, l: u64, e: u64, initial: u64, module_starts: *const u32, module_starts_length: usize, modules: *const u32, modules_length: usize, sets: *const u64, sets_length: usize, set_chunks: *const u32, set_chunks_length: usize, side_effects: *const u32, side_effects_length: usize, area: *mut u32, area_length: usize) -> Reply;
+    /// Appends a module to the chunk of a set, or to a new chunk that needs creation.
+    pub fn chunk_optimization_graph_init_module_assignment(c: u64, m: u64, l: u64, e: u64, area: *mut u32, area_length: usize, module: u32, bits: *const u64, bits_length: usize, side_effects: *const u32, side_effects_length: usize) -> Reply;
+    /// Appends a module to a chunk.
+    pub fn chunk_optimization_graph_add_module_to_chunk(c: u64, m: u64, l: u64, e: u64, area: *mut u32, area_length: usize, module: u32, chunk: u32, side_effects: *const u32, side_effects_length: usize) -> Reply;
+    /// Registers a chunk under a key.
+    pub fn chunk_optimization_graph_register_chunk_graph_index(c: u64, m: u64, l: u64, e: u64, area: *mut u32, area_length: usize, key: u32, chunk: u32) -> Reply;
+    /// The chunk registered under a key, or 4294967295.
+    pub fn chunk_optimization_graph_to_temp_idx(c: u64, m: u64, l: u64, e: u64, area: *const u32, area_length: usize, key: u32) -> Reply;
+    /// Adds the chunk dependencies that module dependencies give.
+    pub fn chunk_optimization_graph_calc_chunk_dependencies(c: u64, m: u64, l: u64, e: u64, area: *mut u32, area_length: usize, starts: *const u32, starts_length: usize, dependencies: *const u32, dependencies_length: usize) -> Reply;
+    /// Value 1: merging source into target is warned of.
+    pub fn chunk_optimization_graph_would_create_circular_dependency(c: u64, m: u64, l: u64, e: u64, area: *const u32, area_length: usize, source: u32, target: u32) -> Reply;
+    /// Value 1: `from` reaches `to` in one step or more.
+    pub fn chunk_optimization_graph_is_reachable(c: u64, m: u64, l: u64, e: u64, area: *const u32, area_length: usize, from: u32, to: u32) -> Reply;
+    /// Merges the dependencies of source into target.
+    pub fn chunk_optimization_graph_merge_chunk_dependencies(c: u64, m: u64, l: u64, e: u64, area: *mut u32, area_length: usize, target: u32, source: u32) -> Reply;
+    /// The pass; value is the number of candidates, one entry each in the four lists.
+    pub fn chunk_optimization_graph_pass(c: u64, m: u64, l: u64, e: u64, area: *mut u32, area_length: usize, proposals: *const u32, proposals_length: usize, bars: *const u32, bars_length: usize, kinds: *mut u32, kinds_length: usize, numbers: *mut u32, numbers_length: usize) -> Reply;
+}

@@ -1,0 +1,76 @@
+//! Finds the original's files, checks that they are the ones meant, and cuts out the merge graph.
+use std::env;
+use std::fs;
+use std::path::{Path, PathBuf};
+
+/// First and last line, from 1, of the two structs and nine methods in chunk_optimizer.rs.
+const FIRST: usize = 52;
+const LAST: usize = 295;
+/// FNV-1a of the whole reduced_chunk_graph.rs and of the lines cut out of chunk_optimizer.rs.
+const REDUCED_SUM: u64 = 0x2b4f_3e22_ff31_9818;
+const MERGE_SUM: u64 = 0xe660_6ccc_8431_c66b;
+
+const METHODS: [&str; 9] = [
+    "new",
+    "init_module_assignment",
+    "add_module_to_chunk",
+    "register_chunk_graph_index",
+    "to_temp_idx",
+    "calc_chunk_dependencies",
+    "would_create_circular_dependency",
+    "is_reachable",
+    "merge_chunk_dependencies",
+];
+
+fn sum(text: &str) -> u64 {
+    text.bytes().fold(0xcbf2_9ce4_8422_2325, |sum, byte| (sum ^ u64::from(byte)).wrapping_mul(0x100_0000_01b3))
+}
+
+fn read(path: &Path) -> String {
+    println!("cargo:rerun-if-changed={}", path.display());
+    match fs::read_to_string(path) {
+        Ok(text) => text,
+        Err(error) => panic!(
+            "cannot read {}: {error}. Set NIDSKALM_ORIGINAL to the directory that holds the original's src/.",
+            path.display()
+        ),
+    }
+}
+
+fn main() {
+    println!("cargo:rerun-if-env-changed=NIDSKALM_ORIGINAL");
+    println!("cargo:rerun-if-env-changed=NIDSKALM_LIB_DIR");
+    let repository = Path::new(&env::var("CARGO_MANIFEST_DIR").unwrap()).join("../..");
+    let docs = env::var_os("NIDSKALM_ORIGINAL").map_or_else(|| repository.join("../shared/docs/src"), PathBuf::from);
+    let stage = docs.join("src/stages/generate_stage");
+
+    let reduced_path = stage.join("reduced_chunk_graph.rs");
+    let reduced = read(&reduced_path);
+    assert_eq!(sum(&reduced), REDUCED_SUM, "reduced_chunk_graph.rs is not the one of rolldown 1.2.16");
+    let reduced_path = fs::canonicalize(&reduced_path).unwrap();
+    println!("cargo:rustc-env=REDUCED_CHUNK_GRAPH={}", reduced_path.display());
+
+    let optimizer = read(&stage.join("chunk_optimizer.rs"));
+    let lines: Vec<&str> = optimizer.lines().collect();
+    assert!(lines.len() > LAST, "chunk_optimizer.rs is too short");
+    let cut = lines[FIRST - 1..LAST].join("\n");
+    assert_eq!(lines[FIRST - 1], "#[derive(Debug, Default)]", "line {FIRST} of chunk_optimizer.rs");
+    assert_eq!(lines[LAST - 1], "}", "line {LAST} of chunk_optimizer.rs");
+    assert_eq!(lines[LAST], "", "line after {LAST} of chunk_optimizer.rs");
+    let methods: Vec<&str> =
+        cut.lines().filter_map(|line| line.trim().strip_prefix("pub fn ")?.split('(').next()).collect();
+    assert_eq!(methods, METHODS, "the nine methods");
+    assert_eq!(cut.lines().filter(|line| line.contains("struct ")).count(), 2, "the two structs");
+    assert_eq!(sum(&cut), MERGE_SUM, "chunk_optimizer.rs is not the one of rolldown 1.2.16");
+    let out = Path::new(&env::var("OUT_DIR").unwrap()).join("chunk_optimization_graph.rs");
+    fs::write(out, cut).unwrap();
+
+    if env::var_os("CARGO_FEATURE_OURS").is_some() {
+        let library = env::var_os("NIDSKALM_LIB_DIR").map_or_else(|| repository.join("target/staticlib"), PathBuf::from);
+        let archive = library.join("libexports.a");
+        println!("cargo:rerun-if-changed={}", archive.display());
+        assert!(archive.exists(), "{} is missing: build it with `rt staticlib exports`", archive.display());
+        println!("cargo:rustc-link-search=native={}", fs::canonicalize(&library).unwrap().display());
+        println!("cargo:rustc-link-lib=static=exports");
+    }
+}

@@ -1,0 +1,15 @@
+//! The original built unchanged, a plain model of document 01, and the runs that compare them with the library.
+pub mod layout;
+pub mod library;
+pub mod merges_cases;
+pub mod merges_model;
+pub mod moves_cases;
+pub mod moves_model;
+pub mod original;
+#[path = "../../../rust/src/raw.rs"]
+pub mod raw;
+pub mod run;
+pub mod sets;
+#[doc(hidden)]
+pub mod stand_ins;
+pub mod stand_in_library;

@@ -1,0 +1,574 @@
+//! Merge graph cases: what is run, compared, shrunk, and made up at random.
+use crate::layout::MergeLayout;
+use crate::library::{Library, MergeLoad, Reply};
+use crate::merges_model::{self, MergeCall, MergeState, NONE, Size, Verdict, size_refusal};
+use crate::original::OriginalMerges;
+use crate::run::{Case, Counts, Random, same_area, shorter};
+use crate::sets::width;
+
+/// A pass whose lists are made as long as there are candidates.
+pub const FITTED: usize = usize::MAX;
+
+/// What is wrong with what one call is lent.
+#[derive(Clone, Debug)]
+pub enum Damage {
+    No,
+    Size(Size),
+    ShortArea,
+    Cell { cell: usize, value: u32 },
+}
+
+#[derive(Clone, Debug)]
+pub struct MergeCase {
+    pub size: Size,
+    pub load: MergeLoad,
+    pub extra: usize,
+    pub short: bool,
+    pub fill: u64,
+    pub calls: Vec<(MergeCall, Damage)>,
+}
+
+/// An answer with the pass's kinds and numbers.
+type Answer = (Reply, Vec<(u32, u32)>);
+
+/// Kinds and numbers as lent, and a reply.
+pub fn library_answer(library: &dyn Library, size: Size, area: &mut [u32], call: &MergeCall) -> Result<Answer, String> {
+    Ok(match call {
+        MergeCall::InitModule { module, bits, side_effects } => {
+            (library.init_module(size, area, *module, bits, side_effects), vec![])
+        }
+        MergeCall::AddModule { module, chunk, side_effects } => {
+            (library.add_module(size, area, *module, *chunk, side_effects), vec![])
+        }
+        MergeCall::Register { key, chunk } => (library.register(size, area, *key, *chunk), vec![]),
+        MergeCall::ToTempIdx { key } => (library.to_temp_idx(size, area, *key), vec![]),
+        MergeCall::Calc { starts, dependencies } => (library.calc(size, area, starts, dependencies), vec![]),
+        MergeCall::Warning { source, target } => (library.warning(size, area, *source, *target), vec![]),
+        MergeCall::IsReachable { from, to } => (library.is_reachable(size, area, *from, *to), vec![]),
+        MergeCall::Merge { target, source } => (library.merge(size, area, *target, *source), vec![]),
+        MergeCall::Pass { proposals, bars, kinds, numbers } => {
+            let fill = |place: usize| 0x5eed_0000 + place as u32;
+            let mut kinds: Vec<u32> = (0..*kinds).map(fill).collect();
+            let mut numbers: Vec<u32> = (0..*numbers).map(fill).collect();
+            let reply = library.pass(size, area, proposals, bars, &mut kinds, &mut numbers);
+            if reply.refusal != 0 {
+                let untouched = |list: &[u32]| list.iter().enumerate().all(|(place, &number)| number == fill(place));
+                if !untouched(&kinds) || !untouched(&numbers) {
+                    return Err(format!("refused {} and wrote an answer list", reply.refusal));
+                }
+                return Ok((reply, vec![]));
+            }
+            (reply, kinds.into_iter().zip(numbers).collect())
+        }
+    })
+}
+
+/// The same call with a fitted pass's lists written out.
+pub fn fitted(call: &MergeCall, state: &MergeState) -> MergeCall {
+    match call {
+        MergeCall::Pass { proposals, bars, kinds: FITTED, .. } => {
+            let count = state.candidates().len();
+            let cycle = |list: &[u32], none: u32| -> Vec<u32> {
+                (0..count).map(|place| if list.is_empty() { none } else { list[place % list.len()] }).collect()
+            };
+            MergeCall::Pass { proposals: cycle(proposals, NONE), bars: cycle(bars, 0), kinds: count, numbers: count }
+        }
+        other => other.clone(),
+    }
+}
+
+/// Rows 14, 15, 21 and the rest on an area.
+fn model_on_area(size: Size, area: &[u32], call: &MergeCall) -> (Answer, Option<MergeState>, bool) {
+    let row = size_refusal(size, area.len(), call);
+    if row != 0 {
+        return ((Reply::refused(row), vec![]), None, false);
+    }
+    match MergeState::decode(size, area) {
+        Verdict::Inconsistent => ((Reply::refused(21), vec![]), None, false),
+        Verdict::Unsettled => ((Reply::default(), vec![]), None, true),
+        Verdict::Consistent(mut state) => {
+            let answer = state.call(size, call);
+            (answer, Some(state), false)
+        }
+    }
+}
+
+/// Compares an area after an unrefused call with the state, and its free cells with those before.
+fn same_state(size: Size, state: &MergeState, area: &[u32], before: &[u32]) -> Result<(), String> {
+    match MergeState::decode(size, area) {
+        Verdict::Consistent(other) if other == *state => {}
+        Verdict::Consistent(other) => return Err(format!("area holds {other:?}, expected {state:?}")),
+        verdict => return Err(format!("area is {verdict:?}, expected {state:?}")),
+    }
+    match state.free_cells(size, area.len()).into_iter().find(|&cell| area[cell] != before[cell]) {
+        None => Ok(()),
+        Some(cell) => Err(format!("free cell {cell} was written: {}, before {}", area[cell], before[cell])),
+    }
+}
+
+fn original_of(size: Size, load: &MergeLoad) -> OriginalMerges {
+    let w = width(size.e) as usize;
+    let part = |place: usize| load.module_starts[place] as usize..load.module_starts[place + 1] as usize;
+    let modules: Vec<Vec<u32>> = (0..load.initial as usize).map(|place| load.modules[part(place)].to_vec()).collect();
+    let pairs: Vec<(Vec<u64>, u32)> = (load.set_chunks.iter().enumerate())
+        .map(|(pair, &chunk)| (load.sets[pair * w..(pair + 1) * w].to_vec(), chunk))
+        .collect();
+    OriginalMerges::new(size.c as u32, &modules, &pairs, &load.side_effects)
+}
+
+/// The original's answer to a call that isn't refused.
+fn original_answer(original: &mut OriginalMerges, call: &MergeCall) -> Answer {
+    let mut value = 0;
+    match call {
+        MergeCall::InitModule { module, bits, side_effects } => {
+            original.init_module_assignment(*module, bits, side_effects);
+        }
+        MergeCall::AddModule { module, chunk, side_effects } => {
+            original.add_module_to_chunk(*module, *chunk, side_effects);
+        }
+        MergeCall::Register { key, chunk } => original.register_chunk_graph_index(*key, *chunk),
+        MergeCall::ToTempIdx { key } => value = original.to_temp_idx(*key).unwrap_or(NONE).into(),
+        MergeCall::Calc { starts, dependencies } => {
+            let lists: Vec<Vec<u32>> = (starts.windows(2))
+                .map(|pair| dependencies[pair[0] as usize..pair[1] as usize].to_vec())
+                .collect();
+            original.calc_chunk_dependencies(&lists);
+        }
+        MergeCall::Warning { source, target } => {
+            value = original.would_create_circular_dependency(*source, *target).into();
+        }
+        MergeCall::IsReachable { from, to } => value = original.is_reachable(*from, *to).into(),
+        MergeCall::Merge { target, source } => original.merge_chunk_dependencies(*target, *source),
+        MergeCall::Pass { proposals, bars, .. } => {
+            let proposals: Vec<Option<u32>> =
+                proposals.iter().map(|&chunk| (chunk != NONE).then_some(chunk)).collect();
+            let answers = original.pass(&proposals, bars);
+            return (Reply::value(answers.len() as u64), answers);
+        }
+    }
+    (Reply::value(value), vec![])
+}
+
+fn same<T: PartialEq + std::fmt::Debug>(what: &str, one: &T, expected: &T) -> Result<(), String> {
+    if one == expected { Ok(()) } else { Err(format!("{what}: {one:?}, expected {expected:?}")) }
+}
+
+impl MergeCase {
+    fn fresh_area(&self) -> Vec<u32> {
+        let size = self.size;
+        let far = size.c > 1024 || size.m > 4096 || size.l > 8192;
+        let length = if far { 64 } else { size.layout().length() };
+        let length = if self.short { length - 1 } else { length + self.extra };
+        let mut random = Random(self.fill);
+        (0..length).map(|_| random.next() as u32).collect()
+    }
+
+    fn check_damaged(
+        &self,
+        library: &dyn Library,
+        area: &[u32],
+        call: &MergeCall,
+        damage: &Damage,
+        counts: &mut Counts,
+    ) -> Result<(), String> {
+        let mut size = self.size;
+        let mut ours = area.to_vec();
+        match damage {
+            Damage::No => unreachable!(),
+            Damage::Size(other) => size = *other,
+            Damage::ShortArea => ours.truncate(size.layout().length() - 1),
+            Damage::Cell { cell, value } => ours[*cell] = *value,
+        }
+        let before = ours.clone();
+        let (expected, state, unsettled) = model_on_area(size, &ours, call);
+        let answer = library_answer(library, size, &mut ours, call)?;
+        if unsettled {
+            counts.damaged_unsettled += 1;
+            if answer.0.refusal != 0 {
+                same_area("unsettled area, refused", &ours, &before)?;
+            }
+            return Ok(());
+        }
+        if let Damage::Cell { .. } = damage {
+            if expected.0.refusal == 21 { counts.damaged_refused += 1 } else { counts.damaged_consistent += 1 }
+        }
+        counts.refused(expected.0.refusal);
+        same("damaged call", &answer, &expected)?;
+        match state {
+            Some(state) if expected.0.refusal == 0 => same_state(size, &state, &ours, &before),
+            _ => same_area("damaged call", &ours, &before),
+        }
+    }
+}
+
+impl Case for MergeCase {
+    fn check(&self, library: Option<&dyn Library>, counts: &mut Counts) -> Result<(), String> {
+        counts.cases += 1;
+        counts.calls += 1;
+        let size = self.size;
+        let mut area = self.fresh_area();
+        let loaded = merges_model::new(size, &self.load, area.len());
+        let row = loaded.as_ref().err().copied().unwrap_or(0);
+        counts.refused(row);
+        if let Some(library) = library {
+            let before = area.clone();
+            same("loading", &library.merge_new(size, &self.load, &mut area), &Reply::refused(row))?;
+            match &loaded {
+                Err(_) => same_area("loading", &area, &before)?,
+                Ok(state) => same_state(size, state, &area, &before).map_err(|why| format!("loading: {why}"))?,
+            }
+        }
+        let Ok(mut state) = loaded else { return Ok(()) };
+        let mut original = original_of(size, &self.load);
+        same("original's state at loading against the model", &original.view(), &state.view())?;
+        for (place, (call, damage)) in self.calls.iter().enumerate() {
+            counts.calls += 1;
+            let at = |why: String| format!("call {place}: {why}");
+            let call = &fitted(call, &state);
+            if !matches!(damage, Damage::No) {
+                if let Some(library) = library {
+                    self.check_damaged(library, &area, call, damage, counts).map_err(at)?;
+                }
+                continue;
+            }
+            let row = size_refusal(size, usize::MAX, call);
+            let answer = if row != 0 { (Reply::refused(row), vec![]) } else { state.call(size, call) };
+            counts.refused(answer.0.refusal);
+            if answer.0.refusal == 0 {
+                let theirs = original_answer(&mut original, call);
+                same(&format!("call {place}: original against the model"), &theirs, &answer)?;
+                same(&format!("call {place}: original's state against the model"), &original.view(), &state.view())?;
+                if let MergeCall::Warning { .. } = call {
+                    if answer.0.value == 1 { counts.warned += 1 } else { counts.unwarned += 1 }
+                }
+                counts.merged += answer.1.iter().filter(|(kind, _)| *kind == 0).count() as u64;
+                counts.created += answer.1.iter().filter(|(kind, _)| *kind == 1).count() as u64;
+            }
+            if let Some(library) = library {
+                let before = area.clone();
+                same("answer", &library_answer(library, size, &mut area, call).map_err(at)?, &answer).map_err(at)?;
+                if answer.0.refusal != 0 {
+                    same_area("refused", &area, &before).map_err(at)?;
+                } else {
+                    same_state(size, &state, &area, &before).map_err(at)?;
+                }
+            }
+        }
+        Ok(())
+    }
+
+    fn smaller(&self) -> Vec<Self> {
+        let mut cases: Vec<Self> =
+            shorter(&self.calls).into_iter().map(|calls| Self { calls, ..self.clone() }).collect();
+        for (place, (call, damage)) in self.calls.iter().enumerate() {
+            if let MergeCall::Calc { starts, dependencies } = call {
+                for entry in (0..dependencies.len()).rev() {
+                    let (mut starts, mut dependencies) = (starts.clone(), dependencies.clone());
+                    dependencies.remove(entry);
+                    starts.iter_mut().filter(|start| **start as usize > entry).for_each(|start| *start -= 1);
+                    let mut case = self.clone();
+                    case.calls[place] = (MergeCall::Calc { starts, dependencies }, damage.clone());
+                    cases.push(case);
+                }
+            }
+        }
+        if self.extra > 0 {
+            cases.push(Self { extra: 0, ..self.clone() });
+        }
+        if self.load.module_starts.len() as u64 == self.load.initial + 1 {
+            for entry in (0..self.load.modules.len()).rev() {
+                let mut case = self.clone();
+                case.load.modules.remove(entry);
+                let starts = case.load.module_starts.iter_mut();
+                starts.filter(|start| **start as usize > entry).for_each(|start| *start -= 1);
+                cases.push(case);
+            }
+        }
+        let w = width(self.size.e) as usize;
+        if self.load.sets.len() == w * self.load.set_chunks.len() {
+            for pair in (0..self.load.set_chunks.len()).rev() {
+                let mut case = self.clone();
+                case.load.set_chunks.remove(pair);
+                case.load.sets.drain(pair * w..(pair + 1) * w);
+                cases.push(case);
+            }
+        }
+        cases
+    }
+}
+
+/// Sizes of a made-up case.
+#[derive(Clone, Copy, Debug)]
+pub struct Shape {
+    pub size: Size,
+    pub initial: u64,
+    pub pairs: u64,
+    pub calls: usize,
+}
+
+fn random_set(random: &mut Random, e: u64, pool: u64) -> Vec<u64> {
+    let mut words = vec![0; width(e) as usize];
+    if e == 0 {
+        return words;
+    }
+    // A small pool, spread over all words, so that sets meet again.
+    let number = random.below(pool);
+    for bit in 0..20 {
+        if number >> bit & 1 == 1 {
+            let place = if bit % 2 == 0 { bit / 2 % e } else { e - 1 - bit / 2 % e };
+            words[place as usize / 64] |= 1 << (place % 64);
+        }
+    }
+    words
+}
+
+fn random_lists(random: &mut Random, lists: u64, entries: u64, below: u64) -> (Vec<u32>, Vec<u32>) {
+    let mut ends: Vec<u32> = (1..lists).map(|_| random.below(entries + 1) as u32).collect();
+    ends.sort_unstable();
+    let mut starts = vec![0];
+    starts.extend(ends);
+    if lists > 0 {
+        starts.push(entries as u32);
+    }
+    let entries = if lists == 0 { 0 } else { entries };
+    (starts, (0..entries).map(|_| random.below(below) as u32).collect())
+}
+
+fn random_effects(random: &mut Random, m: u64) -> Vec<u32> {
+    (0..m).map(|_| if random.chance(20) { random.odd_number() } else { 0 }).collect()
+}
+
+fn random_call(random: &mut Random, shape: Shape, state: &MergeState, wrong: u64) -> MergeCall {
+    let size = shape.size;
+    let made = u64::from(state.made());
+    let chunk = |random: &mut Random| {
+        if random.chance(wrong) { made as u32 + random.below(3) as u32 } else { random.below(made) as u32 }
+    };
+    let module = |random: &mut Random| {
+        if random.chance(wrong) { size.m as u32 + random.below(2) as u32 } else { random.below(size.m) as u32 }
+    };
+    let effects = |random: &mut Random| {
+        let mut list = random_effects(random, size.m);
+        if random.chance(wrong / 2) {
+            list.push(0);
+        }
+        list
+    };
+    match random.below(24) {
+        0..7 => {
+            let mut bits = random_set(random, size.e, 4 * size.c);
+            if random.chance(wrong) {
+                if random.chance(50) || size.e % 64 == 0 {
+                    bits.push(0);
+                } else {
+                    *bits.last_mut().unwrap() |= 1 << (size.e % 64);
+                }
+            }
+            MergeCall::InitModule { module: module(random), bits, side_effects: effects(random) }
+        }
+        7..9 => MergeCall::AddModule { module: module(random), chunk: chunk(random), side_effects: effects(random) },
+        9 => {
+            let keys = size.c + u64::from(random.chance(wrong));
+            MergeCall::Register { key: random.below(keys) as u32, chunk: chunk(random) }
+        }
+        10 => MergeCall::ToTempIdx { key: random.pick(&[size.c as u32 - 1, size.c as u32, u32::MAX, 0]) },
+        11 => MergeCall::ToTempIdx { key: random.below(size.c) as u32 },
+        12..14 => {
+            let entries = if size.m == 0 { 0 } else { random.below(2 * size.m + 2).min(8192) };
+            let below = size.m + u64::from(random.chance(wrong));
+            let (mut starts, dependencies) = random_lists(random, size.m, entries, below);
+            if random.chance(wrong) {
+                let place = random.index(starts.len());
+                starts[place] = random.odd_number();
+            }
+            MergeCall::Calc { starts, dependencies }
+        }
+        14..17 => MergeCall::Warning { source: chunk(random), target: chunk(random) },
+        17..19 => MergeCall::IsReachable { from: chunk(random), to: chunk(random) },
+        19..22 => MergeCall::Merge { target: chunk(random), source: chunk(random) },
+        _ => {
+            let count = state.candidates().len();
+            let named = u64::from(state.initial) + u64::from(random.chance(wrong));
+            let proposals = (0..count.max(1))
+                .map(|_| if named == 0 || random.chance(30) { NONE } else { random.below(named) as u32 })
+                .collect();
+            let bars = (0..count.max(1)).map(|_| if random.chance(15) { random.odd_number() } else { 0 }).collect();
+            let kinds = if random.chance(wrong) { count + 1 } else { FITTED };
+            MergeCall::Pass { proposals, bars, kinds, numbers: if kinds == FITTED { FITTED } else { count } }
+        }
+    }
+}
+
+fn damaged_size(random: &mut Random, mut size: Size) -> Size {
+    let odd = |random: &mut Random, number: u64| match random.below(3) {
+        0 => number + 1,
+        1 => number.saturating_sub(1),
+        _ => random.pick(&[0, 257, 1025, 4097, 8193, u64::MAX, 1 << 32, 1 << 63]),
+    };
+    match random.below(4) {
+        0 => size.c = odd(random, size.c),
+        1 => size.m = odd(random, size.m),
+        2 => size.l = odd(random, size.l),
+        _ => size.e = odd(random, size.e),
+    }
+    size
+}
+
+fn damaged_cell(random: &mut Random, size: Size, state: &MergeState, extra: usize) -> Damage {
+    let at = size.layout();
+    let chunk = random.index(at.c);
+    let cell = match random.below(12) {
+        0 => at.dependency(chunk, random.index(at.c)),
+        1 => at.dependency(chunk, chunk),
+        2..4 => at.header(random.index(5)),
+        4 => at.set_word(random.index(9), random.index(2 * at.c)),
+        5 if !state.sets.is_empty() => at.set_word(random.index(9), random.index(state.sets.len())),
+        6 => at.chunk_lane(MergeLayout::NEEDS_CREATION, chunk),
+        7 => at.chunk_lane(MergeLayout::KEY, chunk),
+        8 if at.m > 0 => at.module_lane(MergeLayout::MODULE_CHUNK, random.index(at.m)),
+        9 if at.l > 0 => at.entry_lane(random.index(2), random.index(at.l)),
+        10 if !state.entries.is_empty() => at.entry_lane(random.index(2), random.index(state.entries.len())),
+        _ => random.index(at.length() + extra),
+    };
+    let value = if random.chance(70) { random.below(size.c.max(size.m) + 2) as u32 } else { random.odd_number() };
+    Damage::Cell { cell, value }
+}
+
+pub fn random_load(random: &mut Random, shape: Shape) -> MergeLoad {
+    let size = shape.size;
+    let listed = if size.m == 0 || shape.initial == 0 { 0 } else { random.below((size.l / 2).min(2 * size.m) + 1) };
+    let (module_starts, modules) = random_lists(random, shape.initial, listed, size.m);
+    let mut sets: Vec<Vec<u64>> = vec![];
+    for _ in 0..shape.pairs.min(if shape.initial == 0 { 0 } else { shape.pairs }) {
+        let set = random_set(random, size.e, 4 * size.c);
+        if !sets.contains(&set) {
+            sets.push(set);
+        }
+    }
+    MergeLoad {
+        initial: shape.initial,
+        module_starts,
+        modules,
+        set_chunks: sets.iter().map(|_| random.below(shape.initial) as u32).collect(),
+        sets: sets.concat(),
+        side_effects: random_effects(random, size.m),
+    }
+}
+
+/// A made-up case; `damage` is the percent of calls with something wrong.
+pub fn random_case(random: &mut Random, shape: Shape, damage: u64) -> MergeCase {
+    let load = random_load(random, shape);
+    let size = shape.size;
+    let extra = random.pick(&[0, 0, 1, 7]);
+    let mut case = MergeCase { size, load, extra, short: false, fill: random.next(), calls: vec![] };
+    let Ok(mut state) = merges_model::new(size, &case.load, usize::MAX) else { return case };
+    for _ in 0..shape.calls {
+        let call = random_call(random, shape, &state, damage / 2);
+        let kind = if !random.chance(damage) {
+            Damage::No
+        } else {
+            match random.below(6) {
+                0 => Damage::Size(damaged_size(random, size)),
+                1 => Damage::ShortArea,
+                _ => damaged_cell(random, size, &state, extra),
+            }
+        };
+        if matches!(kind, Damage::No) {
+            let call = fitted(&call, &state);
+            if size_refusal(size, usize::MAX, &call) == 0 {
+                state.call(size, &call);
+            }
+        }
+        case.calls.push((call, kind));
+    }
+    case
+}
+
+/// A loading with one thing wrong.
+pub fn refused_loading(random: &mut Random, shape: Shape) -> MergeCase {
+    let mut case = random_case(random, Shape { calls: 1, ..shape }, 0);
+    let w = width(case.size.e) as usize;
+    match random.below(12) {
+        0 => case.short = true,
+        1 => case.size = damaged_size(random, case.size),
+        2 => case.load.initial += random.pick(&[1, 1024, u64::MAX - case.load.initial]),
+        3 => case.load.module_starts.push(0),
+        4 => {
+            let place = random.index(case.load.module_starts.len());
+            case.load.module_starts[place] = random.odd_number();
+        }
+        5 if !case.load.modules.is_empty() => {
+            let place = random.index(case.load.modules.len());
+            case.load.modules[place] = case.size.m as u32 + random.below(2) as u32;
+        }
+        6 => case.load.sets.push(0),
+        7 if case.load.set_chunks.len() > 1 => {
+            let (one, other) = (random.index(case.load.set_chunks.len()), random.index(case.load.set_chunks.len()));
+            case.load.sets.copy_within(one * w..(one + 1) * w, other * w);
+        }
+        8 if !case.load.set_chunks.is_empty() => {
+            let place = random.index(case.load.set_chunks.len());
+            case.load.set_chunks[place] = case.load.initial as u32;
+        }
+        9 => case.load.side_effects.push(1),
+        10 if case.load.initial > 0 && case.size.m > 0 => {
+            // One module more than L.
+            case.load.modules = vec![0; case.size.l as usize + 1];
+            case.load.module_starts = vec![0; case.load.initial as usize + 1];
+            *case.load.module_starts.last_mut().unwrap() = case.size.l as u32 + 1;
+        }
+        _ => {
+            // One set more than C.
+            case.load.set_chunks = vec![0; case.size.c as usize + 1];
+            case.load.sets = vec![0; w * (case.size.c as usize + 1)];
+        }
+    }
+    case
+}
+
+/// Two initial chunks, two that need creation, every dependency among the four: all warnings and walks, a pass.
+pub fn every_small_graph(each: &mut dyn FnMut(MergeCase)) {
+    let size = Size { c: 6, m: 4, l: 4, e: 2 };
+    let load = MergeLoad {
+        initial: 2,
+        module_starts: vec![0, 1, 2],
+        modules: vec![0, 1],
+        sets: vec![1, 2],
+        set_chunks: vec![0, 1],
+        side_effects: vec![0, 1, 0, 1],
+    };
+    for graph in 0..1_u32 << 12 {
+        let mut calls = vec![];
+        for (module, set) in [(2, 3), (3, 0)] {
+            calls.push(MergeCall::InitModule { module, bits: vec![set], side_effects: load.side_effects.clone() });
+        }
+        let mut starts = vec![0];
+        let mut dependencies = vec![];
+        for from in 0..4 {
+            for (place, to) in (0..4).filter(|&to| to != from).enumerate() {
+                if graph >> (3 * from as usize + place) & 1 == 1 {
+                    dependencies.push(to);
+                }
+            }
+            starts.push(dependencies.len() as u32);
+        }
+        calls.push(MergeCall::Calc { starts, dependencies });
+        for one in 0..4 {
+            for other in 0..4 {
+                calls.push(MergeCall::Warning { source: one, target: other });
+                calls.push(MergeCall::IsReachable { from: one, to: other });
+            }
+        }
+        let choice = |number: u32| [0, 1, NONE][number as usize % 3];
+        for number in 0..3 {
+            let pass = graph + 1000 * number;
+            let proposals = vec![choice(pass), choice(pass / 3)];
+            let bars = vec![u32::from(pass % 7 == 6), u32::from(pass % 11 == 10)];
+            let pass = MergeCall::Pass { proposals, bars, kinds: FITTED, numbers: FITTED };
+            let merge = MergeCall::Merge { target: number % 4, source: (number + 1 + graph % 3) % 4 };
+            let calls = calls.iter().cloned().chain([merge, pass.clone(), pass]);
+            let calls = calls.map(|call| (call, Damage::No)).collect();
+            each(MergeCase { size, load: load.clone(), extra: 2, short: false, fill: graph.into(), calls });
+        }
+    }
+}

@@ -1,0 +1,438 @@
+//! The merge graph by document 01, worked out plainly.
+use std::collections::BTreeSet;
+
+use crate::layout::MergeLayout;
+use crate::library::{MergeLoad, Reply};
+use crate::original::MergeView;
+use crate::sets::{Set, lent_set, width};
+
+pub const NONE: u32 = u32::MAX;
+
+/// C, M, L and E.
+#[derive(Clone, Copy, Debug, PartialEq, Eq)]
+pub struct Size {
+    pub c: u64,
+    pub m: u64,
+    pub l: u64,
+    pub e: u64,
+}
+
+impl Size {
+    pub fn layout(self) -> MergeLayout {
+        MergeLayout { c: self.c as usize, m: self.m as usize, l: self.l as usize }
+    }
+
+    /// Row 14 as far as the sizes go.
+    fn over(self) -> bool {
+        self.c == 0 || self.c > 1024 || self.m > 4096 || self.l > 8192 || self.e > 256
+    }
+}
+
+/// Row 4's condition on starts.
+fn faulty(starts: &[u32], end: usize) -> bool {
+    starts[0] != 0 || starts.windows(2).any(|pair| pair[0] > pair[1]) || starts[starts.len() - 1] as usize != end
+}
+
+/// What a merge area holds.
+#[derive(Clone, Debug, PartialEq, Eq)]
+pub struct MergeState {
+    pub initial: u32,
+    pub created: u32,
+    /// By made chunk.
+    pub dependencies: Vec<BTreeSet<u32>>,
+    pub side_effects: Vec<bool>,
+    pub needs_creation: Vec<bool>,
+    /// In the order of naming.
+    pub sets: Vec<(Set, u32)>,
+    /// (chunk, module) in the order of appending.
+    pub entries: Vec<(u32, u32)>,
+    pub module_chunk: Vec<Option<u32>>,
+    /// By key below C.
+    pub registered: Vec<Option<u32>>,
+}
+
+/// What plain recomputation says of an area.
+#[derive(Clone, Debug, PartialEq, Eq)]
+pub enum Verdict {
+    Inconsistent,
+    Consistent(MergeState),
+    /// Document 01 doesn't say: a flag of side effects or need of creation that is neither 0 nor 1, or set for a
+    /// chunk not yet made.
+    Unsettled,
+}
+
+impl MergeState {
+    pub fn made(&self) -> u32 {
+        self.dependencies.len() as u32
+    }
+
+    pub fn candidates(&self) -> Vec<u32> {
+        (0..self.made()).filter(|&chunk| self.needs_creation[chunk as usize]).collect()
+    }
+
+    pub fn view(&self) -> MergeView {
+        let mut sets = self.sets.clone();
+        sets.sort_unstable();
+        MergeView {
+            dependencies: self.dependencies.iter().map(|set| set.iter().copied().collect()).collect(),
+            side_effects: self.side_effects.clone(),
+            needs_creation: self.needs_creation.clone(),
+            modules: (0..self.made())
+                .map(|chunk| self.entries.iter().filter_map(|&(at, module)| (at == chunk).then_some(module)).collect())
+                .collect(),
+            sets,
+            module_chunk: self.module_chunk.clone(),
+            registered: self.registered.clone(),
+        }
+    }
+
+    fn append(&mut self, chunk: u32, module: u32, side_effects: &[u32]) {
+        self.entries.push((chunk, module));
+        self.side_effects[chunk as usize] |= side_effects[module as usize] != 0;
+        self.module_chunk[module as usize] = Some(chunk);
+    }
+
+    fn new_chunk(&mut self, needs_creation: bool) -> u32 {
+        self.dependencies.push(BTreeSet::new());
+        self.side_effects.push(false);
+        self.needs_creation.push(needs_creation);
+        self.made() - 1
+    }
+
+    /// Chunks in `from`, and all that they lead to.
+    fn closed(&self, from: &BTreeSet<u32>) -> BTreeSet<u32> {
+        let mut members = from.clone();
+        loop {
+            let more: BTreeSet<u32> =
+                members.iter().flat_map(|&chunk| self.dependencies[chunk as usize].iter().copied()).collect();
+            if more.is_subset(&members) {
+                return members;
+            }
+            members.extend(more);
+        }
+    }
+
+    pub fn warning(&self, source: u32, target: u32) -> bool {
+        let union = &self.dependencies[source as usize] | &self.dependencies[target as usize];
+        let members = self.closed(&union);
+        members.contains(&target)
+            || members.iter().any(|&chunk| self.dependencies[chunk as usize].contains(&source))
+    }
+
+    pub fn is_reachable(&self, from: u32, to: u32) -> bool {
+        self.closed(&self.dependencies[from as usize]).contains(&to)
+    }
+
+    pub fn merge(&mut self, target: u32, source: u32) {
+        let from = std::mem::take(&mut self.dependencies[source as usize]);
+        let (target, source) = (target as usize, source as usize);
+        self.dependencies[target].extend(from);
+        self.dependencies[target].remove(&(target as u32));
+        self.side_effects[target] |= self.side_effects[source];
+    }
+
+    /// The state that an area holds, if it is consistent.
+    pub fn decode(size: Size, area: &[u32]) -> Verdict {
+        let at = size.layout();
+        let header = |number| area[at.header(number)];
+        let (initial, made) = (header(MergeLayout::INITIAL), header(MergeLayout::MADE) as usize);
+        let (sets, entries) = (header(MergeLayout::SETS) as usize, header(MergeLayout::ENTRIES) as usize);
+        if initial as usize > made || made > at.c || sets > at.c + made || entries > at.l {
+            return Verdict::Inconsistent;
+        }
+        let below = |chunk: u32| (chunk as usize) < made;
+        let maybe = |chunk: u32| (chunk != NONE).then_some(chunk);
+        let mut dependencies = vec![BTreeSet::new(); made];
+        for from in 0..at.c {
+            for to in 0..at.c {
+                match area[at.dependency(from, to)] {
+                    0 => {}
+                    1 if from < made && to < made && from != to => {
+                        dependencies[from].insert(to as u32);
+                    }
+                    _ => return Verdict::Inconsistent,
+                }
+            }
+        }
+        let lane = |lane, count: usize| (0..count).map(move |chunk| area[at.chunk_lane(lane, chunk)]);
+        let state = Self {
+            initial,
+            created: header(MergeLayout::CREATED),
+            dependencies,
+            side_effects: lane(MergeLayout::SIDE_EFFECTS, made).map(|flag| flag != 0).collect(),
+            needs_creation: lane(MergeLayout::NEEDS_CREATION, made).map(|flag| flag != 0).collect(),
+            sets: (0..sets)
+                .map(|set| {
+                    let halves = std::array::from_fn(|word| area[at.set_word(word, set)]);
+                    (Set::from_halves(halves), area[at.set_word(8, set)])
+                })
+                .collect(),
+            entries: (0..entries)
+                .map(|entry| {
+                    let chunk = area[at.entry_lane(MergeLayout::ENTRY_CHUNK, entry)];
+                    (chunk, area[at.entry_lane(MergeLayout::ENTRY_MODULE, entry)])
+                })
+                .collect(),
+            module_chunk: (0..at.m)
+                .map(|module| maybe(area[at.module_lane(MergeLayout::MODULE_CHUNK, module)]))
+                .collect(),
+            registered: lane(MergeLayout::KEY, at.c).map(maybe).collect(),
+        };
+        let distinct: BTreeSet<Set> = state.sets.iter().map(|&(set, _)| set).collect();
+        let sound = distinct.len() == sets
+            && state.sets.iter().all(|&(set, chunk)| set.below(size.e) && below(chunk))
+            && state.entries.iter().all(|&(chunk, module)| below(chunk) && (module as usize) < at.m)
+            && state.module_chunk.iter().chain(&state.registered).all(|chunk| chunk.is_none_or(below))
+            && !state.needs_creation[..initial as usize].contains(&true);
+        if !sound {
+            return Verdict::Inconsistent;
+        }
+        let odd = |which| {
+            lane(which, at.c).enumerate().any(|(chunk, flag)| flag > 1 || (chunk >= made && flag != 0))
+        };
+        if odd(MergeLayout::SIDE_EFFECTS) || odd(MergeLayout::NEEDS_CREATION) {
+            return Verdict::Unsettled;
+        }
+        Verdict::Consistent(state)
+    }
+
+    /// Lays every field over the area; cells of no field stay.
+    pub fn encode(&self, size: Size, area: &mut [u32]) {
+        let at = size.layout();
+        area[..at.c * at.c].fill(0);
+        for (from, members) in self.dependencies.iter().enumerate() {
+            for &to in members {
+                area[at.dependency(from, to as usize)] = 1;
+            }
+        }
+        area[at.header(MergeLayout::INITIAL)] = self.initial;
+        area[at.header(MergeLayout::MADE)] = self.made();
+        area[at.header(MergeLayout::CREATED)] = self.created;
+        area[at.header(MergeLayout::SETS)] = self.sets.len() as u32;
+        area[at.header(MergeLayout::ENTRIES)] = self.entries.len() as u32;
+        for (place, &(set, chunk)) in self.sets.iter().enumerate() {
+            for (word, half) in set.halves().into_iter().enumerate() {
+                area[at.set_word(word, place)] = half;
+            }
+            area[at.set_word(8, place)] = chunk;
+        }
+        for chunk in 0..at.c {
+            let flag = |flags: &[bool]| u32::from(flags.get(chunk).copied().unwrap_or(false));
+            area[at.chunk_lane(MergeLayout::SIDE_EFFECTS, chunk)] = flag(&self.side_effects);
+            area[at.chunk_lane(MergeLayout::NEEDS_CREATION, chunk)] = flag(&self.needs_creation);
+            area[at.chunk_lane(MergeLayout::KEY, chunk)] = self.registered[chunk].unwrap_or(NONE);
+        }
+        for (module, chunk) in self.module_chunk.iter().enumerate() {
+            area[at.module_lane(MergeLayout::MODULE_CHUNK, module)] = chunk.unwrap_or(NONE);
+        }
+        for (entry, &(chunk, module)) in self.entries.iter().enumerate() {
+            area[at.entry_lane(MergeLayout::ENTRY_CHUNK, entry)] = chunk;
+            area[at.entry_lane(MergeLayout::ENTRY_MODULE, entry)] = module;
+        }
+    }
+
+    /// Cells of no field, and places of sets and entries not in use: no call writes them.
+    pub fn free_cells(&self, size: Size, before: usize) -> Vec<usize> {
+        let at = size.layout();
+        let mut field = vec![false; before];
+        let mut used = |cell: usize| field[cell] = true;
+        (0..at.c * at.c).for_each(&mut used);
+        (0..5).for_each(|number| used(at.header(number)));
+        for place in 0..self.sets.len() {
+            (0..9).for_each(|word| used(at.set_word(word, place)));
+        }
+        for chunk in 0..at.c {
+            used(at.chunk_lane(MergeLayout::SIDE_EFFECTS, chunk));
+            used(at.chunk_lane(MergeLayout::NEEDS_CREATION, chunk));
+            used(at.chunk_lane(MergeLayout::KEY, chunk));
+        }
+        (0..at.m).for_each(|module| used(at.module_lane(MergeLayout::MODULE_CHUNK, module)));
+        for entry in 0..self.entries.len() {
+            used(at.entry_lane(MergeLayout::ENTRY_CHUNK, entry));
+            used(at.entry_lane(MergeLayout::ENTRY_MODULE, entry));
+        }
+        (0..before).filter(|&cell| !field[cell]).collect()
+    }
+}
+
+/// A call on a merge area.
+#[derive(Clone, Debug, PartialEq, Eq)]
+pub enum MergeCall {
+    InitModule { module: u32, bits: Vec<u64>, side_effects: Vec<u32> },
+    AddModule { module: u32, chunk: u32, side_effects: Vec<u32> },
+    Register { key: u32, chunk: u32 },
+    ToTempIdx { key: u32 },
+    Calc { starts: Vec<u32>, dependencies: Vec<u32> },
+    Warning { source: u32, target: u32 },
+    IsReachable { from: u32, to: u32 },
+    Merge { target: u32, source: u32 },
+    Pass { proposals: Vec<u32>, bars: Vec<u32>, kinds: usize, numbers: usize },
+}
+
+/// Loading: the refusal or the state.
+pub fn new(size: Size, load: &MergeLoad, area: usize) -> Result<MergeState, u64> {
+    let pairs = load.set_chunks.len() as u64;
+    if size.over() || load.initial > size.c || pairs > size.c {
+        return Err(14);
+    }
+    let w = width(size.e) as usize;
+    if load.module_starts.len() as u64 != load.initial + 1
+        || faulty(&load.module_starts, load.modules.len())
+        || load.sets.len() != load.set_chunks.len() * w
+        || load.side_effects.len() as u64 != size.m
+        || area < size.layout().length()
+    {
+        return Err(15);
+    }
+    let sets: Vec<Set> =
+        (0..load.set_chunks.len()).map(|pair| Set::from_words(&load.sets[pair * w..(pair + 1) * w])).collect();
+    if load.modules.iter().any(|&module| u64::from(module) >= size.m)
+        || sets.iter().any(|set| !set.below(size.e))
+        || load.set_chunks.iter().any(|&chunk| u64::from(chunk) >= load.initial)
+    {
+        return Err(16);
+    }
+    if sets.iter().collect::<BTreeSet<_>>().len() != sets.len() {
+        return Err(17);
+    }
+    if load.modules.len() as u64 > size.l {
+        return Err(19);
+    }
+    let mut state = MergeState {
+        initial: load.initial as u32,
+        created: 0,
+        dependencies: vec![],
+        side_effects: vec![],
+        needs_creation: vec![],
+        sets: sets.into_iter().zip(load.set_chunks.iter().copied()).collect(),
+        entries: vec![],
+        module_chunk: vec![None; size.m as usize],
+        registered: (0..size.c).map(|key| (key < load.initial).then_some(key as u32)).collect(),
+    };
+    for place in 0..load.initial as usize {
+        let chunk = state.new_chunk(false);
+        for &module in &load.modules[load.module_starts[place] as usize..load.module_starts[place + 1] as usize] {
+            state.append(chunk, module, &load.side_effects);
+        }
+    }
+    Ok(state)
+}
+
+/// Rows 14 and 15 of a later call, but for the pass's own lists.
+pub fn size_refusal(size: Size, area: usize, call: &MergeCall) -> u64 {
+    if size.over() {
+        return 14;
+    }
+    match call {
+        MergeCall::Calc { dependencies, .. } if dependencies.len() > 8192 => return 14,
+        MergeCall::Calc { starts, dependencies } => {
+            if starts.len() as u64 != size.m + 1 || faulty(starts, dependencies.len()) {
+                return 15;
+            }
+        }
+        MergeCall::InitModule { side_effects, .. } | MergeCall::AddModule { side_effects, .. } => {
+            if side_effects.len() as u64 != size.m {
+                return 15;
+            }
+        }
+        _ => {}
+    }
+    if area < size.layout().length() { 15 } else { 0 }
+}
+
+impl MergeState {
+    /// A call after 14, 15 and 21: the answer and the pass's kinds and numbers.
+    pub fn call(&mut self, size: Size, call: &MergeCall) -> (Reply, Vec<(u32, u32)>) {
+        match self.checked(size, call) {
+            Ok((value, lists)) => (Reply::value(value), lists),
+            Err(refusal) => (Reply::refused(refusal), vec![]),
+        }
+    }
+
+    fn checked(&mut self, size: Size, call: &MergeCall) -> Result<(u64, Vec<(u32, u32)>), u64> {
+        let fits = |yes: bool, row: u64| if yes { Err(row) } else { Ok(()) };
+        let no_chunk = |chunk: u32| chunk >= self.made();
+        let no_module = |module: u32| u64::from(module) >= size.m;
+        let full = self.entries.len() as u64 >= size.l;
+        let mut value = 0;
+        match call {
+            MergeCall::InitModule { module, bits, side_effects } => {
+                fits(no_module(*module), 16)?;
+                let set = lent_set(bits, size.e).ok_or(16_u64)?;
+                let named = self.sets.iter().find(|(other, _)| *other == set).map(|&(_, chunk)| chunk);
+                fits(named.is_none() && u64::from(self.made()) >= size.c, 18)?;
+                fits(full, 19)?;
+                let chunk = named.unwrap_or_else(|| {
+                    let chunk = self.new_chunk(true);
+                    self.sets.push((set, chunk));
+                    chunk
+                });
+                self.append(chunk, *module, side_effects);
+            }
+            MergeCall::AddModule { module, chunk, side_effects } => {
+                fits(no_module(*module) || no_chunk(*chunk), 16)?;
+                fits(full, 19)?;
+                self.append(*chunk, *module, side_effects);
+            }
+            MergeCall::Register { key, chunk } => {
+                fits(u64::from(*key) >= size.c || no_chunk(*chunk), 16)?;
+                self.registered[*key as usize] = Some(*chunk);
+            }
+            MergeCall::ToTempIdx { key } => {
+                let chunk = self.registered.get(*key as usize).copied().flatten();
+                value = chunk.unwrap_or(NONE).into();
+            }
+            MergeCall::Calc { starts, dependencies } => {
+                fits(dependencies.iter().any(|&module| no_module(module)), 16)?;
+                for &(chunk, module) in &self.entries {
+                    let (from, to) = (starts[module as usize], starts[module as usize + 1]);
+                    for &other in &dependencies[from as usize..to as usize] {
+                        if let Some(at) = self.module_chunk[other as usize].filter(|&at| at != chunk) {
+                            self.dependencies[chunk as usize].insert(at);
+                        }
+                    }
+                }
+            }
+            MergeCall::Warning { source, target } => {
+                fits(no_chunk(*source) || no_chunk(*target), 16)?;
+                fits(source == target, 20)?;
+                value = self.warning(*source, *target).into();
+            }
+            MergeCall::IsReachable { from, to } => {
+                fits(no_chunk(*from) || no_chunk(*to), 16)?;
+                value = self.is_reachable(*from, *to).into();
+            }
+            MergeCall::Merge { target, source } => {
+                fits(no_chunk(*source) || no_chunk(*target), 16)?;
+                fits(source == target, 20)?;
+                self.merge(*target, *source);
+            }
+            MergeCall::Pass { proposals, bars, kinds, numbers } => {
+                let candidates = self.candidates();
+                let lengths = [proposals.len(), bars.len(), *kinds, *numbers];
+                fits(lengths != [candidates.len(); 4], 15)?;
+                fits(proposals.iter().any(|&chunk| chunk != NONE && chunk >= self.initial), 16)?;
+                let room = u64::from(self.initial) + u64::from(self.created) + candidates.len() as u64;
+                fits(room > size.c, 18)?;
+                return Ok((candidates.len() as u64, self.pass(&candidates, proposals, bars)));
+            }
+        }
+        Ok((value, vec![]))
+    }
+
+    fn pass(&mut self, candidates: &[u32], proposals: &[u32], bars: &[u32]) -> Vec<(u32, u32)> {
+        let mut answers = vec![];
+        for ((&candidate, &proposal), &bar) in candidates.iter().zip(proposals).zip(bars) {
+            if proposal != NONE && bar == 0 && !self.warning(candidate, proposal) {
+                self.merge(proposal, candidate);
+                answers.push((0, proposal));
+            } else {
+                let number = self.initial + self.created;
+                self.created += 1;
+                self.registered[number as usize] = Some(candidate);
+                answers.push((1, number));
+            }
+        }
+        answers
+    }
+}

@@ -1,0 +1,143 @@
+//! What both runs share: random numbers, counts, the shrinker.
+use std::fmt::Debug;
+use std::time::{Duration, Instant};
+
+use crate::library::Library;
+
+/// SplitMix64.
+pub struct Random(pub u64);
+
+impl Random {
+    pub fn next(&mut self) -> u64 {
+        self.0 = self.0.wrapping_add(0x9e37_79b9_7f4a_7c15);
+        let mut word = self.0;
+        word = (word ^ (word >> 30)).wrapping_mul(0xbf58_476d_1ce4_e5b9);
+        word = (word ^ (word >> 27)).wrapping_mul(0x94d0_49bb_1331_11eb);
+        word ^ (word >> 31)
+    }
+
+    /// Below `limit`; 0 where that is 0.
+    pub fn below(&mut self, limit: u64) -> u64 {
+        if limit == 0 { 0 } else { self.next() % limit }
+    }
+
+    pub fn index(&mut self, limit: usize) -> usize {
+        self.below(limit as u64) as usize
+    }
+
+    pub fn chance(&mut self, percent: u64) -> bool {
+        self.below(100) < percent
+    }
+
+    pub fn pick<T: Clone>(&mut self, items: &[T]) -> T {
+        items[self.index(items.len())].clone()
+    }
+
+    /// A number near a limit of 32 bits.
+    pub fn odd_number(&mut self) -> u32 {
+        match self.below(6) {
+            0 => u32::MAX,
+            1 => u32::MAX - 1,
+            2 => 1 << 31,
+            3 => self.below(3) as u32,
+            4 => self.below(1100) as u32,
+            _ => self.next() as u32,
+        }
+    }
+}
+
+/// What was compared.
+#[derive(Clone, Debug, Default)]
+pub struct Counts {
+    pub cases: u64,
+    pub calls: u64,
+    pub refusals: [u64; 24],
+    pub acyclic: u64,
+    pub cyclic: u64,
+    pub accepted: u64,
+    pub rejected: u64,
+    pub warned: u64,
+    pub unwarned: u64,
+    pub merged: u64,
+    pub created: u64,
+    pub damaged_refused: u64,
+    pub damaged_consistent: u64,
+    pub damaged_unsettled: u64,
+}
+
+impl Counts {
+    pub fn refused(&mut self, row: u64) {
+        self.refusals[row.min(23) as usize] += 1;
+    }
+
+    pub fn print(&self, name: &str) {
+        println!("{name}: {} cases, {} calls", self.cases, self.calls);
+        println!("  loads acyclic {}, cyclic {}", self.acyclic, self.cyclic);
+        println!("  moves accepted {}, rejected {}", self.accepted, self.rejected);
+        println!("  warnings yes {}, no {}", self.warned, self.unwarned);
+        println!("  pass merged {}, created {}", self.merged, self.created);
+        println!(
+            "  damaged areas refused {}, consistent {}, unsettled {}",
+            self.damaged_refused, self.damaged_consistent, self.damaged_unsettled
+        );
+        let rows: Vec<String> = (1..22).map(|row| format!("{row}:{}", self.refusals[row])).collect();
+        println!("  refusals by row {}", rows.join(" "));
+    }
+}
+
+/// A list of calls after a loading.
+pub trait Case: Clone + Debug {
+    /// Runs the original, the model and, if given, the library; says where they differ.
+    fn check(&self, library: Option<&dyn Library>, counts: &mut Counts) -> Result<(), String>;
+    /// Cases that are smaller in one respect.
+    fn smaller(&self) -> Vec<Self>;
+}
+
+/// A disagreement, as small as it was found.
+#[derive(Debug)]
+pub struct Disagreement {
+    pub what: String,
+    pub input: String,
+}
+
+/// Runs a case; on a disagreement looks for a smaller one.
+pub fn run<C: Case>(case: &C, library: Option<&dyn Library>, counts: &mut Counts) -> Result<(), Disagreement> {
+    let Err(mut what) = case.check(library, counts) else { return Ok(()) };
+    let mut smallest = case.clone();
+    let end = Instant::now() + Duration::from_secs(10);
+    'search: loop {
+        for candidate in smallest.smaller() {
+            if Instant::now() > end {
+                break 'search;
+            }
+            if let Err(why) = candidate.check(library, &mut Counts::default()) {
+                (smallest, what) = (candidate, why);
+                continue 'search;
+            }
+        }
+        break;
+    }
+    Err(Disagreement { what, input: format!("{smallest:?}") })
+}
+
+/// Lists without a part: halves first, then single items.
+pub fn shorter<T: Clone>(list: &[T]) -> Vec<Vec<T>> {
+    let mut lists = vec![];
+    let mut size = list.len();
+    while size > 0 {
+        for start in (0..list.len()).step_by(size).rev() {
+            let end = (start + size).min(list.len());
+            lists.push([&list[..start], &list[end..]].concat());
+        }
+        size /= 2;
+    }
+    lists
+}
+
+/// Says where two areas first differ.
+pub fn same_area(what: &str, ours: &[u32], expected: &[u32]) -> Result<(), String> {
+    match ours.iter().zip(expected).position(|(left, right)| left != right) {
+        None => Ok(()),
+        Some(cell) => Err(format!("{what}: area cell {cell} is {}, expected {}", ours[cell], expected[cell])),
+    }
+}
