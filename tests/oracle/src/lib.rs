@@ -8,6 +8,7 @@ pub mod moves_model;
 pub mod original;
 #[path = "../../../rust/src/raw.rs"]
 pub mod raw;
+pub mod record;
 pub mod run;
 pub mod sets;
 #[doc(hidden)]

@@ -5,15 +5,17 @@ use std::time::Instant;
 use oracle::library::Library;
 use oracle::run::{Counts, Disagreement, Random, run};
 use oracle::stand_in_library::{PLANTS, StandIn};
-use oracle::{merges_cases, merges_model, moves_cases};
+use oracle::{merges_cases, merges_model, moves_cases, record};
 
-const HELP: &str = "oracle [--long] [--seed NUMBER] [--stand-in] [--self-test] [--record CASES]
+const HELP: &str = "oracle [--long | --percent NUMBER] [--seed NUMBER] [--stand-in] [--self-test] [--record CASES] [--replay FILE]
   default      the library if linked (feature `ours`), the original and the model: about a minute
-  --long       some twenty times as many cases
+  --long       twenty times as many made-up cases
+  --percent    so many hundredths of the default
   --seed       another seed than 1
   --stand-in   the stand-in library in the place of the linked one
   --self-test  the stand-in library without a bug must pass, with each planted bug must fail
-  --record     writes that many cases with the original's answers to standard output (README.md: the format)";
+  --record     writes that many cases with the original's answers to standard output (README.md: the format)
+  --replay     replays recorded cases on the library";
 
 /// How much of everything is run.
 #[derive(Clone, Copy)]
@@ -35,11 +37,9 @@ fn every_small(library: Option<&dyn Library>, amount: Amount, counts: &mut Count
     let mut random = Random(amount.seed);
     let mut found = Ok(());
     for a in 0..4 {
-        let mut place = 0_u64;
         moves_cases::every_small_load(a, &mut |case| {
-            place += 1;
             // The largest size in full only in a long run.
-            if found.is_err() || (a == 3 && amount.percent < 1000 && place % (400 / amount.percent.min(400)).max(1) != 0) {
+            if found.is_err() || (a == 3 && random.below(400) >= amount.percent) {
                 return;
             }
             for atom in 0..a as u32 {
@@ -89,8 +89,9 @@ fn move_limits(random: &mut Random) -> Vec<moves_cases::Shape> {
 fn moves(library: Option<&dyn Library>, amount: Amount, counts: &mut Counts) -> Found {
     let mut random = Random(amount.seed ^ 0x6d6f_7665);
     for round in 0..amount.times(30_000) {
-        let a = random.below(7);
         let e = 1 + random.below(4);
+        let a = random.below(1 << e) + 1;
+        let a = if random.chance(3) { 0 } else { a.min(7) };
         let d = random.below(2 * a + 2);
         let n = a + random.below(4);
         let calls = 1 + random.index(12);
@@ -206,6 +207,24 @@ fn self_test(amount: Amount) -> ExitCode {
     if missed == 0 { ExitCode::SUCCESS } else { ExitCode::FAILURE }
 }
 
+fn replay(library: Option<&dyn Library>, file: Option<&String>) -> ExitCode {
+    let (Some(library), Some(file)) = (library, file) else {
+        println!("--replay needs a file, and a library");
+        return ExitCode::FAILURE;
+    };
+    let text = std::fs::read_to_string(file).expect("a readable file");
+    let mut failed = 0;
+    for (place, line) in text.lines().enumerate() {
+        let numbers: Vec<u64> = line.split(' ').map(|word| word.parse().expect("a number")).collect();
+        if let Err(why) = record::replay(library, &numbers) {
+            println!("case {place}: {why}");
+            failed += 1;
+        }
+    }
+    println!("{} recorded cases, {failed} failed", text.lines().count());
+    if failed == 0 { ExitCode::SUCCESS } else { ExitCode::FAILURE }
+}
+
 fn main() -> ExitCode {
     let arguments: Vec<String> = std::env::args().skip(1).collect();
     let has = |name: &str| arguments.iter().any(|argument| argument == name);
@@ -222,12 +241,22 @@ fn main() -> ExitCode {
     if has("--self-test") {
         return self_test(Amount { percent: 20, ..amount });
     }
+    if let Some(count) = number("--record") {
+        for line in record::sample(count as usize, amount.seed) {
+            let line: Vec<String> = line.iter().map(u64::to_string).collect();
+            println!("{}", line.join(" "));
+        }
+        return ExitCode::SUCCESS;
+    }
     let stand_in = StandIn { plant: "none" };
     #[cfg(feature = "ours")]
     let linked: Option<&dyn Library> = Some(&oracle::library::Ours);
     #[cfg(not(feature = "ours"))]
     let linked: Option<&dyn Library> = None;
     let library = if has("--stand-in") { Some(&stand_in as &dyn Library) } else { linked };
+    if let Some(place) = arguments.iter().position(|argument| argument == "--replay") {
+        return replay(library, arguments.get(place + 1));
+    }
     match (has("--stand-in"), library.is_some()) {
         (true, _) => println!("comparing the original, the model and the stand-in library"),
         (_, true) => println!("comparing the original, the model and the linked library"),

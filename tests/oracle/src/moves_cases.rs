@@ -15,7 +15,7 @@ pub enum MoveCall {
     Multiplicity { from: Vec<u64>, to: Vec<u64> },
     EdgeCount,
     EdgeAt { k: u64 },
-    /// No call: the run puts this number into the walk counter.
+    /// No call: the run puts this number into the walk counter, unless that is higher.
     Counter { value: u32 },
 }
 
@@ -236,6 +236,10 @@ impl Case for MoveCase {
         for (place, (call, damage)) in self.calls.iter().enumerate() {
             counts.calls += 1;
             if let MoveCall::Counter { value } = call {
+                // No mark may be above the counter.
+                if *value < state.counter {
+                    continue;
+                }
                 state.counter = *value;
                 original.set_mark(*value);
                 area[load.layout().header(MoveLayout::COUNTER)] = *value;
@@ -372,7 +376,7 @@ fn random_set(random: &mut Random, e: u64) -> Set {
 
 fn distinct_sets(random: &mut Random, a: u64, e: u64) -> Vec<Set> {
     let mut sets: Vec<Set> = vec![];
-    for atom in 0..a {
+    for _ in 0..a {
         let mut set = if e > 0 && random.chance(35) { Set::single(random.index(e as usize)) } else { random_set(random, e) };
         for _ in 0..40 {
             if !sets.contains(&set) {
@@ -386,7 +390,6 @@ fn distinct_sets(random: &mut Random, a: u64, e: u64) -> Vec<Set> {
                 set = free;
             }
         }
-        let _ = atom;
         sets.push(set);
     }
     sets

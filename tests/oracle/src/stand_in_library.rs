@@ -1,7 +1,7 @@
 //! A stand-in for the library, over the model, with bugs that can be planted: it shows that the runs find them.
 use std::collections::BTreeSet;
 
-use crate::layout::{MergeLayout, MoveLayout};
+use crate::layout::MoveLayout;
 use crate::library::{EdgeReply, Library, MergeLoad, Reply, SetReply};
 use crate::merges_model::{self, MergeCall, MergeState, Size, Verdict, size_refusal};
 use crate::moves_model::{Graph, Load, MoveState, NONE, whole};
@@ -108,7 +108,7 @@ impl StandIn {
         MoveState::decode(&seen, &area).map(|state| (seen, state)).ok_or(9)
     }
 
-    fn move_state(&self, load: &Load, area: &[u32], state: &mut MoveState, atom: u32, bits: &[u64]) -> Reply {
+    fn move_state(&self, load: &Load, state: &mut MoveState, atom: u32, bits: &[u64]) -> Reply {
         let mut load = load.clone();
         let target = lent_set(bits, load.e);
         let occupied = |set: Set| state.ledger().place.contains(&set);
@@ -183,7 +183,6 @@ impl StandIn {
             state.counter = 0;
             state.marks.fill(0);
         }
-        let _ = area;
         reply
     }
 
@@ -261,7 +260,7 @@ impl Library for StandIn {
             Err(row) => return Reply::refused(row),
         };
         let at = load.layout();
-        let reply = self.move_state(&seen, area, &mut state, atom, bits);
+        let reply = self.move_state(&seen, &mut state, atom, bits);
         if reply.refusal == 0 {
             let edges = area[..at.n * at.n].to_vec();
             let component: Vec<u32> = (0..at.n).map(|node| area[at.node_lane(MoveLayout::COMPONENT, node)]).collect();
@@ -390,7 +389,6 @@ impl Library for StandIn {
         if self.planted("a refused pass writes its lists") && reply.refusal == 18 && !kinds.is_empty() {
             kinds[0] = 1;
         }
-        let _ = MergeLayout::CREATED;
         reply
     }
 }

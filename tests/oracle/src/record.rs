@@ -1,0 +1,433 @@
+//! Recorded cases: calls and the original's answers as numbers (README.md: the format), and their replay.
+use crate::layout::MergeLayout;
+use crate::library::{EdgeReply, Library, MergeLoad, Reply};
+use crate::merges_cases::{self, MergeCase};
+use crate::merges_model::{self, MergeCall, NONE, Size};
+use crate::moves_cases::{self, Answer, MoveCall, MoveCase};
+use crate::moves_model::{Load, MoveState, entry_sets};
+use crate::run::{Case, Counts, Random};
+use crate::sets::{Set, width};
+
+pub const MOVE_CASE: u64 = 1;
+pub const MERGE_CASE: u64 = 2;
+
+fn numbers(list: &[u32]) -> impl Iterator<Item = u64> + '_ {
+    list.iter().map(|&number| number.into())
+}
+
+/// The numbers of a move case whose lists have the right lengths.
+pub fn record_moves(case: &MoveCase) -> Vec<u64> {
+    case.check(None, &mut Counts::default()).expect("the original and the model agree");
+    let load = &case.load;
+    let w = width(load.e) as usize;
+    let mut line = vec![MOVE_CASE, load.a, load.d, load.e, load.n];
+    line.extend(numbers(&load.starts));
+    line.extend(numbers(&load.dependencies));
+    line.extend(numbers(&load.hosts));
+    line.extend(&case.sets);
+    let row = crate::moves_model::load_refusal(load, Some(&case.sets), usize::MAX);
+    if row != 0 {
+        line.extend([row, 0, 0]);
+        return line;
+    }
+    let mut state = MoveState::at_loading(load, &entry_sets(&case.sets, load.a as usize, w));
+    let cyclic = crate::moves_model::Graph::new(load, &state.ledger().place).cyclic();
+    line.extend([0, cyclic.into(), case.calls.len() as u64]);
+    for (call, _) in &case.calls {
+        match call {
+            MoveCall::Move { atom, bits } => line.extend([1, u64::from(*atom)].iter().chain(bits)),
+            MoveCall::AtomSet { atom } => line.extend([2, u64::from(*atom)]),
+            MoveCall::AtomCount { bits } => line.extend([3].iter().chain(bits)),
+            MoveCall::Multiplicity { from, to } => line.extend([4].iter().chain(from).chain(to)),
+            MoveCall::EdgeCount => line.push(5),
+            MoveCall::EdgeAt { k } => line.extend([6, *k]),
+            MoveCall::Counter { .. } => unreachable!("not recorded"),
+        }
+        match moves_cases::model_answer(load, &mut state, call) {
+            Answer::Reply(reply) => line.extend([reply.refusal, reply.value]),
+            Answer::Set(reply) => {
+                line.push(reply.refusal);
+                line.extend(&[reply.set0, reply.set1, reply.set2, reply.set3][..w]);
+            }
+            Answer::Edge(reply) => {
+                line.extend([reply.refusal, reply.found]);
+                line.extend(&[reply.from0, reply.from1, reply.from2, reply.from3][..w]);
+                line.extend(&[reply.to0, reply.to1, reply.to2, reply.to3][..w]);
+                line.push(reply.multiplicity);
+            }
+        }
+    }
+    line
+}
+
+/// The numbers of a merge case whose lists have the right lengths and whose calls share the side effects.
+pub fn record_merges(case: &MergeCase) -> Vec<u64> {
+    case.check(None, &mut Counts::default()).expect("the original and the model agree");
+    let (size, load) = (case.size, &case.load);
+    let mut line = vec![MERGE_CASE, size.c, size.m, size.l, size.e, load.initial, load.modules.len() as u64];
+    line.extend(numbers(&load.module_starts));
+    line.extend(numbers(&load.modules));
+    line.push(load.set_chunks.len() as u64);
+    line.extend(&load.sets);
+    line.extend(numbers(&load.set_chunks));
+    line.extend(numbers(&load.side_effects));
+    let mut state = match merges_model::new(size, load, usize::MAX) {
+        Ok(state) => state,
+        Err(row) => {
+            line.extend([row, 0]);
+            return line;
+        }
+    };
+    let place = line.len() + 1;
+    line.extend([0, case.calls.len() as u64]);
+    for (call, _) in &case.calls {
+        let call = &merges_cases::fitted(call, &state);
+        let (reply, lists) = state.call(size, call);
+        match call {
+            MergeCall::InitModule { module, bits, .. } => {
+                line.extend([1, u64::from(*module)].iter().chain(bits));
+                line.push(reply.refusal);
+            }
+            MergeCall::AddModule { module, chunk, .. } => {
+                line.extend([2, u64::from(*module), u64::from(*chunk), reply.refusal]);
+            }
+            MergeCall::Register { key, chunk } => {
+                line.extend([3, u64::from(*key), u64::from(*chunk), reply.refusal]);
+            }
+            MergeCall::ToTempIdx { key } => line.extend([4, u64::from(*key), reply.refusal, reply.value]),
+            MergeCall::Calc { starts, dependencies } => {
+                line.extend([5, dependencies.len() as u64]);
+                line.extend(numbers(starts).chain(numbers(dependencies)));
+                line.push(reply.refusal);
+            }
+            MergeCall::Warning { source, target } => {
+                line.extend([6, u64::from(*source), u64::from(*target), reply.refusal, reply.value]);
+            }
+            MergeCall::IsReachable { from, to } => {
+                line.extend([7, u64::from(*from), u64::from(*to), reply.refusal, reply.value]);
+            }
+            MergeCall::Merge { target, source } => {
+                line.extend([8, u64::from(*target), u64::from(*source), reply.refusal]);
+            }
+            MergeCall::Pass { proposals, bars, .. } => {
+                line.extend([9, proposals.len() as u64]);
+                line.extend(numbers(proposals).chain(numbers(bars)));
+                line.extend([reply.refusal, reply.value]);
+                line.extend(lists.iter().map(|&(kind, _)| u64::from(kind)));
+                line.extend(lists.iter().map(|&(_, number)| u64::from(number)));
+            }
+        }
+    }
+    // What the area must show at the end: a chunk's two flags and its dependencies.
+    let view = state.view();
+    line[place] += view.dependencies.len() as u64;
+    for (chunk, members) in view.dependencies.iter().enumerate() {
+        let flags = [view.side_effects[chunk].into(), view.needs_creation[chunk].into(), members.len() as u64];
+        line.extend([10, chunk as u64].into_iter().chain(flags).chain(numbers(members)));
+    }
+    line
+}
+
+fn asked(case: &mut MoveCase) {
+    let mut calls: Vec<MoveCall> = (0..case.load.a.min(6) as u32).map(|atom| MoveCall::AtomSet { atom }).collect();
+    calls.push(MoveCall::EdgeCount);
+    calls.extend((0..8.min(case.load.d + 1)).map(|k| MoveCall::EdgeAt { k }));
+    case.calls.extend(calls.into_iter().map(|call| (call, moves_cases::Damage::No)));
+}
+
+fn moves_case(random: &mut Random, shape: moves_cases::Shape) -> MoveCase {
+    let mut case = moves_cases::random_case(random, shape, 0);
+    case.calls.retain(|(call, _)| !matches!(call, MoveCall::Counter { .. }));
+    for (call, _) in &mut case.calls {
+        if let MoveCall::Move { atom, bits } = call {
+            match random.below(24) {
+                0 => *atom = case.load.a as u32,
+                1 if case.load.e % 64 != 0 => *bits.last_mut().unwrap() |= 1 << (case.load.e % 64),
+                _ => {}
+            }
+        }
+    }
+    asked(&mut case);
+    case
+}
+
+fn merges_case(random: &mut Random, shape: merges_cases::Shape) -> MergeCase {
+    let mut case = merges_cases::random_case(random, shape, 0);
+    for (call, _) in &mut case.calls {
+        if let MergeCall::InitModule { side_effects, .. } | MergeCall::AddModule { side_effects, .. } = call {
+            side_effects.clone_from(&case.load.side_effects);
+        }
+        match call {
+            MergeCall::AddModule { chunk, .. } if random.chance(5) => *chunk = case.size.c as u32,
+            MergeCall::InitModule { module, .. } if random.chance(5) => *module = case.size.m as u32,
+            MergeCall::Merge { target, source } if random.chance(5) => *source = *target,
+            _ => {}
+        }
+    }
+    case
+}
+
+/// The crate's warning misses a loop through a chunk that was merged away.
+fn missed_loop() -> MergeCase {
+    let size = Size { c: 4, m: 4, l: 4, e: 2 };
+    let side_effects = vec![0; 4];
+    let load = MergeLoad {
+        initial: 2,
+        module_starts: vec![0, 1, 2],
+        modules: vec![0, 1],
+        sets: vec![],
+        set_chunks: vec![],
+        side_effects: side_effects.clone(),
+    };
+    let init = |module, set| MergeCall::InitModule { module, bits: vec![set], side_effects: side_effects.clone() };
+    let calls = [
+        init(2, 1),
+        init(3, 2),
+        MergeCall::Calc { starts: vec![0, 1, 1, 1, 2], dependencies: vec![1, 2] },
+        MergeCall::Warning { source: 2, target: 0 },
+        MergeCall::Merge { target: 0, source: 2 },
+        MergeCall::Warning { source: 3, target: 1 },
+        MergeCall::Merge { target: 1, source: 3 },
+    ];
+    let calls = calls.into_iter().map(|call| (call, merges_cases::Damage::No)).collect();
+    MergeCase { size, load, extra: 0, short: false, fill: 0, calls }
+}
+
+/// A move case written out: each atom's set and dependencies, hosts, and moves (atom, set).
+fn small(sets: &[u64], lists: &[&[u32]], hosts: &[u32], n: u64, moves: &[(u32, u64)]) -> MoveCase {
+    let mut starts = vec![0];
+    let mut dependencies: Vec<u32> = vec![];
+    for list in lists {
+        dependencies.extend(*list);
+        starts.push(dependencies.len() as u32);
+    }
+    let load = Load {
+        a: sets.len() as u64,
+        d: dependencies.len() as u64,
+        e: hosts.len() as u64,
+        n,
+        starts,
+        dependencies,
+        hosts: hosts.to_vec(),
+    };
+    let calls = moves.iter().map(|&(atom, set)| (MoveCall::Move { atom, bits: vec![set] }, moves_cases::Damage::No));
+    let mut case =
+        MoveCase { load, sets: sets.to_vec(), extra: 0, short: false, fill: 0, calls: calls.collect() };
+    asked(&mut case);
+    case
+}
+
+/// Cases that must be among the recorded ones.
+fn named() -> Vec<Vec<u64>> {
+    let moves = [
+        // P1 to P8.
+        small(&[3, 1, 2], &[&[], &[0], &[0]], &[1, 2], 96, &[(0, 1), (1, 3)]),
+        small(&[], &[], &[NONE], 0, &[(0, 1)]),
+        small(&[1, 2], &[&[1], &[0]], &[NONE, NONE], 4, &[(0, 2)]),
+        small(&[1, 2, 4, 8], &[&[1], &[0], &[3], &[2]], &[NONE; 4], 6, &[(0, 2), (1, 4), (2, 8), (3, 5), (0, 1)]),
+        small(&[3, 5], &[&[], &[0]], &[NONE, NONE, 1], 4, &[(0, 4)]),
+        small(&[3, 5], &[&[], &[0]], &[NONE, NONE, NONE], 4, &[(0, 4)]),
+        small(&[1, 2], &[&[1, 1], &[]], &[NONE, NONE], 3, &[(0, 3)]),
+        small(&[1, 2], &[&[], &[]], &[NONE, NONE], 2, &[(0, 3)]),
+        // Walking only from the target while cyclic is not enough.
+        small(&[3, 5, 4], &[&[1], &[0, 2], &[]], &[NONE, NONE, 0, NONE], 5, &[(2, 9)]),
+        // An edge goes and comes back within one move.
+        small(&[6, 5, 7], &[&[1], &[], &[0]], &[NONE; 3], 4, &[(2, 6), (0, 5)]),
+    ];
+    let mut lines: Vec<Vec<u64>> = moves.iter().map(record_moves).collect();
+    lines.push(record_merges(&missed_loop()));
+    lines
+}
+
+/// A fixed sample: the named cases, limits, and made-up ones, `count` in all.
+pub fn sample(count: usize, seed: u64) -> Vec<Vec<u64>> {
+    let mut random = Random(seed ^ 0x7265_636f);
+    let mut lines = named();
+    for (a, d, e, n) in [
+        (512, 1024, 64, 513),
+        (512, 512, 10, 512),
+        (48, 128, 16, 96),
+        (48, 96, 64, 48),
+        (48, 96, 65, 60),
+        (47, 60, 63, 64),
+        (40, 80, 128, 50),
+        (40, 80, 129, 50),
+        (30, 60, 255, 40),
+        (30, 60, 256, 40),
+        (1, 0, 0, 1),
+        (0, 0, 0, 0),
+        (1, 0, 1, 2),
+        (3, 200, 3, 5),
+    ] {
+        lines.push(record_moves(&moves_case(&mut random, moves_cases::Shape { a, d, e, n, calls: 12 })));
+    }
+    for (c, m, l, e) in [(1, 0, 0, 0), (1, 1, 1, 1), (40, 30, 60, 64), (40, 30, 60, 65), (20, 30, 40, 256)] {
+        let shape = merges_cases::Shape { size: Size { c, m, l, e }, initial: c.div_ceil(3), pairs: c / 4, calls: 30 };
+        lines.push(record_merges(&merges_case(&mut random, shape)));
+    }
+    while lines.len() < count {
+        if lines.len() % 2 == 0 {
+            let e = 1 + random.below(5);
+            let a = (1 + random.below(1 << e)).min(7);
+            let (d, n, calls) = (random.below(2 * a + 1), a + random.below(4), 3 + random.index(8));
+            lines.push(record_moves(&moves_case(&mut random, moves_cases::Shape { a, d, e, n, calls })));
+        } else {
+            let (c, m, l, e) = (2 + random.below(7), 1 + random.below(7), 2 + random.below(14), random.below(5));
+            let (initial, pairs, calls) = (random.below(c), random.below(c), 4 + random.index(16));
+            let shape = merges_cases::Shape { size: Size { c, m, l, e }, initial, pairs, calls };
+            lines.push(record_merges(&merges_case(&mut random, shape)));
+        }
+    }
+    lines.truncate(count);
+    lines
+}
+
+/// Reads a recorded case number by number.
+struct Reader<'a> {
+    numbers: &'a [u64],
+}
+
+impl Reader<'_> {
+    fn one(&mut self) -> u64 {
+        let (first, rest) = self.numbers.split_first().expect("a number");
+        self.numbers = rest;
+        *first
+    }
+
+    fn small(&mut self) -> u32 {
+        u32::try_from(self.one()).expect("a number of 32 bits")
+    }
+
+    fn list(&mut self, count: u64) -> Vec<u64> {
+        (0..count).map(|_| self.one()).collect()
+    }
+
+    fn smalls(&mut self, count: u64) -> Vec<u32> {
+        (0..count).map(|_| self.small()).collect()
+    }
+
+    fn reply(&mut self) -> Reply {
+        Reply { refusal: self.one(), value: self.one() }
+    }
+
+    fn set(&mut self, w: u64) -> Set {
+        Set::from_words(&self.list(w))
+    }
+}
+
+fn expect<T: PartialEq + std::fmt::Debug>(place: usize, ours: T, recorded: T) -> Result<(), String> {
+    if ours == recorded { Ok(()) } else { Err(format!("call {place}: {ours:?}, recorded {recorded:?}")) }
+}
+
+/// Replays one recorded case on the library.
+pub fn replay(library: &dyn Library, numbers: &[u64]) -> Result<(), String> {
+    let mut reader = Reader { numbers };
+    if reader.one() == MOVE_CASE { replay_moves(library, &mut reader) } else { replay_merges(library, &mut reader) }?;
+    if reader.numbers.is_empty() { Ok(()) } else { Err("numbers left over".into()) }
+}
+
+fn replay_moves(library: &dyn Library, reader: &mut Reader) -> Result<(), String> {
+    let (a, d, e, n) = (reader.one(), reader.one(), reader.one(), reader.one());
+    let (starts, dependencies, hosts) = (reader.smalls(a + 1), reader.smalls(d), reader.smalls(e));
+    let load = Load { a, d, e, n, starts, dependencies, hosts };
+    let w = width(e);
+    let sets = reader.list(a * w);
+    let mut area = vec![0; load.layout().length()];
+    expect(0, library.move_new(&load, &sets, &mut area), reader.reply())?;
+    for place in 1..=reader.one() as usize {
+        match reader.one() {
+            1 => {
+                let (atom, bits) = (reader.small(), reader.list(w));
+                expect(place, library.try_move(&load, &mut area, atom, &bits), reader.reply())?;
+            }
+            2 => {
+                let ours = library.atom_set(&load, &area, reader.small());
+                let row = reader.one();
+                let Set([set0, set1, set2, set3]) = reader.set(w);
+                expect(place, ours, crate::library::SetReply { refusal: row, set0, set1, set2, set3 })?;
+            }
+            3 => expect(place, library.atom_count(&load, &area, &reader.list(w)), reader.reply())?,
+            4 => {
+                let (from, to) = (reader.list(w), reader.list(w));
+                expect(place, library.multiplicity(&load, &area, &from, &to), reader.reply())?;
+            }
+            5 => expect(place, library.edge_count(&load, &area), reader.reply())?,
+            6 => {
+                let ours = library.edge_at(&load, &area, reader.one());
+                let (refusal, found) = (reader.one(), reader.one());
+                let (from, to, multiplicity) = (reader.set(w), reader.set(w), reader.one());
+                expect(place, ours, EdgeReply { refusal, found, ..EdgeReply::edge(from, to, multiplicity) })?;
+            }
+            other => return Err(format!("no call {other}")),
+        }
+    }
+    Ok(())
+}
+
+fn replay_merges(library: &dyn Library, reader: &mut Reader) -> Result<(), String> {
+    let size = Size { c: reader.one(), m: reader.one(), l: reader.one(), e: reader.one() };
+    let w = width(size.e);
+    let (initial, count) = (reader.one(), reader.one());
+    let (module_starts, modules) = (reader.smalls(initial + 1), reader.smalls(count));
+    let pairs = reader.one();
+    let (sets, set_chunks) = (reader.list(pairs * w), reader.smalls(pairs));
+    let side_effects = reader.smalls(size.m);
+    let load = MergeLoad { initial, module_starts, modules, sets, set_chunks, side_effects };
+    let at = size.layout();
+    let mut area = vec![0; at.length()];
+    expect(0, library.merge_new(size, &load, &mut area), Reply::refused(reader.one()))?;
+    let effects = &load.side_effects;
+    for place in 1..=reader.one() as usize {
+        match reader.one() {
+            1 => {
+                let (module, bits) = (reader.small(), reader.list(w));
+                let ours = library.init_module(size, &mut area, module, &bits, effects);
+                expect(place, ours, Reply::refused(reader.one()))?;
+            }
+            2 => {
+                let ours = library.add_module(size, &mut area, reader.small(), reader.small(), effects);
+                expect(place, ours, Reply::refused(reader.one()))?;
+            }
+            3 => {
+                let ours = library.register(size, &mut area, reader.small(), reader.small());
+                expect(place, ours, Reply::refused(reader.one()))?;
+            }
+            4 => expect(place, library.to_temp_idx(size, &area, reader.small()), reader.reply())?,
+            5 => {
+                let count = reader.one();
+                let (starts, dependencies) = (reader.smalls(size.m + 1), reader.smalls(count));
+                let ours = library.calc(size, &mut area, &starts, &dependencies);
+                expect(place, ours, Reply::refused(reader.one()))?;
+            }
+            6 => expect(place, library.warning(size, &area, reader.small(), reader.small()), reader.reply())?,
+            7 => expect(place, library.is_reachable(size, &area, reader.small(), reader.small()), reader.reply())?,
+            8 => {
+                let ours = library.merge(size, &mut area, reader.small(), reader.small());
+                expect(place, ours, Reply::refused(reader.one()))?;
+            }
+            9 => {
+                let count = reader.one();
+                let (proposals, bars) = (reader.smalls(count), reader.smalls(count));
+                let (mut kinds, mut chosen) = (vec![0; count as usize], vec![0; count as usize]);
+                let ours = library.pass(size, &mut area, &proposals, &bars, &mut kinds, &mut chosen);
+                expect(place, ours, reader.reply())?;
+                if ours.refusal == 0 {
+                    expect(place, kinds, reader.smalls(count))?;
+                    expect(place, chosen, reader.smalls(count))?;
+                }
+            }
+            10 => {
+                let chunk = reader.one() as usize;
+                let flag = |lane| area[at.chunk_lane(lane, chunk)];
+                expect(place, flag(MergeLayout::SIDE_EFFECTS), reader.small())?;
+                expect(place, flag(MergeLayout::NEEDS_CREATION), reader.small())?;
+                let count = reader.one();
+                let members: Vec<u32> =
+                    (0..size.c as u32).filter(|&to| area[at.dependency(chunk, to as usize)] == 1).collect();
+                expect(place, members, reader.smalls(count))?;
+            }
+            other => return Err(format!("no call {other}")),
+        }
+    }
+    Ok(())
+}
