@@ -7,7 +7,9 @@
 #[repr(C)]
 #[derive(Clone, Copy, Debug, Default, PartialEq, Eq)]
 pub struct Reply {
+    /// 0, or the number of the row that refused the call.
     pub refusal: u64,
+    /// The answer; each call says what it means.
     pub value: u64,
 }
 
@@ -15,10 +17,15 @@ pub struct Reply {
 #[repr(C)]
 #[derive(Clone, Copy, Debug, Default, PartialEq, Eq)]
 pub struct SetReply {
+    /// 0, or the number of the row that refused the call.
     pub refusal: u64,
+    /// Bits 0 to 63 of the set.
     pub set0: u64,
+    /// Bits 64 to 127 of the set.
     pub set1: u64,
+    /// Bits 128 to 191 of the set.
     pub set2: u64,
+    /// Bits 192 to 255 of the set.
     pub set3: u64,
 }
 
@@ -26,16 +33,27 @@ pub struct SetReply {
 #[repr(C)]
 #[derive(Clone, Copy, Debug, Default, PartialEq, Eq)]
 pub struct EdgeReply {
+    /// 0, or the number of the row that refused the call.
     pub refusal: u64,
+    /// 1, or 0 past the last edge.
     pub found: u64,
+    /// Bits 0 to 63 of the source set.
     pub from0: u64,
+    /// Bits 64 to 127 of the source set.
     pub from1: u64,
+    /// Bits 128 to 191 of the source set.
     pub from2: u64,
+    /// Bits 192 to 255 of the source set.
     pub from3: u64,
+    /// Bits 0 to 63 of the target set.
     pub to0: u64,
+    /// Bits 64 to 127 of the target set.
     pub to1: u64,
+    /// Bits 128 to 191 of the target set.
     pub to2: u64,
+    /// Bits 192 to 255 of the target set.
     pub to3: u64,
+    /// Dependencies and facade edges behind the edge.
     pub multiplicity: u64,
 }
 

@@ -1,0 +1,230 @@
+/* nidskalm.h: trial moves and merge warnings over script chunks.
+ *
+ * Two state machines. The move graph (reduced_chunk_graph_*) holds atoms, each in one set of entry bits; it tries to
+ * move an atom to another set and accepts exactly when the chunk graph then has no cycle. The merge graph
+ * (chunk_optimization_graph_*) holds chunks, their modules and their dependencies; it warns of merges that would close
+ * a cycle, merges, and runs the pass that decides about every chunk needing creation.
+ *
+ * All state lies in a work area of 32-bit numbers that the caller lends. Between calls nobody else may write there.
+ * Every list is a pointer and the count of its items. A pointer must be valid for that many items (any pointer for 0);
+ * the area and the pass's answer lists must not overlap other lists. Nothing else is asked of the caller: whatever the
+ * numbers, a call ends and answers, or is refused. A refused call writes nothing.
+ *
+ * A reply's `refusal` is 0, or the number of the first fitting row; its other fields are then 0:
+ *    1  A > 512, D > 8,192, E > 256, N < A or N > 1,024
+ *    2  a list of the load hasn't the length called for
+ *    3  the area is too short
+ *    4  starts don't begin at 0, fall, or don't end at D
+ *    5  a dependency is no atom, or the atom itself
+ *    6  a host is neither NIDSKALM_NONE nor an atom
+ *    7  an entry set has a bit at or above E (loading)
+ *    8  two atoms have equal sets (loading)
+ *    9  the move area is inconsistent (later calls)
+ *   10  no such atom
+ *   11  a set isn't w numbers, or has a bit at or above E
+ *   12  the target is the atom's present set
+ *   13  the target is unseen and N sets are registered
+ *   14  C = 0 or > 1,024, M > 4,096, L > 8,192, E > 256, more than C initial chunks, more than C sets named at loading,
+ *       more than 8,192 module dependencies
+ *   15  a merge graph list's length is wrong, starts are faulty as in 4, or the area is too short
+ *   16  no such module or key, a set as in 11, or a chunk that isn't initial (loading, proposals) or not yet made
+ *   17  one set named twice (loading)
+ *   18  no room for a new chunk; or initial + created so far + candidates > C (pass)
+ *   19  no room for a list entry
+ *   20  source is target
+ *   21  the merge area is inconsistent (later calls)
+ *
+ * A set of E bits is w = E / 64, rounded up, numbers of 64 bits, lowest first, bit 0 lowest.
+ */
+#ifndef NIDSKALM_H
+#define NIDSKALM_H
+
+#include <stddef.h>
+#include <stdint.h>
+
+#ifdef __cplusplus
+extern "C" {
+#endif
+
+/* No host, no proposal, no chunk. */
+#define NIDSKALM_NONE UINT32_C(4294967295)
+
+/* Numbers of 32 bits that an area must have at least. Sizes within the limits of row 1 or 14 don't overflow. */
+#define NIDSKALM_MOVE_AREA(a, d, e, n) \
+    ((uint64_t)(n) * (uint64_t)(n) + \
+     UINT64_C(24) * ((uint64_t)(a) + (uint64_t)(n) + (uint64_t)(d) + (uint64_t)(e) + UINT64_C(1)))
+#define NIDSKALM_MERGE_AREA(c, m, l) \
+    ((uint64_t)(c) * (uint64_t)(c) + \
+     UINT64_C(32) * ((uint64_t)(c) + (uint64_t)(m) + (uint64_t)(l) + UINT64_C(1)))
+
+typedef struct {
+    uint64_t refusal, value;
+} nidskalm_reply;
+
+/* A set by value; unused numbers are 0. */
+typedef struct {
+    uint64_t refusal, set0, set1, set2, set3;
+} nidskalm_set_reply;
+
+/* found is 1, or 0 past the last edge. */
+typedef struct {
+    uint64_t refusal, found, from0, from1, from2, from3, to0, to1, to2, to3, multiplicity;
+} nidskalm_edge_reply;
+
+/* ---- The move graph ----
+ *
+ * Every call is lent the load: A atoms, D dependencies, E entry bits, room for N sets; `starts` (A + 1) and
+ * `dependencies` (D): atom i depends on dependencies[starts[i]] up to dependencies[starts[i + 1] - 1]; `hosts` (E): the
+ * atom that hosts an entry bit, or NIDSKALM_NONE. The area has at least NIDSKALM_MOVE_AREA(a, d, e, n) numbers.
+ */
+
+/* Loads: `sets` holds the A entry sets, w numbers each, no two equal. Value 0 acyclic, 1 cyclic. */
+nidskalm_reply reduced_chunk_graph_new(
+    uint64_t a, uint64_t d, uint64_t e, uint64_t n,
+    const uint32_t *starts, size_t starts_length,
+    const uint32_t *dependencies, size_t dependencies_length,
+    const uint32_t *hosts, size_t hosts_length,
+    const uint64_t *sets, size_t sets_length,
+    uint32_t *area, size_t area_length);
+
+/* Tries to move an atom to the set `bits`. Value 1 accepted, 0 rejected: the atom stays where it was. */
+nidskalm_reply reduced_chunk_graph_try_move(
+    uint64_t a, uint64_t d, uint64_t e, uint64_t n,
+    const uint32_t *starts, size_t starts_length,
+    const uint32_t *dependencies, size_t dependencies_length,
+    const uint32_t *hosts, size_t hosts_length,
+    uint32_t *area, size_t area_length,
+    uint32_t atom, const uint64_t *bits, size_t bits_length);
+
+/* The set that an atom is in. */
+nidskalm_set_reply reduced_chunk_graph_atom_set(
+    uint64_t a, uint64_t d, uint64_t e, uint64_t n,
+    const uint32_t *starts, size_t starts_length,
+    const uint32_t *dependencies, size_t dependencies_length,
+    const uint32_t *hosts, size_t hosts_length,
+    const uint32_t *area, size_t area_length,
+    uint32_t atom);
+
+/* The number of atoms in a set, 0 where it was never seen. */
+nidskalm_reply reduced_chunk_graph_atom_count(
+    uint64_t a, uint64_t d, uint64_t e, uint64_t n,
+    const uint32_t *starts, size_t starts_length,
+    const uint32_t *dependencies, size_t dependencies_length,
+    const uint32_t *hosts, size_t hosts_length,
+    const uint32_t *area, size_t area_length,
+    const uint64_t *bits, size_t bits_length);
+
+/* How many dependencies and facade edges lead from one set's chunk to another's; 0 where there is none. */
+nidskalm_reply reduced_chunk_graph_multiplicity(
+    uint64_t a, uint64_t d, uint64_t e, uint64_t n,
+    const uint32_t *starts, size_t starts_length,
+    const uint32_t *dependencies, size_t dependencies_length,
+    const uint32_t *hosts, size_t hosts_length,
+    const uint32_t *area, size_t area_length,
+    const uint64_t *from, size_t from_length,
+    const uint64_t *to, size_t to_length);
+
+/* The number of distinct edges. */
+nidskalm_reply reduced_chunk_graph_edge_count(
+    uint64_t a, uint64_t d, uint64_t e, uint64_t n,
+    const uint32_t *starts, size_t starts_length,
+    const uint32_t *dependencies, size_t dependencies_length,
+    const uint32_t *hosts, size_t hosts_length,
+    const uint32_t *area, size_t area_length);
+
+/* The k-th edge, from 0, by rising source set, then target set. */
+nidskalm_edge_reply reduced_chunk_graph_edge_at(
+    uint64_t a, uint64_t d, uint64_t e, uint64_t n,
+    const uint32_t *starts, size_t starts_length,
+    const uint32_t *dependencies, size_t dependencies_length,
+    const uint32_t *hosts, size_t hosts_length,
+    const uint32_t *area, size_t area_length,
+    uint64_t k);
+
+/* ---- The merge graph ----
+ *
+ * Every call is lent its sizes: room for C chunks, M modules, room for L list entries, E entry bits. The area has at
+ * least NIDSKALM_MERGE_AREA(c, m, l) numbers; chunk x depends on chunk y where area[x * c + y] is 1. `side_effects` has
+ * one number per module, nonzero means yes. A call without an answer gives value 0.
+ */
+
+/* Loads `initial` chunks: `module_starts` (initial + 1) and `modules` list their modules; set i of `sets` (w numbers
+ * each) is the one of chunk set_chunks[i]. */
+nidskalm_reply chunk_optimization_graph_new(
+    uint64_t c, uint64_t m, uint64_t l, uint64_t e,
+    uint64_t initial,
+    const uint32_t *module_starts, size_t module_starts_length,
+    const uint32_t *modules, size_t modules_length,
+    const uint64_t *sets, size_t sets_length,
+    const uint32_t *set_chunks, size_t set_chunks_length,
+    const uint32_t *side_effects, size_t side_effects_length,
+    uint32_t *area, size_t area_length);
+
+/* Appends a module to the chunk of the set `bits`, or to a new chunk of that set, which then needs creation. */
+nidskalm_reply chunk_optimization_graph_init_module_assignment(
+    uint64_t c, uint64_t m, uint64_t l, uint64_t e,
+    uint32_t *area, size_t area_length,
+    uint32_t module, const uint64_t *bits, size_t bits_length,
+    const uint32_t *side_effects, size_t side_effects_length);
+
+/* Appends a module to a chunk. */
+nidskalm_reply chunk_optimization_graph_add_module_to_chunk(
+    uint64_t c, uint64_t m, uint64_t l, uint64_t e,
+    uint32_t *area, size_t area_length,
+    uint32_t module, uint32_t chunk,
+    const uint32_t *side_effects, size_t side_effects_length);
+
+/* Registers a chunk under a key below C, in the place of an older one. */
+nidskalm_reply chunk_optimization_graph_register_chunk_graph_index(
+    uint64_t c, uint64_t m, uint64_t l, uint64_t e,
+    uint32_t *area, size_t area_length,
+    uint32_t key, uint32_t chunk);
+
+/* The chunk registered under a key, or NIDSKALM_NONE. */
+nidskalm_reply chunk_optimization_graph_to_temp_idx(
+    uint64_t c, uint64_t m, uint64_t l, uint64_t e,
+    const uint32_t *area, size_t area_length,
+    uint32_t key);
+
+/* Adds to each chunk's dependencies the other chunks that its modules' dependencies are in: module i depends on
+ * dependencies[starts[i]] up to dependencies[starts[i + 1] - 1]. `starts` has M + 1 numbers. */
+nidskalm_reply chunk_optimization_graph_calc_chunk_dependencies(
+    uint64_t c, uint64_t m, uint64_t l, uint64_t e,
+    uint32_t *area, size_t area_length,
+    const uint32_t *starts, size_t starts_length,
+    const uint32_t *dependencies, size_t dependencies_length);
+
+/* Value 1 where merging source into target would close a cycle, or source depends directly on target. */
+nidskalm_reply chunk_optimization_graph_would_create_circular_dependency(
+    uint64_t c, uint64_t m, uint64_t l, uint64_t e,
+    const uint32_t *area, size_t area_length,
+    uint32_t source, uint32_t target);
+
+/* Value 1 where `from` reaches `to` in one step or more. */
+nidskalm_reply chunk_optimization_graph_is_reachable(
+    uint64_t c, uint64_t m, uint64_t l, uint64_t e,
+    const uint32_t *area, size_t area_length,
+    uint32_t from, uint32_t to);
+
+/* Gives target the dependencies of source, which loses them. */
+nidskalm_reply chunk_optimization_graph_merge_chunk_dependencies(
+    uint64_t c, uint64_t m, uint64_t l, uint64_t e,
+    uint32_t *area, size_t area_length,
+    uint32_t target, uint32_t source);
+
+/* The pass over the chunks needing creation, in rising order. All four lists have one item for each: a proposed initial
+ * chunk or NIDSKALM_NONE, a bar (nonzero bars merging), and the answers: kind 0 merged into chunk `number`, kind 1
+ * created and registered under `number`. Value: how many chunks needed creation. */
+nidskalm_reply chunk_optimization_graph_pass(
+    uint64_t c, uint64_t m, uint64_t l, uint64_t e,
+    uint32_t *area, size_t area_length,
+    const uint32_t *proposals, size_t proposals_length,
+    const uint32_t *bars, size_t bars_length,
+    uint32_t *kinds, size_t kinds_length,
+    uint32_t *numbers, size_t numbers_length);
+
+#ifdef __cplusplus
+}
+#endif
+
+#endif

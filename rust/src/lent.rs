@@ -1,0 +1,363 @@
+//! The calls on areas that the caller lends: safe, with the replies of [`raw`](crate::raw).
+//!
+//! An area is any slice of numbers; [`move_area_length`] and [`merge_area_length`] say how long it must be at least. What
+//! lies beyond is not touched. Sizes are taken from the lists, so that only wrong relations between them are refused.
+use crate::raw::{self, EdgeReply, Reply, SetReply};
+use crate::{InitialChunks, Load, Size};
+
+/// Numbers that a move graph's area must have, or none where the sizes are over the limits.
+pub fn move_area_length(load: &Load, sets: u64) -> Option<usize> {
+    let (a, d, e) = (load.atoms(), load.dependencies.len(), load.hosts.len());
+    let within = a <= 512 && d <= 8192 && e <= 256 && sets <= 1024;
+    let n = if within {
+        usize::try_from(sets).ok()?
+    } else {
+        return None;
+    };
+    Some(n * n + 24 * (a + n + d + e + 1))
+}
+
+/// Numbers that a merge graph's area must have, or none where the sizes are over the limits.
+pub fn merge_area_length(size: Size) -> Option<usize> {
+    if size.chunks > 1024 || size.modules > 4096 || size.entries > 8192 {
+        return None;
+    }
+    let (c, m, l) = (
+        size.chunks as usize,
+        size.modules as usize,
+        size.entries as usize,
+    );
+    Some(c * c + 32 * (c + m + l + 1))
+}
+
+/// Calls with the load's numbers and lists first. Each pointer is a slice's, with its length.
+macro_rules! with_load {
+    ($call:ident, $load:expr, $sets:expr $(, $more:expr)*) => {{
+        let (load, sets): (&Load, u64) = ($load, $sets);
+        // SAFETY: every pointer comes from a slice and is followed by its length; a call writes only to `*mut` lists.
+        unsafe {
+            raw::$call(
+                load.atoms() as u64, load.dependencies.len() as u64, load.hosts.len() as u64, sets,
+                load.starts.as_ptr(), load.starts.len(),
+                load.dependencies.as_ptr(), load.dependencies.len(),
+                load.hosts.as_ptr(), load.hosts.len()
+                $(, $more)*
+            )
+        }
+    }};
+}
+
+/// Calls with the sizes first.
+macro_rules! with_size {
+    ($call:ident, $size:expr $(, $more:expr)*) => {{
+        let size: Size = $size;
+        // SAFETY: as for `with_load`.
+        unsafe { raw::$call(size.chunks, size.modules, size.entries, size.entry_bits $(, $more)*) }
+    }};
+}
+
+/// Loads a move graph with room for `n` sets; value 0 acyclic, 1 cyclic.
+pub fn reduced_chunk_graph_new(load: &Load, n: u64, sets: &[u64], area: &mut [u32]) -> Reply {
+    with_load!(
+        reduced_chunk_graph_new,
+        load,
+        n,
+        sets.as_ptr(),
+        sets.len(),
+        area.as_mut_ptr(),
+        area.len()
+    )
+}
+
+/// Tries a move; value 1 accepted, 0 rejected.
+pub fn reduced_chunk_graph_try_move(
+    load: &Load,
+    n: u64,
+    area: &mut [u32],
+    atom: u32,
+    bits: &[u64],
+) -> Reply {
+    let (lent, length) = (area.as_mut_ptr(), area.len());
+    with_load!(
+        reduced_chunk_graph_try_move,
+        load,
+        n,
+        lent,
+        length,
+        atom,
+        bits.as_ptr(),
+        bits.len()
+    )
+}
+
+/// An atom's set.
+pub fn reduced_chunk_graph_atom_set(load: &Load, n: u64, area: &[u32], atom: u32) -> SetReply {
+    with_load!(
+        reduced_chunk_graph_atom_set,
+        load,
+        n,
+        area.as_ptr(),
+        area.len(),
+        atom
+    )
+}
+
+/// The number of atoms in a set.
+pub fn reduced_chunk_graph_atom_count(load: &Load, n: u64, area: &[u32], bits: &[u64]) -> Reply {
+    with_load!(
+        reduced_chunk_graph_atom_count,
+        load,
+        n,
+        area.as_ptr(),
+        area.len(),
+        bits.as_ptr(),
+        bits.len()
+    )
+}
+
+/// An edge's multiplicity.
+pub fn reduced_chunk_graph_multiplicity(
+    load: &Load,
+    n: u64,
+    area: &[u32],
+    from: &[u64],
+    to: &[u64],
+) -> Reply {
+    let (lent, length, from, from_length) = (area.as_ptr(), area.len(), from.as_ptr(), from.len());
+    with_load!(
+        reduced_chunk_graph_multiplicity,
+        load,
+        n,
+        lent,
+        length,
+        from,
+        from_length,
+        to.as_ptr(),
+        to.len()
+    )
+}
+
+/// The number of distinct edges.
+pub fn reduced_chunk_graph_edge_count(load: &Load, n: u64, area: &[u32]) -> Reply {
+    with_load!(
+        reduced_chunk_graph_edge_count,
+        load,
+        n,
+        area.as_ptr(),
+        area.len()
+    )
+}
+
+/// The k-th edge, from 0, by rising source set, then target set.
+pub fn reduced_chunk_graph_edge_at(load: &Load, n: u64, area: &[u32], k: u64) -> EdgeReply {
+    with_load!(
+        reduced_chunk_graph_edge_at,
+        load,
+        n,
+        area.as_ptr(),
+        area.len(),
+        k
+    )
+}
+
+/// Loads a merge graph. `sets` holds the named sets' numbers, as many for each as the entry bits need.
+pub fn chunk_optimization_graph_new(
+    size: Size,
+    initial: &InitialChunks,
+    sets: &[u64],
+    side_effects: &[u32],
+    area: &mut [u32],
+) -> Reply {
+    with_size!(
+        chunk_optimization_graph_new,
+        size,
+        initial.module_starts.len().saturating_sub(1) as u64,
+        initial.module_starts.as_ptr(),
+        initial.module_starts.len(),
+        initial.modules.as_ptr(),
+        initial.modules.len(),
+        sets.as_ptr(),
+        sets.len(),
+        initial.set_chunks.as_ptr(),
+        initial.set_chunks.len(),
+        side_effects.as_ptr(),
+        side_effects.len(),
+        area.as_mut_ptr(),
+        area.len()
+    )
+}
+
+/// Appends a module to the chunk of a set, or to a new chunk that needs creation.
+pub fn chunk_optimization_graph_init_module_assignment(
+    size: Size,
+    area: &mut [u32],
+    module: u32,
+    bits: &[u64],
+    side_effects: &[u32],
+) -> Reply {
+    let (lent, length, bits, bits_length) =
+        (area.as_mut_ptr(), area.len(), bits.as_ptr(), bits.len());
+    let (effects, count) = (side_effects.as_ptr(), side_effects.len());
+    with_size!(
+        chunk_optimization_graph_init_module_assignment,
+        size,
+        lent,
+        length,
+        module,
+        bits,
+        bits_length,
+        effects,
+        count
+    )
+}
+
+/// Appends a module to a chunk.
+pub fn chunk_optimization_graph_add_module_to_chunk(
+    size: Size,
+    area: &mut [u32],
+    module: u32,
+    chunk: u32,
+    side_effects: &[u32],
+) -> Reply {
+    let (lent, length) = (area.as_mut_ptr(), area.len());
+    let (effects, count) = (side_effects.as_ptr(), side_effects.len());
+    with_size!(
+        chunk_optimization_graph_add_module_to_chunk,
+        size,
+        lent,
+        length,
+        module,
+        chunk,
+        effects,
+        count
+    )
+}
+
+/// Registers a chunk under a key.
+pub fn chunk_optimization_graph_register_chunk_graph_index(
+    size: Size,
+    area: &mut [u32],
+    key: u32,
+    chunk: u32,
+) -> Reply {
+    let (lent, length) = (area.as_mut_ptr(), area.len());
+    with_size!(
+        chunk_optimization_graph_register_chunk_graph_index,
+        size,
+        lent,
+        length,
+        key,
+        chunk
+    )
+}
+
+/// The chunk registered under a key, or 4,294,967,295.
+pub fn chunk_optimization_graph_to_temp_idx(size: Size, area: &[u32], key: u32) -> Reply {
+    with_size!(
+        chunk_optimization_graph_to_temp_idx,
+        size,
+        area.as_ptr(),
+        area.len(),
+        key
+    )
+}
+
+/// Adds the chunk dependencies that module dependencies give.
+pub fn chunk_optimization_graph_calc_chunk_dependencies(
+    size: Size,
+    area: &mut [u32],
+    starts: &[u32],
+    dependencies: &[u32],
+) -> Reply {
+    let (lent, length, starts, starts_length) =
+        (area.as_mut_ptr(), area.len(), starts.as_ptr(), starts.len());
+    let (list, count) = (dependencies.as_ptr(), dependencies.len());
+    with_size!(
+        chunk_optimization_graph_calc_chunk_dependencies,
+        size,
+        lent,
+        length,
+        starts,
+        starts_length,
+        list,
+        count
+    )
+}
+
+/// Value 1: merging source into target is warned of.
+pub fn chunk_optimization_graph_would_create_circular_dependency(
+    size: Size,
+    area: &[u32],
+    source: u32,
+    target: u32,
+) -> Reply {
+    let (lent, length) = (area.as_ptr(), area.len());
+    with_size!(
+        chunk_optimization_graph_would_create_circular_dependency,
+        size,
+        lent,
+        length,
+        source,
+        target
+    )
+}
+
+/// Value 1: `from` reaches `to` in one step or more.
+pub fn chunk_optimization_graph_is_reachable(
+    size: Size,
+    area: &[u32],
+    from: u32,
+    to: u32,
+) -> Reply {
+    with_size!(
+        chunk_optimization_graph_is_reachable,
+        size,
+        area.as_ptr(),
+        area.len(),
+        from,
+        to
+    )
+}
+
+/// Merges the dependencies of source into target.
+pub fn chunk_optimization_graph_merge_chunk_dependencies(
+    size: Size,
+    area: &mut [u32],
+    target: u32,
+    source: u32,
+) -> Reply {
+    let (lent, length) = (area.as_mut_ptr(), area.len());
+    with_size!(
+        chunk_optimization_graph_merge_chunk_dependencies,
+        size,
+        lent,
+        length,
+        target,
+        source
+    )
+}
+
+/// The pass; value is the number of candidates, one entry each in the four lists.
+pub fn chunk_optimization_graph_pass(
+    size: Size,
+    area: &mut [u32],
+    proposals: &[u32],
+    bars: &[u32],
+    kinds: &mut [u32],
+    numbers: &mut [u32],
+) -> Reply {
+    with_size!(
+        chunk_optimization_graph_pass,
+        size,
+        area.as_mut_ptr(),
+        area.len(),
+        proposals.as_ptr(),
+        proposals.len(),
+        bars.as_ptr(),
+        bars.len(),
+        kinds.as_mut_ptr(),
+        kinds.len(),
+        numbers.as_mut_ptr(),
+        numbers.len()
+    )
+}

@@ -1,0 +1,41 @@
+//! Trial moves and merge warnings over script chunks.
+//!
+//! Two graphs, both worked out by a library whose every function is proved:
+//!
+//! - [`MoveGraph`] holds atoms (groups of modules), each in a set of entry bits. Atoms with equal sets form a chunk. A
+//!   move of an atom to another set is accepted exactly when the chunk graph then has no cycle.
+//! - [`MergeGraph`] holds chunks with modules and dependencies. It warns of merges that would close a cycle, merges, and
+//!   runs the pass that decides about each chunk that needs creation.
+//!
+//! Nothing here panics on odd numbers: a call answers, or gives a [`Refusal`] and has changed nothing. Both types own
+//! their work area; [`lent`] has the same calls on areas that you lend, and [`raw`] the C interface.
+//!
+//! ```
+//! use nidskalm::{EntrySet, Load, MoveGraph, NONE};
+//!
+//! // Atoms 1 and 2 depend on atom 0; no entry bit has a host.
+//! let load = Load { starts: &[0, 0, 1, 2], dependencies: &[0, 0], hosts: &[NONE, NONE] };
+//! let sets = [EntrySet::from(3), EntrySet::from(1), EntrySet::from(2)];
+//! let mut graph = MoveGraph::new(load, 8, &sets)?;
+//! assert!(graph.try_move(0, EntrySet::from(1))?);
+//! assert_eq!(graph.atom_set(0)?, EntrySet::from(1));
+//! assert_eq!(graph.edges()?.len(), 1);
+//! assert_eq!(graph.try_move(3, EntrySet::from(1)).unwrap_err().row(), 10);
+//! # Ok::<(), nidskalm::Refusal>(())
+//! ```
+#![warn(missing_docs)]
+
+mod entry_set;
+pub mod lent;
+mod merge_graph;
+mod move_graph;
+pub mod raw;
+mod refusal;
+
+pub use entry_set::EntrySet;
+pub use merge_graph::{Assignment, ChunkIdx, InitialChunks, MergeGraph, ModuleIdx, Size};
+pub use move_graph::{Edge, Load, MoveGraph};
+pub use refusal::Refusal;
+
+/// No host for an entry bit.
+pub const NONE: u32 = u32::MAX;

@@ -1,0 +1,68 @@
+//! The rows of refusals.
+use std::error::Error;
+use std::fmt;
+
+/// A call that was refused, by the number of its row. Nothing was changed.
+///
+/// ```
+/// use nidskalm::{EntrySet, Load, MoveGraph};
+///
+/// let load = Load { starts: &[0, 1], dependencies: &[0], hosts: &[] };
+/// let refusal = MoveGraph::new(load, 1, &[EntrySet::from(0)]).unwrap_err();
+/// assert_eq!(refusal.row(), 5);
+/// assert_eq!(refusal.to_string(), "refused 5: a dependency is no atom, or the atom itself");
+/// ```
+#[derive(Clone, Copy, Debug, PartialEq, Eq, Hash, PartialOrd, Ord)]
+pub struct Refusal(u64);
+
+impl Refusal {
+    /// The row's number, from 1.
+    pub fn row(self) -> u64 {
+        self.0
+    }
+
+    /// The row's condition in words.
+    pub fn condition(self) -> &'static str {
+        match self.0 {
+            1 => "more than 512 atoms, 8,192 dependencies or 256 entry bits, or room for fewer sets than atoms or over 1,024",
+            2 => "a list of the load hasn't the length called for",
+            3 => "the work area is too short",
+            4 => "the starts don't begin at 0, fall, or don't end at the number of dependencies",
+            5 => "a dependency is no atom, or the atom itself",
+            6 => "a host is neither none nor an atom",
+            7 => "an entry set has a bit at or above the number of entry bits",
+            8 => "two atoms have equal sets",
+            9 => "the move graph's area is inconsistent",
+            10 => "there is no such atom",
+            11 => "the set hasn't the right count of numbers, or a bit at or above the number of entry bits",
+            12 => "the target is the atom's present set",
+            13 => "the target set is new and no more sets can be registered",
+            14 => "a size of the merge graph is over its limit, or there is room for no chunk",
+            15 => "a list of the merge graph hasn't the right length or faulty starts, or its area is too short",
+            16 => "a module, chunk, key or set is out of range",
+            17 => "one set is named twice",
+            18 => "there is no room for so many chunks",
+            19 => "there is no room for another list entry",
+            20 => "source and target are the same chunk",
+            21 => "the merge graph's area is inconsistent",
+            _ => "no row of that number is known",
+        }
+    }
+
+    /// The value, or the refusal that a reply holds.
+    pub(crate) fn check<T>(row: u64, value: T) -> Result<T, Self> {
+        if row == 0 {
+            Ok(value)
+        } else {
+            Err(Self(row))
+        }
+    }
+}
+
+impl fmt::Display for Refusal {
+    fn fmt(&self, out: &mut fmt::Formatter) -> fmt::Result {
+        write!(out, "refused {}: {}", self.0, self.condition())
+    }
+}
+
+impl Error for Refusal {}
