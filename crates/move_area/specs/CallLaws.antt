@@ -13,7 +13,7 @@ use Rattle.graphs.specs.Bools.{and-left, and-right, and-both}
 use Rattle.graphs.specs.Lists.{has}
 use Rattle.graphs.specs.Tab.{tab, tab-length, tab-at}
 use Rattle.graphs.specs.Walk.{via, cyclic}
-use Rattle.ledger.specs.Sets.{value, legal}
+use Rattle.entry_set.specs.Sets.{value, legal}
 use Rattle.ledger.specs.Graph.{Load, at, edge}
 use Rattle.ledger.specs.Answer.{Answer, refused, rejected, is-refused}
 use Rattle.ledger.specs.Ledger.{Ledger, step1, step2, step3, full, move, try-move, call}

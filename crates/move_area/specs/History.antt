@@ -8,7 +8,7 @@ use lib.Dec.{eqb}
 use lib.ListN.{length, replicate, length-replicate, getD-replicate}
 use borrow.Author.Tests.{eqb-true, eqb-false}
 use Rattle.graphs.specs.Bools.{fails}
-use Rattle.ledger.specs.Sets.{width}
+use Rattle.entry_set.specs.Sets.{width}
 use Rattle.ledger.specs.Graph.{Load, at}
 use Rattle.ledger.specs.Answer.{Answer, refused, is-refused}
 use Rattle.ledger.specs.Ledger.{Ledger, Call, try-move, asks, move, ask, call, answers, ledger, loaded}
