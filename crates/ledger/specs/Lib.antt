@@ -12,3 +12,6 @@ pub mod Sound
 pub mod Nodes
 pub mod NodeLaws
 pub mod NodeWalks
+pub mod NodeMoves
+pub mod Edges
+pub mod NodeListing

@@ -11,7 +11,7 @@ use lib.ListN.{length, getD}
 use borrow.Author.Tests.{ltb-true, lt-ltb, eqb-true, eqb-false, eq-eqb, ne-eqb}
 use Rattle.graphs.specs.Bools.{and-both, fails, alike}
 use Rattle.graphs.specs.Count.{count, count-ext, count-add, count-all-no}
-use Rattle.graphs.specs.Lists.{has, has-place, below, has-below}
+use Rattle.graphs.specs.Lists.{has, has-at, has-place, below, has-below}
 use Rattle.graphs.specs.Slots.{same, slot, slotEdge, Ends}
 use Rattle.graphs.specs.Slots as slots
 use Rattle.graphs.specs.SlotLaws.{same-yes, same-ends, edge-slot, slot-edge, mult-self}
@@ -206,3 +206,34 @@ module _ {load : Load} {nodes sets : List ℕ} (o : InOrder load) (p : Placing l
     -- a node that has no set is in no component
     pub only-outside : (x : ℕ) → length sets ≤ x → only (node-edge load nodes sets) (below n) x ≡ false
     only-outside x b = fails _ (λ h. omega (arith, walk-from (λ x y q. edge-inside x y q .0) (only-walk _ (below n) nodes-hold x .0 h .0)))
+
+-- a set that isn't registered has no atom and no edge: "both 0 where a set is unseen"
+module _ {load : Load} {nodes sets : List ℕ} (p : Placing load nodes sets) where
+  seen : (X i : ℕ) → i < load .A → at (placed nodes sets) i ≡ X → has X sets ≡ true
+  seen X i l e =
+      subst (λ Z. has Z sets ≡ true) (sym (placed-at nodes sets i (omega (arith, p .atoms))) ∙ e) (has-at sets (at nodes i) (p .inside i l))
+
+  placed-seen : (X : ℕ) → has X (placed nodes sets) ≡ true → has X sets ≡ true
+  placed-seen X h =
+      let r = has-place X (placed nodes sets) h in
+      seen X (r .0) (omega (arith, r .1, placed-length nodes sets, p .atoms)) (r .2)
+
+  pub members-unseen : (X : ℕ) → has X sets ≡ false → members load (placed nodes sets) X ≡ 0
+  members-unseen X h = go (decLt 0 (members load (placed nodes sets) X))
+    where
+      go : Dec (0 < members load (placed nodes sets) X) → members load (placed nodes sets) X ≡ 0
+      go (yes l) = let r = occupied-by load (placed nodes sets) X (lt-ltb 0 _ l) in absurd (true≢false (sym (seen X (r .0) (r .1) (r .2)) ∙ h))
+      go (no l) = omega arith
+
+  pub mult-unseen : (X Y : ℕ) → (has X sets && has Y sets) ≡ false → mult load (placed nodes sets) X Y ≡ 0
+  unfolding edge
+  mult-unseen X Y h = go (decLt 0 (mult load (placed nodes sets) X Y))
+    where
+      long : length (placed nodes sets) ≡ load .A
+      long = placed-length nodes sets ∙ p .atoms
+
+      go : Dec (0 < mult load (placed nodes sets) X Y) → mult load (placed nodes sets) X Y ≡ 0
+      go (yes l) =
+          let e = lt-ltb 0 _ l in
+          absurd (true≢false (sym (and-both (has X sets) _ (placed-seen X (edge-source load (placed nodes sets) long X Y e)) (placed-seen Y (edge-target load (placed nodes sets) long X Y e))) ∙ h))
+      go (no l) = omega arith
