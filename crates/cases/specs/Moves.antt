@@ -5,8 +5,8 @@ use lib.ListN.{replicate}
 use Rattle.ledger.specs.Graph.{Load, none}
 use Rattle.ledger.specs.Answer.{Answer, refused, acyclic, cyclic, accepted, rejected, set, number, edge}
 use Rattle.ledger.specs.Answer as answer
-use Rattle.ledger.specs.Ledger.{Ledger, Call, try-move, asks, atom-set, atom-count, multiplicity, edge-count, edge-at}
-use Rattle.cases.specs.Run.{MoveCase, MoveOutcome, every, shut}
+use Rattle.ledger.specs.Ledger.{Ledger, try-move, asks, atom-set, atom-count, multiplicity, edge-count, edge-at}
+use Rattle.cases.specs.Run.{MoveCase, every, shut}
 
 abbrev nobody : ℕ → List ℕ
 nobody n = replicate n none

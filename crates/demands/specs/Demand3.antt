@@ -2,10 +2,10 @@
 use Prim.Native.Nat.{ℕ, _<_}
 use native.Mathlib.Omega.{arith}
 use mathlib.Core.Path.{_≡_, refl, sym, ap, ap₂, subst, _∙_}
-use mathlib.Core.Bool.{Bool, not, cond, _&&_}
+use mathlib.Core.Bool.{not, cond, _&&_}
 use mathlib.Core.List.{List}
 use lib.Dec.{leb, eqb}
-use lib.ListN.{length, set}
+use lib.ListN.{set}
 use lib.Seq.{ext-getD, getD-set-other, set-comm}
 use Rattle.graphs.specs.Walk.{cyclic, only}
 use Rattle.entry_set.specs.Sets.{value, legal}

@@ -1,11 +1,11 @@
 -- The ledger after a loading and a list of calls. Assumes nothing.
 use Prim.Native.Nat.{ℕ}
-use mathlib.Core.Path.{_≡_, refl, ap, _∙_}
-use mathlib.Core.Bool.{Bool, false}
+use mathlib.Core.Path.{_≡_, refl, ap}
+use mathlib.Core.Bool.{false}
 use mathlib.Core.List.{List, [], _∷_, _++_}
 use lib.ListN.{length}
 use Rattle.ledger.specs.Graph.{Load}
-use Rattle.ledger.specs.Answer.{Answer, is-refused}
+use Rattle.ledger.specs.Answer.{is-refused}
 use Rattle.ledger.specs.Ledger.{Ledger, loaded, Call, call, answers, ledger}
 use Rattle.ledger.specs.Loading.{entry-sets, loading}
 use Rattle.ledger.specs.LoadLaws.{entry-sets-length, loading-unrefused, loading-row-none}

@@ -1,13 +1,12 @@
 -- For the code: the listing of edges over any rising list of sets that holds those of the placement, counted row by row. Assumes nothing.
 use Prim.Native.Nat.{ℕ, zero, suc, _+_, _≤_, _<_}
 use native.Mathlib.Omega.{arith}
-use mathlib.Core.Path.{_≡_, refl, sym, ap, ap₂, subst, _∙_}
+use mathlib.Core.Path.{_≡_, refl, sym, ap, ap₂, _∙_}
 use mathlib.Core.Bool.{Bool, true, false, cond, _&&_, _||_, true≢false}
 use mathlib.Core.List.{List, [], _∷_, _++_}
-use lib.Dec.{ltb, eqb}
+use lib.Dec.{eqb}
 use lib.ListN.{length, length-append}
 use borrow.Author.Tests.{eqb-true}
-use Rattle.graphs.specs.Bools.{alike, or-cases, or-left, or-right}
 use Rattle.graphs.specs.Count.{ind, count, count-none}
 use Rattle.graphs.specs.Lists.{any, has}
 use Rattle.graphs.specs.Total.{total}

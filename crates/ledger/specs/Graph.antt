@@ -1,6 +1,6 @@
 -- The chunk graph of a load under a placement (01, "What a move asks of the graph"). A set of entries is a number: bit e counts 2 ^ e.
 -- A placement is the list of each atom's set. Assumes nothing.
-use Prim.Native.Nat.{ℕ, zero, suc, _+_, _^_}
+use Prim.Native.Nat.{ℕ, suc, _+_, _^_}
 use mathlib.Core.Bool.{Bool, not, cond, _&&_}
 use mathlib.Core.List.{List, [], _∷_, _++_}
 use lib.Dec.{leb, ltb, eqb}

@@ -5,7 +5,7 @@ use native.Mathlib.Numerals.{add-one}
 use native.Mathlib.Decide.{ℕ-discrete, decLt}
 use mathlib.Core.Path.{_≡_, refl, sym, ap, _∙_}
 use mathlib.Core.Logic.{_↔_}
-use mathlib.Core.Bool.{Bool, true, false, not, cond, _&&_, _||_, true≢false}
+use mathlib.Core.Bool.{Bool, true, false, not, cond, _||_, true≢false}
 use mathlib.Core.List.{List}
 use lib.Dec.{leb, ltb, eqb}
 use lib.ListN.{length}
@@ -17,7 +17,7 @@ use Rattle.graphs.specs.Tab.{tab-length, tab-at}
 use Rattle.graphs.specs.Walk.{cyclic}
 use Rattle.entry_set.specs.Sets.{width}
 use Rattle.ledger.specs.Graph.{Load, none, at, owner, edge}
-use Rattle.ledger.specs.Answer.{Answer, refused, acyclic, is-refused}
+use Rattle.ledger.specs.Answer.{refused, acyclic, is-refused}
 use Rattle.ledger.specs.Answer as answer
 use Rattle.ledger.specs.Loading.{row1, row2, row3, row4, row5, row6, first-row, lent-set, entry-sets, row7, row8, loading-row, loading}
 

@@ -1,5 +1,5 @@
 -- Laws of a single move on the ledger: its rows and steps as one choice, its length, its registering. Assumes nothing.
-use Prim.Native.Nat.{ℕ, zero, suc, _+_, _≤_, _<_}
+use Prim.Native.Nat.{ℕ, _+_}
 use native.Mathlib.Omega.{arith}
 use mathlib.Core.Path.{_≡_, refl, sym, ap, _∙_}
 use mathlib.Core.Logic.{_↔_}
@@ -13,7 +13,7 @@ use Rattle.graphs.specs.Lists.{any, has}
 use Rattle.graphs.specs.Walk.{cyclic}
 use Rattle.entry_set.specs.Sets.{value, legal}
 use Rattle.ledger.specs.Graph.{Load, at, edge}
-use Rattle.ledger.specs.Answer.{Answer, refused, accepted, rejected, is-refused}
+use Rattle.ledger.specs.Answer.{refused, accepted, rejected, is-refused}
 use Rattle.ledger.specs.Ledger.{Ledger, Answered, gives, register, full, step1, step2, step3, move, Call, try-move, asks, call, ledger}
 
 -- the choice that a move makes by its rows 10 to 13 and its steps

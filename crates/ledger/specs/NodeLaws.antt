@@ -3,19 +3,16 @@ use Prim.Native.Nat.{ℕ, zero, suc, _+_, _-_, _^_, _≤_, _<_}
 use native.Mathlib.Omega.{arith}
 use native.Mathlib.Decide.{ℕ-discrete}
 use native.Mathlib.Numerals.{add-one}
-use mathlib.Core.Path.{_≡_, refl, sym, ap, ap₂, subst, _∙_}
+use mathlib.Core.Path.{_≡_, refl, sym, ap, ap₂, _∙_}
 use mathlib.Core.Bool.{Bool, true, false, not, cond, _&&_}
-use mathlib.Core.List.{List, [], _∷_, _++_, map}
-use lib.Dec.{ltb, eqb}
+use mathlib.Core.List.{List, [], _∷_, _++_}
+use lib.Dec.{eqb}
 use lib.ListN.{length, getD, set, length-map}
 use borrow.Author.Tests.{lt-ltb, le-ltb, eqb-true, eqb-false, eq-eqb, ne-eqb, not-true}
 use Rattle.graphs.specs.Bools.{and-left, and-right, and-both, fails, alike}
-use Rattle.graphs.specs.Count.{count, count-ext}
+use Rattle.graphs.specs.Count.{count-ext}
 use Rattle.graphs.specs.Tab.{tab-length, tab-at}
-use Rattle.graphs.specs.Slots.{Ends}
 use Rattle.ledger.specs.Graph.{Load, none, at, owner, members, occupied}
-use Rattle.ledger.specs.GraphLaws.{occupied-by}
-use Rattle.ledger.specs.LoadLaws.{InOrder}
 use Rattle.ledger.specs.Sound.{snoc-old}
 use Rattle.ledger.specs.Nodes.{placed, Placing, highest, fronts, front, faced, face-source, face-target, source, target, sources, targets}
 

@@ -1,12 +1,11 @@
 -- For the code: the number of edges and the k-th edge, over a list of nodes whose sets rise. Assumes nothing.
-use Prim.Native.Nat.{ℕ, zero, suc, _+_, _≤_, _<_}
+use Prim.Native.Nat.{ℕ, suc, _+_, _≤_, _<_}
 use native.Mathlib.Omega.{arith}
 use mathlib.Core.Path.{_≡_, refl, sym, ap, ap₂, subst, _∙_}
-use mathlib.Core.Bool.{Bool, true, false}
+use mathlib.Core.Bool.{Bool, true}
 use mathlib.Core.List.{List}
 use lib.Dec.{ltb}
 use lib.ListN.{length}
-use borrow.Author.Tests.{lt-ltb}
 use Rattle.graphs.specs.Count.{count, count-ext, count-mono, count-yes}
 use Rattle.graphs.specs.Lists.{has, has-at, has-place}
 use Rattle.graphs.specs.Slots.{slotEdge}
@@ -15,7 +14,6 @@ use Rattle.ledger.specs.Graph.{Load, at, mult, edge, row, rows, edges}
 use Rattle.ledger.specs.LoadLaws.{InOrder}
 use Rattle.ledger.specs.Answer as answer
 use Rattle.ledger.specs.Ledger.{kth}
-use Rattle.ledger.specs.Listing.{Rising}
 use Rattle.ledger.specs.Edges.{rising-of, edges-over, row-length, rows-length, kth-row, kth-rows, kth-past}
 use Rattle.ledger.specs.Nodes.{placed, Placing, node-edge, node-mult}
 use Rattle.ledger.specs.NodeLaws.{placed-length, placed-at}

@@ -1,5 +1,5 @@
 -- For the code: a move in node numbers. Assumes nothing.
-use Prim.Native.Nat.{ℕ, zero, suc, _+_, _≤_, _<_}
+use Prim.Native.Nat.{ℕ, _+_, _≤_, _<_}
 use native.Mathlib.Omega.{arith}
 use native.Mathlib.Decide.{ℕ-discrete, decLt}
 use mathlib.Core.Path.{_≡_, refl, sym, ap, ap₂, subst, _∙_}
@@ -12,7 +12,7 @@ use Rattle.graphs.specs.Tab.{tab, tab-length, tab-at}
 use Rattle.graphs.specs.Walk.{via, cyclic, only}
 use Rattle.ledger.specs.Graph.{Load, none, at, edge}
 use Rattle.ledger.specs.GraphLaws.{target-decides}
-use Rattle.ledger.specs.Ledger.{register, full, step1}
+use Rattle.ledger.specs.Ledger.{register, step1}
 use Rattle.ledger.specs.MoveLaws.{register-old, register-new}
 use Rattle.ledger.specs.LoadLaws.{InOrder, Loadable-sets, row8-apart, entry-sets-length, entry-sets-at}
 use Rattle.ledger.specs.Loading.{lent-set, entry-sets}

@@ -1,27 +1,27 @@
 -- For the code: the slots over node numbers have the multiplicities, walks and cycles of the sets. Assumes nothing.
-use Prim.Native.Nat.{ℕ, zero, suc, _+_, _-_, _^_, _≤_, _<_}
+use Prim.Native.Nat.{ℕ, _+_, _-_, _^_, _≤_, _<_}
 use native.Mathlib.Omega.{arith}
 use native.Mathlib.Decide.{ℕ-discrete, decLt}
 use mathlib.Core.Path.{_≡_, refl, sym, ap, ap₂, subst, _∙_}
 use mathlib.Core.Logic.{_⊎_, inl, inr, ⊎-elim}
-use mathlib.Core.Bool.{Bool, true, false, not, _&&_, true≢false}
+use mathlib.Core.Bool.{Bool, true, false, _&&_, true≢false}
 use mathlib.Core.List.{List}
 use lib.Dec.{ltb, eqb}
 use lib.ListN.{length, getD}
-use borrow.Author.Tests.{ltb-true, lt-ltb, eqb-true, eqb-false, eq-eqb, ne-eqb}
+use borrow.Author.Tests.{ltb-true, lt-ltb, eq-eqb, ne-eqb}
 use Rattle.graphs.specs.Bools.{and-both, fails, alike}
-use Rattle.graphs.specs.Count.{count, count-ext, count-add, count-all-no}
+use Rattle.graphs.specs.Count.{count-ext, count-add}
 use Rattle.graphs.specs.Lists.{has, has-at, has-place, below, has-below}
 use Rattle.graphs.specs.Slots.{same, slot, slotEdge, Ends}
 use Rattle.graphs.specs.Slots as slots
-use Rattle.graphs.specs.SlotLaws.{same-yes, same-ends, edge-slot, slot-edge, mult-self}
-use Rattle.graphs.specs.Walk.{Walk, via, cyclic, only}
+use Rattle.graphs.specs.SlotLaws.{same-yes, same-ends, edge-slot, mult-self}
+use Rattle.graphs.specs.Walk.{via, cyclic, only}
 use Rattle.graphs.specs.Walks.{via-walk, cyclic-walk, only-walk, walk-from}
 use Rattle.graphs.specs.Relabel.{Named, via-named, cyclic-named, only-named}
 use Rattle.ledger.specs.Graph.{Load, none, at, owner, lies, members, occupied, entry, facade, mult, edge}
-use Rattle.ledger.specs.GraphLaws.{lies-atom, lies-set, lies-in, occupied-by, entry-lies, lies-entry, Faces, facade-faces, faces-facade, edge-source, edge-target}
+use Rattle.ledger.specs.GraphLaws.{lies-atom, lies-set, lies-in, occupied-by, entry-lies, lies-entry, facade-faces, faces-facade, edge-source, edge-target}
 use Rattle.ledger.specs.LoadLaws.{InOrder}
-use Rattle.ledger.specs.Nodes.{placed, Placing, fronts, sources, targets, node-edge, node-mult}
+use Rattle.ledger.specs.Nodes.{placed, Placing, sources, targets, node-edge, node-mult}
 use Rattle.ledger.specs.NodeLaws.{placed-length, placed-at, members-nodes, source-entry, target-entry, Facing, facing, blank, hostless, slot-facing}
 
 -- the tests are the same over any two lists that hold the source of every edge

@@ -8,7 +8,7 @@ use lib.Dec.{ltb, eqb}
 use lib.ListN.{length}
 use Rattle.graphs.specs.Tab.{tab}
 use Rattle.graphs.specs.Slots.{mult, slotEdge}
-use Rattle.ledger.specs.Graph.{Load, none, at, owner, members, occupied}
+use Rattle.ledger.specs.Graph.{Load, none, at, owner, occupied}
 
 -- each atom's set, from each atom's node
 unfoldable pub placed : List ℕ → List ℕ → List ℕ

@@ -1,11 +1,11 @@
 -- What every ledger after a loading keeps, so that rows 1 to 9 can't fit within a list. Assumes nothing.
-use Prim.Native.Nat.{ℕ, zero, suc, _+_, _^_, _≤_, _<_}
+use Prim.Native.Nat.{ℕ, _+_, _^_, _≤_, _<_}
 use native.Mathlib.Omega.{arith}
 use native.Mathlib.Decide.{ℕ-discrete, decLt}
 use mathlib.Core.Path.{_≡_, refl, sym, ap, subst, _∙_}
-use mathlib.Core.Bool.{Bool, true, false, not, _&&_, true≢false}
+use mathlib.Core.Bool.{Bool, true, false, not, true≢false}
 use mathlib.Core.List.{List, [], _∷_, _++_}
-use lib.Dec.{leb, ltb, eqb}
+use lib.Dec.{leb, eqb}
 use lib.ListN.{length, set, length-set, length-append, List·getD-append}
 use lib.Seq.{getD-set-same, getD-set-other, getD-at}
 use borrow.Author.Tests.{ltb-true, leb-false, eq-eqb, not-false}
@@ -13,7 +13,7 @@ use Rattle.graphs.specs.Bools.{or-right, and-right, and-both, fails}
 use Rattle.graphs.specs.Lists.{has, has-at}
 use Rattle.entry_set.specs.Sets.{value, width, legal}
 use Rattle.ledger.specs.Graph.{Load, at}
-use Rattle.ledger.specs.Ledger.{Ledger, loaded, register, full, step2, step3, move, Call, try-move, asks, call, ledger}
+use Rattle.ledger.specs.Ledger.{Ledger, loaded, register, full, step2, step3, Call, try-move, asks, call, ledger}
 use Rattle.ledger.specs.MoveLaws.{move-steps, steps-keep, has-snoc, seen-stays, register-old, register-new}
 use Rattle.ledger.specs.Loading.{entry-sets}
 use Rattle.ledger.specs.LoadLaws.{Loadable-sets, row7-small, row8-apart, entry-sets-length, entry-sets-at}
