@@ -1,8 +1,8 @@
 -- Tests on numbers that are made of four: equal, less and in range, number by number. Assumes nothing.
-use Prim.Native.Nat.{ℕ, zero, suc, _+_, _-_, _*_, _/_, _%_, _^_, _<_, _≤_}
+use Prim.Native.Nat.{ℕ, suc, _+_, _-_, _*_, _/_, _%_, _^_, _<_, _≤_}
 use mathlib.Core.Path.{_≡_, refl, sym, ap, ap₂, _∙_, subst}
 use mathlib.Core.Bool.{Bool, true, false, cond, _&&_}
-use mathlib.Core.List.{List, [], _∷_}
+use mathlib.Core.List.{[], _∷_}
 use native.Mathlib.Omega.{arith}
 use native.Mathlib.Nat.{mul-le-mul-left, mul-suc, div-eq-of-lt, div-lt-iff-lt-mul}
 use native.Mathlib.Decide.{decLt}

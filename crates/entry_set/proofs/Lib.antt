@@ -1,3 +1,4 @@
+-- The laws that the proofs of `entry_set` cite. Assumes nothing.
 pub mod Compare
 pub mod Ones
 pub mod Places

@@ -3,7 +3,7 @@ use Prim.Native.Nat.{ℕ, zero, suc, _+_, _*_, _/_, _%_, _^_, _≤_, _<_}
 use mathlib.Core.Path.{_≡_, refl, sym, ap, _∙_, subst}
 use mathlib.Core.List.{List, [], _∷_}
 use native.Mathlib.Omega.{arith}
-use native.Mathlib.Nat.{pow-suc, mul-comm, mul-assoc, mul-suc}
+use native.Mathlib.Nat.{pow-suc, mul-comm, mul-assoc}
 use lib.Arith.{lt-one}
 use lib.ListN.{length, getD}
 use lib.Pow.{pow-add, pow-pos}

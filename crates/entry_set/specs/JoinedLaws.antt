@@ -1,10 +1,10 @@
 -- Laws of joined numbers and parts, for any number of bits. Assumes nothing.
-use Prim.Native.Nat.{ℕ, zero, suc, _+_, _*_, _^_, _/_, _%_, _<_, _≤_}
-use mathlib.Core.Path.{_≡_, refl, sym, ap, ap₂, _∙_, subst}
-use mathlib.Core.List.{List, [], _∷_, _++_}
+use Prim.Native.Nat.{ℕ, zero, suc, _+_, _*_, _^_, _/_, _%_, _<_}
+use mathlib.Core.Path.{_≡_, refl, sym, ap, ap₂, _∙_}
+use mathlib.Core.List.{List, [], _∷_}
 use native.Mathlib.Omega.{arith}
 use native.Mathlib.Numerals.{unary-clauses}
-use native.Mathlib.Nat.{mod-lt, mul-comm, mul-suc, add-comm, div-add-mod, mul-assoc, mod-eq-of-lt, div-lt-iff-lt-mul}
+use native.Mathlib.Nat.{mod-lt, mul-comm, mul-suc, div-add-mod, div-lt-iff-lt-mul}
 use lib.Arith.{digits-lt, digits-div, digits-mod, lt-one}
 use lib.Pow.{pow-add, pow-pos}
 use lib.ListN.{length, getD}

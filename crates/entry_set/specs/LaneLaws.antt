@@ -1,6 +1,6 @@
 -- Laws of sets in a work area: each word by its place, a set written is read back, and nothing else changes. Assumes nothing.
-use Prim.Native.Nat.{ℕ, zero, suc, _+_, _*_, _^_, _<_, _≤_}
-use mathlib.Core.Path.{_≡_, refl, sym, ap, _∙_, subst}
+use Prim.Native.Nat.{ℕ, zero, suc, _+_, _*_, _^_, _<_}
+use mathlib.Core.Path.{_≡_, refl, sym, ap, _∙_}
 use mathlib.Core.List.{List, [], _∷_}
 use native.Mathlib.Omega.{arith}
 use native.Mathlib.Nat.{suc-mul, mul-le-mul-right}
@@ -8,7 +8,7 @@ use lib.Pow.{pow-pos}
 use lib.ListN.{length, getD, set, length-set}
 use lib.Seq.{getD-set-same, getD-set-other, ext-getD}
 use Rattle.entry_set.specs.Joined.{joined, parts}
-use Rattle.entry_set.specs.JoinedLaws.{length-parts, parts-below, joined-below, joined-parts, parts-joined}
+use Rattle.entry_set.specs.JoinedLaws.{length-parts, joined-below, joined-parts, parts-joined}
 use Rattle.entry_set.specs.Lanes.{strided, setStrided, laneWords, lanes, setLanes}
 
 pub length-strided : (k : ℕ) (l : List ℕ) (at stride : ℕ) → length (strided k l at stride) ≡ k

@@ -1,19 +1,19 @@
--- Laws of sets as numbers: the four numbers by value, the range. Assumes nothing.
-use Prim.Native.Nat.{ℕ, zero, suc, _+_, _-_, _*_, _^_, _/_, _%_, _<_, _≤_}
+-- Laws of sets as numbers: the four numbers by value, legal sets, the range. Assumes nothing.
+use Prim.Native.Nat.{ℕ, zero, suc, _+_, _-_, _*_, _^_, _<_, _≤_}
 use mathlib.Core.Path.{_≡_, refl, sym, ap, _∙_, subst}
-use mathlib.Core.Bool.{Bool, true, false, cond, _&&_}
+use mathlib.Core.Bool.{Bool, true, false, _&&_, and-eq-true-iff}
 use mathlib.Core.List.{List, [], _∷_}
 use native.Mathlib.Omega.{arith}
-use native.Mathlib.Nat.{mul-comm, mul-le-mul-left, le-trans}
-use native.Mathlib.Decide.{ℕ-discrete, decLe}
-use borrow.Author.Tests.{ltb-true, ltb-false, lt-ltb, le-ltb, eq-eqb, ne-eqb, eqb-true, eqb-false}
+use native.Mathlib.Nat.{mul-comm, mul-le-mul-left, mul-le-mul-right, suc-mul, mod-eq-of-lt, lt-of-lt-of-le}
+use native.Mathlib.Decide.{decLe}
+use borrow.Author.Tests.{ltb-true, ltb-false, lt-ltb, le-ltb, eq-eqb, eqb-true}
 use lib.Dec.{ltb, eqb}
 use lib.ListN.{length, getD}
 use lib.Arith.{digits-lt, lt-one}
-use lib.Pow.{pow-add, pow-pos, pow-mono, pow-lt}
-use Rattle.entry_set.specs.Joined.{joined, parts}
+use lib.Pow.{pow-add, pow-pos, pow-mono}
+use Rattle.entry_set.specs.Joined.{parts}
 use Rattle.entry_set.specs.JoinedLaws.{parts-below, joined-below, joined-parts, parts-joined}
-use Rattle.entry_set.specs.Sets.{value, words, numbers, number, entrySet, Holds}
+use Rattle.entry_set.specs.Sets.{value, words, width, legal, numbers, number, entrySet, Holds}
 use Rattle.entry_set.specs.declared.EntrySet.{EntrySet}
 
 -- four numbers of 64 bits
@@ -32,7 +32,7 @@ pub holds : (s : EntrySet) → ((i : ℕ) → getD (numbers s) i 0 < 2 ^ 64) →
 unfolding entrySet
 holds s h = record { value = refl; set = sym (ap ofList (parts-joined 64 (numbers s) h)) }
 
--- and each number below 2 ^ 256 is the number of its set
+-- the set of X has the words of X, and X is its number where it has at most 256 bits
 pub numbers-entrySet : (X : ℕ) → numbers (entrySet X) ≡ words 4 X
 unfolding entrySet parts
 numbers-entrySet X = refl
@@ -49,6 +49,28 @@ holds-below {X} {s} h = subst (λ (n : ℕ). n < 2 ^ 256) (ap number (sym (h .se
 
 pub holds-numbers : {X : ℕ} {s : EntrySet} → Holds X s → numbers s ≡ words 4 X
 holds-numbers {X} h = ap numbers (h .set) ∙ numbers-entrySet X
+
+pub holds-first : {X : ℕ} {s : EntrySet} → Holds X s → X < 2 ^ 64 → s .0 ≡ X
+unfolding entrySet parts
+holds-first {X} h small-enough = ap (λ (s : EntrySet). s .0) (h .set) ∙ mod-eq-of-lt small-enough
+
+-- a legal set has w numbers and no bit at or above e
+pub legal-length : (e : ℕ) (l : List ℕ) → legal e l ≡ true → length l ≡ width e
+legal-length e l h = eqb-true (length l) (width e) (and-eq-true-iff (eqb (length l) (width e)) (ltb (value l) (2 ^ e)) .0 h .0)
+
+pub legal-below : (e : ℕ) (l : List ℕ) → legal e l ≡ true → value l < 2 ^ e
+legal-below e l h = ltb-true (value l) (2 ^ e) (and-eq-true-iff (eqb (length l) (width e)) (ltb (value l) (2 ^ e)) .0 h .1)
+
+pub legal-is : (e : ℕ) (l : List ℕ) → length l ≡ width e → value l < 2 ^ e → legal e l ≡ true
+legal-is e l p q = and-eq-true-iff (eqb (length l) (width e)) (ltb (value l) (2 ^ e)) .1 (eq-eqb (length l) (width e) p, lt-ltb (value l) (2 ^ e) q)
+
+-- E is at most 256
+pub below-256 : {X e : ℕ} → e ≤ 256 → X < 2 ^ e → X < 2 ^ 256
+below-256 h q = lt-of-lt-of-le q (pow-mono h)
+
+-- set i of n sets of w numbers each lies within the list
+pub sets-room : {i n : ℕ} (w : ℕ) → i < n → i * w + w ≤ n * w
+sets-room {i} {n} w h = omega (arith, suc-mul i w, mul-le-mul-right {m = suc i} {n = n} w h)
 
 -- a number below 2 ^ e: its lowest b bits and the rest are in range
 pub range-step : (b x y e : ℕ) → x < 2 ^ b → ltb (x + 2 ^ b * y) (2 ^ e) ≡ ltb x (2 ^ e) && ltb y (2 ^ (e - b))

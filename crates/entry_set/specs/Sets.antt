@@ -1,5 +1,5 @@
 -- A set of E entry bits is one number below 2 ^ E (01, "A move, from its entry", and rows 7 and 11). Assumes nothing.
-use Prim.Native.Nat.{ℕ, zero, suc, _+_, _*_, _^_, _/_}
+use Prim.Native.Nat.{ℕ, zero, suc, _+_, _^_, _/_}
 use mathlib.Core.Path.{_≡_}
 use mathlib.Core.Bool.{Bool, cond, _&&_}
 use mathlib.Core.List.{List, [], _∷_}

@@ -1,6 +1,6 @@
 -- `from_list` meets its contract: a list of at most four numbers, 0 past its end. Assumes nothing.
 use Prim.Native.Nat.{ℕ}
-use mathlib.Core.Path.{_≡_, _∙_, subst}
+use mathlib.Core.Path.{_≡_, subst}
 use mathlib.Core.List.{[], _∷_}
 use Rattle.entry_set.specs.Sets.{value, Holds}
 use Rattle.entry_set.proofs.Places.{four-of}

@@ -1,8 +1,7 @@
 -- `single_bit` meets its contract: one bit in all, in the first number that isn't 0. Assumes nothing.
-use Prim.Native.Nat.{ℕ, _+_, _*_}
-use mathlib.Core.Path.{_≡_, sym, _∙_}
+use mathlib.Core.Path.{sym, _∙_}
 use native.Mathlib.Omega.{arith}
-use lib.Count.{trailingZeros, trailing-le}
+use lib.Count.{trailing-le}
 use Rattle.entry_set.specs.Sets.{numbers}
 use Rattle.entry_set.proofs.Compare.{known}
 use Rattle.entry_set.proofs.Ones.{lone-bit, not-lone, some-four}
