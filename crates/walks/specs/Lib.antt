@@ -1,0 +1,5 @@
+-- The definitions that the contracts of `walks` cite. Assumes nothing.
+pub mod Marks
+pub mod Spread
+pub mod Closed
+pub mod ClosedLaws
