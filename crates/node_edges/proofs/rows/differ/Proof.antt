@@ -1,0 +1,16 @@
+-- `node_edges::rows::differ` meets its contract. Assumes nothing.
+use mathlib.Core.Path.{refl}
+use borrow.Author.Tests.{eq-eqb, ne-eqb}
+use Rattle.node_edges.proofs.rows.differ.Statement.{statement}
+use Rattle.node_edges.proofs.rows.differ.Tie as tie
+use Rattle.node_edges.proofs.rows.differ.Reads as reads
+use Rattle.node_edges.proofs.rows.differ.Lts as lts
+
+returns : tie.Need-returns
+returns c = rw (ne-eqb _ _ (c .if1 .taken)) refl
+
+returns-2 : tie.Need-returns-2
+returns-2 c = rw (eq-eqb _ _ (c .if1 .left)) refl
+
+pub differ-spec : {M : Type 1} → statement M
+differ-spec = tie.close (tie.spec returns returns-2)

@@ -1,0 +1,59 @@
+-- `node_edges::rows::tally` meets its contract. Assumes nothing.
+use Prim.Native.Nat.{_-_, _≤_}
+use native.Mathlib.Omega.{arith}
+use lib.ListN.{length}
+use Rattle.node_edges.proofs.Checking.{Some, some-none, some-can, some-more, some-done}
+use Rattle.node_edges.proofs.rows.tally.Statement.{statement}
+use Rattle.node_edges.proofs.rows.tally.Tie as tie
+use Rattle.node_edges.proofs.rows.tally.Reads as reads
+use Rattle.node_edges.proofs.rows.tally.Lts as lts
+use Rattle.node_edges.proofs.rows.bump.Reads as bump-reads
+
+abbrev Inv-loop : tie.InvT-loop
+Inv-loop part row₀ k₀ row k = (k ≤ length part) × Some part row₀ row k
+
+abbrev μ-loop : tie.MeasureT-loop
+μ-loop part row₀ k₀ row k = length part - k
+
+loop-holds : tie.Need-loop-holds Inv-loop μ-loop
+loop-holds c = (omega arith, some-none _ _)
+
+mul-bump : tie.Need-mul-bump Inv-loop μ-loop
+mul-bump c = omega arith
+
+shared-slice-read-bump : tie.Need-shared-slice-read-bump Inv-loop μ-loop
+shared-slice-read-bump c = omega arith
+
+bump-requires : tie.Need-bump-requires Inv-loop μ-loop
+bump-requires c κs = some-can (c .before .before .before .before .before .before .pre) (c .before .before .before .loop .inv .1) (c .before .before .loop-test .taken)
+
+add-k : tie.Need-add-k Inv-loop μ-loop
+add-k c = omega arith
+
+loop-less : tie.Need-loop-less Inv-loop μ-loop
+loop-less c = omega arith
+
+loop-again : tie.Need-loop-again Inv-loop μ-loop
+loop-again c = (omega arith, some-more (c .before .before .before .before .before .before .before .before .before .pre) (c .before .before .before .before .before .before .loop .inv .1) (c .before .before .before .before .before .loop-test .taken) (c .before .before .bump .ensures))
+
+same-length : tie.Need-same-length Inv-loop μ-loop
+same-length c = c .before .loop .inv .1 .long
+
+returns : tie.Need-returns Inv-loop μ-loop
+returns c = some-done (c .before .loop .inv .1) (omega arith)
+
+pub tally-spec : {M : Type 1} → statement M
+tally-spec =
+    tie.close
+    (tie.spec
+    Inv-loop
+    μ-loop
+    loop-holds
+    mul-bump
+    shared-slice-read-bump
+    bump-requires
+    add-k
+    loop-less
+    loop-again
+    same-length
+    returns)

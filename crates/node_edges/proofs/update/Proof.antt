@@ -1,0 +1,25 @@
+-- `node_edges::update` meets its contract. Assumes nothing.
+use borrow.Author.Needs.{needs}
+use Rattle.node_edges.proofs.Following.{update-gain, update-shed, update-done}
+use borrow.Author.Needs.{needs}
+use Rattle.node_edges.proofs.update.Statement.{statement}
+use Rattle.node_edges.proofs.update.Tie as tie
+use Rattle.node_edges.proofs.update.Reads as reads
+use Rattle.node_edges.proofs.update.Lts as lts
+use Rattle.node_edges.proofs.gain_all.Reads as gain-all-reads
+use Rattle.node_edges.proofs.shed_all.Reads as shed-all-reads
+
+gain-all-requires : tie.Need-gain-all-requires
+gain-all-requires c κs = update-gain (c .before .before .before .before .before .before .pre)
+
+shed-all-requires : tie.Need-shed-all-requires
+shed-all-requires c κs = update-shed (c .before .before .before .before .before .before .before .before .before .before .pre) (c .before .before .before .gain-all .ensures)
+
+same-length : tie.Need-same-length
+same-length c = search needs
+
+returns : tie.Need-returns
+returns c = update-done (c .before .before .before .before .before .before .before .before .before .before .before .before .before .pre) (c .before .before .before .before .before .before .gain-all .ensures) (c .before .before .shed-all .ensures)
+
+pub update-spec : {M : Type 1} → statement M
+update-spec = tie.close (tie.spec gain-all-requires shed-all-requires same-length returns)
