@@ -2,3 +2,4 @@
 pub mod Deciding
 pub mod Writing
 pub mod Slotting
+pub mod Fronting

@@ -3,3 +3,5 @@ pub mod Compare
 pub mod Written
 pub mod Slots
 pub mod Steps
+pub mod Facades
+pub mod SlotLaws

@@ -12,7 +12,7 @@ ghost use Rattle.placement.specs.Written.{Written};
 ghost use Rattle.placement.specs.Slots.{lent, spans, atoms, entry-source, entry-target, facade-source, facade-target, sources-by, targets-by};
 ghost use Rattle.placement.specs.Steps.{CanTally, CanSources, CanTargets, CanFacade, CanFacades, CanSlots};
 
-const NONE: u32 = 4294967295;
+pub const NONE: u32 = 4294967295;
 
 // One more at x.
 fn bump(l: &mut [u32], x: u32)
