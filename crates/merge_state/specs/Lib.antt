@@ -1,0 +1,9 @@
+pub mod State
+pub mod Methods
+pub mod Table
+pub mod Loading
+pub mod Warning
+pub mod Absorbed
+pub mod Ordered
+pub mod Kept
+pub mod LoadKept

@@ -1,0 +1,80 @@
+-- `new`: the merge graph after a loading. Sentences quoted are document 01's. Assumes nothing.
+use Prim.Native.Nat.{ℕ, zero, suc, _+_, _*_}
+use mathlib.Core.Bool.{Bool, true, false, not, cond, _||_}
+use mathlib.Core.List.{List, [], _∷_, _++_}
+use lib.ListN.{getD, length, take, drop}
+use lib.Dec.{ltb, leb, eqb}
+use Rattle.graphs.specs.Count.{count}
+use Rattle.graphs.specs.Lists.{some-below}
+use Rattle.entry_set.specs.Sets.{value, legal, width}
+use Rattle.merge_state.specs.declared.Sizes.{Sizes}
+use Rattle.merge_state.specs.State.{None, Graph, at}
+use Rattle.merge_state.specs.Methods.{appended}
+use Rattle.merge_state.specs.Table.{first-fitting, bad-starts, other-length, reaches}
+
+-- What `new` is lent: how many chunks are initial, their modules by starts, the sets of the pairs one after the other, the pairs' chunks,
+-- and the modules' side effects
+pub record Lent : Type 0 where
+  pub initial : ℕ
+  pub starts : List ℕ
+  pub modules : List ℕ
+  pub flat : List ℕ
+  pub chunks : List ℕ
+  pub effects : List ℕ
+
+-- The chunk with which entry k of the module list is listed: how many chunks' lists end at or before k
+unfoldable pub lister : List ℕ → ℕ → ℕ → ℕ
+lister starts n k = count (λ x. leb (getD starts (x + 1) 0) k) n
+
+-- the i-th lent set, and the first k pairs
+abbrev pub set-at : ℕ → List ℕ → ℕ → List ℕ
+set-at w flat i = take w (drop (i * w) flat)
+
+unfoldable pub pairs-of : ℕ → List ℕ → List ℕ → ℕ → List (ℕ × ℕ)
+pairs-of w flat homes zero = []
+pairs-of w flat homes (suc k) = pairs-of w flat homes k ++ ((value (set-at w flat k), getD homes k 0) ∷ [])
+
+abbrev pub pairs : Sizes → Lent → List (ℕ × ℕ)
+pairs z n = pairs-of (width (z .bits)) (n .flat) (n .chunks) (length (n .chunks))
+
+-- "`new` takes each initial chunk's modules and pairs (set, chunk)": the first k list entries are in
+unfoldable pub loaded : Sizes → Lent → ℕ → Graph
+loaded z n zero = record {
+  initial = n .initial;
+  made = n .initial;
+  created = 0;
+  depends = λ x y. false;
+  effects = λ x. false;
+  needs = λ x. false;
+  log = [];
+  sets = pairs z n;
+  home = λ m. None;
+  keys = λ k. cond (ltb k (n .initial)) k None;
+}
+loaded z n (suc k) = appended (n .effects) (loaded z n k) (lister (n .starts) (n .initial) k) (getD (n .modules) k 0)
+
+-- two of the first n numbers are equal
+unfoldable pub twice : (ℕ → ℕ) → ℕ → Bool
+twice f n = some-below (λ j. some-below (λ i. eqb (f i) (f j)) j) n
+
+-- The rows of the lists: "at loading then 16, 17, 19"
+unfoldable pub over-load : Sizes → Lent → Bool
+over-load z n = ltb (z .chunks) (n .initial) || ltb (z .chunks) (length (n .chunks))
+
+unfoldable pub bad-load : Sizes → Lent → Bool
+bad-load z n =
+    bad-starts (n .initial) (n .starts) (length (n .modules)) || (other-length (n .flat) (length (n .chunks) * width (z .bits)) || other-length (n .effects) (z .modules))
+
+unfoldable pub later-load : Sizes → Lent → List (Bool × ℕ)
+later-load z n =
+    let w = width (z .bits) in
+    let p = length (n .chunks) in
+    (reaches (n .modules) (z .modules) || (some-below (λ i. not (legal (z .bits) (set-at w (n .flat) i))) p || reaches (n .chunks) (n .initial)), 16)
+    ∷ (twice (λ i. value (set-at w (n .flat) i)) p, 17) ∷ (ltb (z .entries) (length (n .modules)), 19) ∷ []
+
+-- the first fitting row, 0 where none fits, and the graph then
+unfoldable pub load-row : Sizes → Lent → ℕ
+load-row z n = first-fitting ((over-load z n, 14) ∷ (bad-load z n, 15) ∷ later-load z n)
+
+unfoldable pub load : Sizes → Lent → Graph
+load z n = loaded z n (length (n .modules))
