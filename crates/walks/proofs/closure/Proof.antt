@@ -1,4 +1,5 @@
 -- `walks::closure` meets its contract. Assumes nothing.
+use native.Mathlib.Omega.{arith}
 use mathlib.Core.Path.{_∙_}
 use Rattle.walks.proofs.Layer.{ready-first}
 use Rattle.walks.proofs.Ends.{row-can, closure-done}
