@@ -1,12 +1,12 @@
 -- A test on every number below k, one number at a time. Assumes nothing.
-use mathlib.Core.Path.{_≡_, refl, sym, subst, _∙_}
+use mathlib.Core.Path.{_≡_, refl, sym, subst}
 use mathlib.Core.Bool.{Bool, true, false, _&&_, true≢false}
 use Prim.Native.Nat.{ℕ, _+_, _-_, _≤_, _<_}
 use native.Mathlib.Omega.{arith}
 use native.Mathlib.Decide.{ℕ-discrete}
 use lib.Dec.{eqb, leb}
 use borrow.Author.Tests.{eqb-true, eqb-false, leb-true, leb-false}
-use Rattle.graphs.specs.Bools.{Decides, and-left, and-right}
+use Rattle.graphs.specs.Bools.{Decides}
 
 pub eqb-decides : (a b : ℕ) → Decides (a ≡ b) (eqb a b)
 eqb-decides a b = record { right = eqb-true a b; wrong = eqb-false a b }

@@ -1,18 +1,18 @@
 -- The loop that finds each bit's facade node. Assumes nothing.
 use mathlib.Core.Path.{_≡_, refl, sym, ap, _∙_, subst}
 use mathlib.Core.List.{List}
-use mathlib.Core.Bool.{Bool, true, false, cond, _&&_, true≢false}
-use Prim.Native.Nat.{ℕ, _+_, _*_, _^_, _≤_, _<_}
+use mathlib.Core.Bool.{true, false, cond}
+use Prim.Native.Nat.{ℕ, _+_, _^_, _≤_, _<_}
 use native.Mathlib.Omega.{arith}
 use native.Mathlib.Decide.{ℕ-discrete}
-use lib.Dec.{eqb, ltb}
+use lib.Dec.{eqb}
 use lib.ListN.{length, getD, set, length-set, replicate, length-replicate}
 use lib.Seq.{getD-set-same, getD-set-other}
-use borrow.Author.Tests.{eq-eqb, ne-eqb, eqb-true, lt-ltb, le-ltb, ltb-true}
+use borrow.Author.Tests.{eq-eqb, eqb-true, lt-ltb, ltb-true}
 use Rattle.graphs.specs.Bools.{fails, and-left, and-right, and-both}
 use Rattle.graphs.specs.Tab.{tab, tab-length}
 use Rattle.layout.specs.Patch.{patch, patch-long, patch-over}
-use Rattle.entry_set.specs.Sets.{singleBit, Holds}
+use Rattle.entry_set.specs.Sets.{singleBit}
 use Rattle.entry_set.specs.SingleLaws.{single-eqb}
 use Rattle.entry_set.specs.Lanes.{lanes}
 use Rattle.ledger.specs.Graph.{none}

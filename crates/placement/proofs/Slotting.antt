@@ -1,21 +1,21 @@
 -- The loops that write slots. Assumes nothing.
 use mathlib.Core.Path.{_≡_, refl, sym, ap, _∙_, subst}
 use mathlib.Core.List.{List}
-use mathlib.Core.Bool.{Bool, true, false, not, _&&_}
-use Prim.Native.Nat.{ℕ, suc, _+_, _-_, _≤_, _<_}
+use mathlib.Core.Bool.{Bool, true, false, not, true≢false}
+use Prim.Native.Nat.{ℕ, _+_, _-_, _≤_, _<_}
 use native.Mathlib.Omega.{arith}
 use native.Mathlib.Decide.{ℕ-discrete}
 use native.Mathlib.Numerals.{add-one}
-use lib.Dec.{eqb, ltb}
+use lib.Dec.{eqb}
 use lib.ListN.{length, getD, set, length-set, replicate, length-replicate}
 use lib.Seq.{getD-set-same, getD-set-other}
 use borrow.Author.Tests.{eq-eqb, ne-eqb, lt-ltb, le-ltb}
 use Rattle.graphs.specs.Bools.{fails, and-right}
-use Rattle.graphs.specs.Count.{count, count-none, count-yes, count-no, count-le}
+use Rattle.graphs.specs.Count.{count-none, count-yes, count-no, count-le}
 use Rattle.graphs.specs.Tab.{tab, tab-length}
 use Rattle.layout.specs.Patch.{patch, patch-long, patch-over}
-use Rattle.ledger.specs.Graph.{Load, none, at, owner}
-use Rattle.ledger.specs.LoadLaws.{Starts, InOrder, starts-up, owner-is}
+use Rattle.ledger.specs.Graph.{none, at, owner}
+use Rattle.ledger.specs.LoadLaws.{starts-up, owner-is}
 use Rattle.ledger.specs.Nodes.{faced, face-source, face-target}
 use Rattle.placement.specs.Written.{Written}
 use Rattle.placement.specs.Slots.{lent, spans, atoms, entry-source, entry-target, facade-source, facade-target, source-by, target-by, sources-by, targets-by}
@@ -63,9 +63,6 @@ module _ {counts : List ℕ} {n : ℕ} {nodes : List ℕ} {a : ℕ} (can : CanTa
 
 -- the sources of the entries of the first i atoms
 module _ {nodes starts : List ℕ} {a d : ℕ} {l₀ : List ℕ} (can : CanSources nodes starts a d l₀) where
-  load : Load
-  load = spans a d starts
-
   pub sources-none : Written (entry-source (spans a d starts) nodes) 0 (at starts 0) l₀ l₀
   sources-none = written-upto (written-none _ 0 l₀) (sym (can .order .first))
 
@@ -100,7 +97,7 @@ pub faced-no-front : (f h : ℕ) → f ≡ none → faced f h ≡ false
 faced-no-front f h p = rw (eq-eqb f none p) refl
 
 pub faced-no-host : (f h : ℕ) → h ≡ none → faced f h ≡ false
-faced-no-host f h p = fails _ (λ t. let z : _≡_ {A = Bool} true false = sym (and-right (not (eqb f none)) _ t) ∙ ap not (eq-eqb h none p) in mathlib.Core.Bool.true≢false z)
+faced-no-host f h p = fails _ (λ t. let z : _≡_ {A = Bool} true false = sym (and-right (not (eqb f none)) _ t) ∙ ap not (eq-eqb h none p) in true≢false z)
 
 -- the facade slots of the first k bits
 module _ {nodes facade hosts : List ℕ} {e d : ℕ} {s₀ t₀ : List ℕ} (can : CanFacades nodes facade hosts e d s₀ t₀) {k : ℕ} {s t : List ℕ}

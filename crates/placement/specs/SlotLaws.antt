@@ -1,20 +1,20 @@
 -- How the code's lists give the slots of the ledger, and what the first slots of a longer list say. Assumes nothing.
 use mathlib.Core.Path.{_≡_, refl, sym, ap, fun-ext, _∙_}
 use mathlib.Core.List.{List}
-use mathlib.Core.Bool.{Bool, true, false, cond, _&&_}
+use mathlib.Core.Bool.{Bool, cond, _&&_}
 use Prim.Native.Nat.{ℕ, zero, suc, _+_, _-_, _^_, _≤_, _<_}
 use native.Mathlib.Omega.{arith}
 use native.Mathlib.Nat.{zero-add}
 use native.Mathlib.Decide.{decLt}
 use lib.Dec.{eqb, ltb}
 use lib.ListN.{length, getD}
-use borrow.Author.Tests.{lt-ltb, le-ltb}
-use Rattle.graphs.specs.Count.{count, count-ext}
+use borrow.Author.Tests.{lt-ltb}
+use Rattle.graphs.specs.Count.{count-ext}
 use Rattle.graphs.specs.Tab.{tab, tab-length, tab-at, is-tab}
-use Rattle.graphs.specs.Slots.{same, mult, slotEdge, Ends}
-use Rattle.layout.specs.Patch.{patch, patch-long, patch-in}
+use Rattle.graphs.specs.Slots.{mult, slotEdge, Ends}
+use Rattle.layout.specs.Patch.{patch, patch-in}
 use Rattle.entry_set.specs.Lanes.{lanes}
-use Rattle.ledger.specs.Graph.{Load, none, at, owner, members}
+use Rattle.ledger.specs.Graph.{Load, at, owner, members}
 use Rattle.ledger.specs.LoadLaws.{InOrder}
 use Rattle.ledger.specs.Nodes.{Placing, highest, fronts, front, face-source, face-target, source, target, sources, targets}
 use Rattle.ledger.specs.NodeLaws.{Facing, facing, blank, hostless, sources-length, targets-length, source-entry, target-entry, slot-facing}

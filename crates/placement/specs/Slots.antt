@@ -1,6 +1,6 @@
 -- The edge slots of the chunk graph as the code's lists give them: each atom's node, the load's lists, and the facade node of each entry bit.
 -- Assumes nothing.
-use mathlib.Core.Bool.{Bool, cond}
+use mathlib.Core.Bool.{cond}
 use mathlib.Core.List.{List, []}
 use Prim.Native.Nat.{ℕ, _+_, _-_}
 use lib.Dec.{ltb, eqb}

@@ -1,7 +1,4 @@
 // Tests on every number of a part of a list. None has an early exit, so that each compiles to vector code.
-ghost use mathlib.Core.Path.{_≡_};
-ghost use Prim.Native.Nat.{ℕ, _+_, _≤_, _<_};
-ghost use lib.ListN.{length, getD};
 ghost use Rattle.graphs.specs.Bools.{Decides};
 ghost use Rattle.placement.specs.Compare.{Within, CanCompare, SamePart, PartUpTo, PartBelow};
 

@@ -3,7 +3,7 @@
 // Slot k below d leads from the node of entry k's atom to the node of the dependency. Slot d + b is the facade edge of entry
 // bit b. A slot whose two ends are equal is no edge.
 ghost use mathlib.Core.Path.{_≡_};
-ghost use Prim.Native.Nat.{ℕ, _+_, _≤_, _<_};
+ghost use Prim.Native.Nat.{_+_, _<_};
 ghost use lib.ListN.{length, getD, set};
 ghost use Rattle.graphs.specs.Tab.{tab};
 ghost use Rattle.layout.specs.Patch.{patch};
