@@ -15,9 +15,8 @@ use Rattle.graphs.specs.Slots.{mult, slotEdge, Ends}
 use Rattle.layout.specs.Patch.{patch, patch-in}
 use Rattle.entry_set.specs.Lanes.{lanes}
 use Rattle.ledger.specs.Graph.{Load, at, owner, members}
-use Rattle.ledger.specs.LoadLaws.{InOrder}
-use Rattle.ledger.specs.Nodes.{Placing, highest, fronts, front, face-source, face-target, source, target, sources, targets}
-use Rattle.ledger.specs.NodeLaws.{Facing, facing, blank, hostless, sources-length, targets-length, source-entry, target-entry, slot-facing}
+use Rattle.ledger.specs.Nodes.{highest, fronts, front, face-source, face-target, source, target, sources, targets}
+use Rattle.ledger.specs.NodeLaws.{sources-length, targets-length}
 use Rattle.placement.specs.Slots.{atoms, source-by, target-by, sources-by, targets-by}
 use Rattle.placement.specs.Facades.{fronting, fronts-in}
 
@@ -92,32 +91,6 @@ module _ {load : Load} {nodes sets : List ℕ} where
             ≡ cond (ltb k (load .D)) (at nodes (at (load .dependencies) k)) (face-target nodes (front load nodes sets (k - load .D)) (at (load .hosts) (k - load .D)))
         go k h (yes z) = rw (lt-ltb k (load .D) z) refl
         go k h (no z) = rw (f .front-at (k - load .D) (omega arith)) refl
-
-  -- both ends of every slot are nodes: below n, which isn't 0, as an empty slot has the ends 0
-  pub slots-ends : {n : ℕ} → InOrder load → Placing load nodes sets → length sets ≤ n → 0 < n → Ends (sources load nodes sets) (targets load nodes sets) n (load .D + load .E)
-  slots-ends {n} o p b pos = record { source = λ k h. source-end k h (decLt k (load .D)); target = λ k h. target-end k h (decLt k (load .D)) }
-    where
-      source-face : {e s t : ℕ} → Facing load nodes sets e s t → s < n
-      source-face (facing u q m x y) = omega arith
-      source-face (blank u q m x) = omega arith
-      source-face (hostless u q m) = omega arith
-
-      target-face : {e s t : ℕ} → e < load .E → Facing load nodes sets e s t → t < n
-      target-face {e} l (facing u q m x y) = omega (arith, p .inside (at (load .hosts) e) (o .host-atom e l x))
-      target-face l (blank u q m x) = omega arith
-      target-face l (hostless u q m) = omega arith
-
-      source-end : (k : ℕ) → k < load .D + load .E → Dec (k < load .D) → getD (sources load nodes sets) k 0 < n
-      source-end k h (yes z) = omega (arith, source-entry load nodes sets k z, p .inside (owner load k) (o .owner-atom k z))
-      source-end k h (no z) =
-          let q : load .D + (k - load .D) ≡ k = omega arith in
-          rw q at (source-face (slot-facing load nodes sets (k - load .D) (omega arith) (p .few)))
-
-      target-end : (k : ℕ) → k < load .D + load .E → Dec (k < load .D) → getD (targets load nodes sets) k 0 < n
-      target-end k h (yes z) = omega (arith, target-entry load nodes sets k z, p .inside (at (load .dependencies) k) (o .dependency-atom k z))
-      target-end k h (no z) =
-          let q : load .D + (k - load .D) ≡ k = omega arith in
-          rw q at (target-face (omega arith) (slot-facing load nodes sets (k - load .D) (omega arith) (p .few)))
 
 -- the first D + E slots of two lists are the ledger's
 pub record Slotted (load : Load) (nodes sets s t : List ℕ) : Type 0 where
