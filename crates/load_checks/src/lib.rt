@@ -6,7 +6,12 @@ ghost use Prim.Native.Nat.{ℕ, _+_, _*_, _≤_, _<_};
 ghost use lib.ListN.{length, getD};
 ghost use lib.Dec.{leb, ltb, eqb};
 ghost use Rattle.load_checks.specs.Checks.{lent, at-or-above, falling, bad-starts, not-other, bad-span, spans, span, CanSpan, CanOwn, no-host, bad-hosts, list-row, Limits, Lengths};
-ghost use Rattle.ledger.specs.Loading.{row1, row2, row3, row5, first-row};
+ghost use Rattle.ledger.specs.Loading.{row1, row2, row3, row5, first-row, loading-row};
+
+mod sets;
+
+use sets::sets_fit;
+pub use sets::sets_refusal;
 
 // A number of 32 bits as an index.
 fn wide(x: u32) -> usize
@@ -235,4 +240,26 @@ pub fn refusal(
         return 3;
     }
     list_refusal(a, d, e, starts, dependencies, hosts)
+}
+
+// The rows 1 to 8 of loading, 0 where none fits.
+pub fn loading_refusal(
+    a: usize,
+    d: usize,
+    e: usize,
+    n: usize,
+    starts: &[u32],
+    dependencies: &[u32],
+    hosts: &[u32],
+    sets: &[u64],
+    size: usize,
+) -> u32
+    ensures { λ r. ⌜ r ≡ loading-row (lent a d e (now (starts .entry)) (now (dependencies .entry)) (now (hosts .entry))) n (now (sets .entry)) size ⌝ }
+{
+    let fit = sets_fit(a, e, sets);
+    let row = refusal(a, d, e, n, starts, dependencies, hosts, fit, size);
+    if row != 0 {
+        return row;
+    }
+    sets_refusal(a, e, sets)
 }
