@@ -17,7 +17,7 @@ use Rattle.merge_state.specs.declared.Sizes.{Sizes}
 use Rattle.merge_state.specs.State.{None, Graph, at}
 use Rattle.merge_state.specs.Methods.{appended}
 use Rattle.merge_state.specs.Table.{first-fitting, bad-starts, reaches}
-use Rattle.merge_state.specs.Loading.{Lent, lister, set-at, pairs-of, pairs, loaded, twice, over-load, bad-load, later-load, load}
+use Rattle.merge_state.specs.Loading.{Lent, lister, set-at, pairs-of, pairs, loaded, came-before, twice, over-load, bad-load, later-load, load}
 use Rattle.merge_state.specs.Ordered.{Ordered, one-longer, at-old, at-new, each-more, appended-kept}
 use Rattle.merge_state.specs.Kept.{none-fits}
 
@@ -74,7 +74,7 @@ unfolding reaches
 none-reaches l v h i b = leb-false v (getD l i 0) (some-none (λ i. leb v (getD l i 0)) (length l) h i b)
 
 pub allowed : (z : Sizes) (n : Lent) → over-load z n ≡ false → bad-load z n ≡ false → first-fitting (later-load z n) ≡ 0 → Allowed z n
-unfolding over-load bad-load bad-starts later-load twice
+unfolding over-load bad-load bad-starts later-load twice came-before
 allowed z n a b c =
     let w = width (z .bits) in
     let p = length (n .chunks) in
@@ -99,7 +99,7 @@ allowed z n a b c =
       modules = none-reaches (n .modules) (z .modules) (or-false-left (reaches (n .modules) (z .modules)) _ (h₁ .0));
       sets = λ i h. ltb-true _ _ (and-right (eqb (length (set-at w (n .flat) i)) w) _ (not-false _ (some-none (λ i. not (legal (z .bits) (set-at w (n .flat) i))) p (or-false-left (some-below (λ i. not (legal (z .bits) (set-at w (n .flat) i))) p) _ indices) i h)));
       chunks = none-reaches (n .chunks) (n .initial) (or-false-right (some-below (λ i. not (legal (z .bits) (set-at w (n .flat) i))) p) _ indices);
-      distinct = λ i j l h. eqb-false _ _ (some-none (λ i. eqb (value (set-at w (n .flat) i)) (value (set-at w (n .flat) j))) j (some-none (λ j. some-below (λ i. eqb (value (set-at w (n .flat) i)) (value (set-at w (n .flat) j))) j) p (h₂ .0) j h) i l);
+      distinct = λ i j l h. eqb-false _ _ (some-none (λ i. eqb (value (set-at w (n .flat) i)) (value (set-at w (n .flat) j))) j (some-none (came-before (λ i. value (set-at w (n .flat) i))) p (h₂ .0) j h) i l);
       room = ltb-false _ _ (h₃ .0);
     }
 

@@ -53,9 +53,12 @@ loaded z n zero = record {
 }
 loaded z n (suc k) = appended (n .effects) (loaded z n k) (lister (n .starts) (n .initial) k) (getD (n .modules) k 0)
 
--- two of the first n numbers are equal
+-- number j is one of those before it; two of the first n numbers are equal
+unfoldable pub came-before : (ℕ → ℕ) → ℕ → Bool
+came-before f j = some-below (λ i. eqb (f i) (f j)) j
+
 unfoldable pub twice : (ℕ → ℕ) → ℕ → Bool
-twice f n = some-below (λ j. some-below (λ i. eqb (f i) (f j)) j) n
+twice f n = some-below (came-before f) n
 
 -- The rows of the lists: "at loading then 16, 17, 19"
 unfoldable pub over-load : Sizes → Lent → Bool

@@ -1,0 +1,77 @@
+use borrow.Author.Needs.{needs}
+use Rattle.merge_area.proofs.Laws.{counted, counted-le}
+use Rattle.merge_area.specs.Consistent.{misfit, faults}
+use Rattle.graphs.specs.Count.{count, count-none, count-more, count-le, ind-le}
+use lib.ListN.{getD}
+use mathlib.Core.Path.{_≡_, refl, sym, ap, _∙_}
+use native.Mathlib.Omega.{arith}
+use Prim.Native.Nat.{_-_, _≤_, _+_}
+use Rattle.merge_area.proofs.count_faults.Statement.{statement}
+use Rattle.merge_area.proofs.count_faults.Tie as tie
+use Rattle.merge_area.proofs.count_faults.Reads as reads
+use Rattle.merge_area.proofs.count_faults.Lts as lts
+use Rattle.merge_area.proofs.is_misfit.Reads as is-misfit-reads
+
+abbrev Inv-loop : tie.InvT-loop
+Inv-loop l at n top free bad₀ i₀ bad i = (i ≤ n) × (bad ≡ count (λ j. misfit top free (getD l (at + j) 0)) i)
+
+abbrev μ-loop : tie.MeasureT-loop
+μ-loop l at n top free bad₀ i₀ bad i = n - i
+
+-- src/lib.rt:71:5
+loop-holds : tie.Need-loop-holds Inv-loop μ-loop
+loop-holds c = (omega arith, sym (count-none _))
+
+-- src/lib.rt:72:28
+add-is-misfit : tie.Need-add-is-misfit Inv-loop μ-loop
+add-is-misfit c = omega arith
+
+-- src/lib.rt:72:26
+mul-is-misfit : tie.Need-mul-is-misfit Inv-loop μ-loop
+mul-is-misfit c = omega arith
+
+-- src/lib.rt:72:26
+shared-slice-read-is-misfit : tie.Need-shared-slice-read-is-misfit Inv-loop μ-loop
+shared-slice-read-is-misfit c = omega arith
+
+-- src/lib.rt:72:16
+is-misfit-requires : tie.Need-is-misfit-requires Inv-loop μ-loop
+is-misfit-requires c κs = search needs
+
+-- src/lib.rt:72:9
+add-bad : tie.Need-add-bad Inv-loop μ-loop
+add-bad c = omega (arith, counted-le _ _ (c .before .before .before .loop .inv .1) (c .is-misfit .ensures))
+
+-- src/lib.rt:73:9
+add-i : tie.Need-add-i Inv-loop μ-loop
+add-i c = omega arith
+
+-- src/lib.rt:71:5
+loop-less : tie.Need-loop-less Inv-loop μ-loop
+loop-less c = omega arith
+
+-- src/lib.rt:71:5
+loop-again : tie.Need-loop-again Inv-loop μ-loop
+loop-again c = (omega arith, counted _ _ (c .before .before .before .loop .inv .1) (c .is-misfit .ensures))
+
+-- src/lib.rt:65:1
+returns : tie.Need-returns Inv-loop μ-loop
+unfolding faults
+returns c = let e : c .before .loop .i ≡ c .before .before .before .args .n = omega arith in let v = c .before .loop .inv .1 ∙ ap (count (λ j. misfit (c .before .before .before .args .top) (c .before .before .before .args .free) (getD (c .before .before .before .args .l .now) (c .before .before .before .args .at + j) 0))) e in record { value = v; few = omega (arith, v, count-le (λ j. misfit (c .before .before .before .args .top) (c .before .before .before .args .free) (getD (c .before .before .before .args .l .now) (c .before .before .before .args .at + j) 0)) (c .before .before .before .args .n)) }
+
+pub count-faults-spec : {M : Type 1} → statement M
+count-faults-spec =
+    tie.close
+    (tie.spec
+    Inv-loop
+    μ-loop
+    loop-holds
+    add-is-misfit
+    mul-is-misfit
+    shared-slice-read-is-misfit
+    is-misfit-requires
+    add-bad
+    add-i
+    loop-less
+    loop-again
+    returns)

@@ -1,0 +1,84 @@
+use Rattle.merge_area.proofs.Laws.{flags-last}
+use Rattle.merge_area.specs.Consistent.{row-fault, flags-fault}
+use Rattle.merge_area.proofs.Laws.{rows-rest, none-first, none-more, some-found}
+use Rattle.graphs.specs.Bools.{or-left}
+use Rattle.graphs.specs.Lists.{some-below}
+use mathlib.Core.Bool.{false, _||_}
+use mathlib.Core.Path.{_≡_, refl, sym, ap, _∙_}
+use native.Mathlib.Omega.{arith}
+use Prim.Native.Nat.{_-_, _≤_, _*_}
+use Rattle.merge_area.proofs.flags_have_fault.Statement.{statement}
+use Rattle.merge_area.proofs.flags_have_fault.Tie as tie
+use Rattle.merge_area.proofs.flags_have_fault.Reads as reads
+use Rattle.merge_area.proofs.flags_have_fault.Lts as lts
+use Rattle.merge_area.proofs.count_faults.Reads as count-faults-reads
+use Rattle.merge_area.proofs.row_has_fault.Reads as row-has-fault-reads
+
+abbrev Inv-loop : tie.InvT-loop
+Inv-loop area c n x₀ x = (x ≤ n) × (some-below (row-fault area c n) x ≡ false)
+
+abbrev μ-loop : tie.MeasureT-loop
+μ-loop area c n x₀ x = n - x
+
+-- src/lib.rt:94:5
+loop-holds : tie.Need-loop-holds Inv-loop μ-loop
+loop-holds c = (omega arith, none-first _)
+
+-- src/lib.rt:95:12
+row-has-fault-requires : tie.Need-row-has-fault-requires Inv-loop μ-loop
+row-has-fault-requires c κs = (c .loop-test .taken, c .before .before .before .pre .0, c .before .before .before .pre .1, c .before .before .before .pre .2)
+
+-- src/lib.rt:96:13
+returns : tie.Need-returns Inv-loop μ-loop
+unfolding flags-fault
+returns c = sym (or-left _ _ (sym (some-found _ _ _ (c .before .before .loop-test .taken) (sym (c .before .row-has-fault .ensures) ∙ c .if1 .taken))))
+
+-- src/lib.rt:98:9
+add-x : tie.Need-add-x Inv-loop μ-loop
+add-x c = omega arith
+
+-- src/lib.rt:94:5
+loop-less : tie.Need-loop-less Inv-loop μ-loop
+loop-less c = omega arith
+
+-- src/lib.rt:94:5
+loop-again : tie.Need-loop-again Inv-loop μ-loop
+loop-again c = (omega arith, none-more _ _ (c .before .before .before .loop .inv .1) (sym (c .before .row-has-fault .ensures) ∙ c .if1 .left))
+
+-- src/lib.rt:100:28
+mul-count-faults : tie.Need-mul-count-faults Inv-loop μ-loop
+mul-count-faults c = omega (arith, rows-rest (c .before .before .before .args .c) (c .before .before .before .args .n) (omega arith))
+
+-- src/lib.rt:100:36
+sub-count-faults : tie.Need-sub-count-faults Inv-loop μ-loop
+sub-count-faults c = omega arith
+
+-- src/lib.rt:100:35
+mul-count-faults-2 : tie.Need-mul-count-faults-2 Inv-loop μ-loop
+mul-count-faults-2 c = omega (arith, rows-rest (c .before .before .before .args .c) (c .before .before .before .args .n) (omega arith))
+
+-- src/lib.rt:100:9
+count-faults-requires : tie.Need-count-faults-requires Inv-loop μ-loop
+count-faults-requires c κs = omega (arith, rows-rest (c .before .before .before .args .c) (c .before .before .before .args .n) (omega arith))
+
+-- src/lib.rt:89:1
+returns-2 : tie.Need-returns-2 Inv-loop μ-loop
+returns-2 c = flags-last _ _ _ _ (c .before .before .loop .inv .1) (omega arith) (c .count-faults .ensures .value)
+
+pub flags-have-fault-spec : {M : Type 1} → statement M
+flags-have-fault-spec =
+    tie.close
+    (tie.spec
+    Inv-loop
+    μ-loop
+    loop-holds
+    row-has-fault-requires
+    returns
+    add-x
+    loop-less
+    loop-again
+    mul-count-faults
+    sub-count-faults
+    mul-count-faults-2
+    count-faults-requires
+    returns-2)

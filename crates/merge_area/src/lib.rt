@@ -1,0 +1,262 @@
+// The merge area: its limits and length, its header, and whether it is consistent (rows 14, 15 and 21).
+use entry_set::EntrySet;
+use merge_state::Sizes;
+ghost use mathlib.Core.Path.{_≡_};
+ghost use mathlib.Core.Bool.{false, _||_};
+ghost use Prim.Native.Nat.{ℕ, _+_, _-_, _*_, _^_, _<_, _≤_};
+ghost use lib.ListN.{length, getD};
+ghost use lib.Dec.{ltb};
+ghost use Rattle.graphs.specs.Count.{ind};
+ghost use Rattle.graphs.specs.Lists.{some-below};
+ghost use Rattle.entry_set.specs.Sets.{number, Holds};
+ghost use Rattle.entry_set.specs.Lanes.{lanes};
+ghost use Rattle.merge_state.specs.State.{chunk-of};
+ghost use Rattle.merge_state.specs.Loading.{came-before, twice};
+ghost use Rattle.merge_area.specs.Layout.{room, cell, head, set-place};
+ghost use Rattle.merge_area.specs.Read.{named-set, pairs};
+ghost use Rattle.merge_area.specs.Consistent.{over, short, misfit, Faults, row-fault, flags-fault, head-fault, index-faults, out-of-range, sets-fault, inconsistent};
+ghost use Rattle.merge_area.specs.Calls.{standing};
+ghost use Rattle.merge_area.specs.Within.{Within, Headed, Tabled};
+
+// Row 14, as far as the sizes tell.
+pub fn over_limits(sizes: Sizes) -> bool
+    ensures { λ r. ⌜ r ≡ over sizes ⌝ }
+{
+    if sizes.chunks == 0 {
+        return true;
+    }
+    if 1024 < sizes.chunks {
+        return true;
+    }
+    if 4096 < sizes.modules {
+        return true;
+    }
+    if 8192 < sizes.entries {
+        return true;
+    }
+    256 < sizes.bits
+}
+
+// Row 15, as far as the area's length tells.
+pub fn too_short(sizes: Sizes, area: &[u32]) -> bool
+    requires { ⌜ Within sizes ⌝ }
+    ensures { λ r. ⌜ r ≡ short sizes (now (area .entry)) ⌝ }
+{
+    area.len()
+        < sizes.chunks * sizes.chunks + 32 * (sizes.chunks + sizes.modules + sizes.entries + 1)
+}
+
+// Number k of the header.
+pub fn header(sizes: Sizes, area: &[u32], k: usize) -> u32
+    requires { ⌜ Within sizes × (room sizes ≤ length (now area)) × (k < 32) ⌝ }
+    ensures { λ r. ⌜ r ≡ cell (now (area .entry)) (head sizes k) ⌝ }
+{
+    let at = sizes.chunks * sizes.chunks + k;
+    area[at]
+}
+
+// 1 where v isn't below top, nor None where that is allowed.
+fn is_misfit(v: u32, top: usize, free: bool) -> usize
+    ensures { λ r. ⌜ r ≡ ind (misfit top free v) ⌝ }
+{
+    if (v as usize) < top {
+        return 0;
+    }
+    if free {
+        if v == 4294967295 {
+            return 0;
+        }
+    }
+    1
+}
+
+// How many of the n numbers from `at` on misfit.
+pub fn count_faults(l: &[u32], at: usize, n: usize, top: usize, free: bool) -> usize
+    requires { ⌜ at + n ≤ length (now l) ⌝ }
+    ensures { λ r. ⌜ Faults (now (l .entry)) at n top free r ⌝ }
+{
+    let mut bad = 0;
+    let mut i = 0;
+    while i < n {
+        bad += is_misfit(l[at + i], top, free);
+        i += 1;
+    }
+    bad
+}
+
+// Row x of the flags, n of the c chunks made.
+fn row_has_fault(area: &[u32], c: usize, n: usize, x: usize) -> bool
+    requires { ⌜ (x < n) × (n ≤ c) × (c ≤ 1024) × (c * c ≤ length (now area)) ⌝ }
+    ensures { λ r. ⌜ r ≡ row-fault (now (area .entry)) c n x ⌝ }
+{
+    let own = count_faults(area, x * c + x, 1, 1, false);
+    let beyond = count_faults(area, x * c + n, c - n, 1, false);
+    0 < own + beyond
+}
+
+// Some flag is set that no made chunk can have.
+fn flags_have_fault(area: &[u32], c: usize, n: usize) -> bool
+    requires { ⌜ (n ≤ c) × (c ≤ 1024) × (c * c ≤ length (now area)) ⌝ }
+    ensures { λ r. ⌜ r ≡ flags-fault (now (area .entry)) c n ⌝ }
+{
+    let mut x = 0;
+    while x < n {
+        if row_has_fault(area, c, n, x) {
+            return true;
+        }
+        x += 1;
+    }
+    0 < count_faults(area, n * c, (c - n) * c, 1, false)
+}
+
+// The header has a number out of range.
+fn head_has_fault(sizes: Sizes, area: &[u32]) -> bool
+    requires { ⌜ Within sizes × (room sizes ≤ length (now area)) ⌝ }
+    ensures { λ r. ⌜ r ≡ head-fault sizes (now (area .entry)) ⌝ }
+{
+    let made = header(sizes, area, 1) as usize;
+    if made < header(sizes, area, 0) as usize {
+        return true;
+    }
+    if sizes.chunks < made {
+        return true;
+    }
+    if sizes.chunks + made < header(sizes, area, 3) as usize {
+        return true;
+    }
+    sizes.entries < header(sizes, area, 4) as usize
+}
+
+// How many indices are out of range, and initial chunks need creation.
+fn count_index_faults(sizes: Sizes, area: &[u32]) -> usize
+    requires { ⌜ Headed sizes (now area) ⌝ }
+    ensures { λ r. ⌜ r ≡ index-faults sizes (now (area .entry)) ⌝ }
+{
+    let initial = header(sizes, area, 0) as usize;
+    let made = header(sizes, area, 1) as usize;
+    let sets = header(sizes, area, 3) as usize;
+    let used = header(sizes, area, 4) as usize;
+    let chunks = sizes.chunks * sizes.chunks + 32;
+    let modules = chunks + 32 * sizes.chunks;
+    let entries = modules + 32 * sizes.modules;
+    let a = count_faults(area, chunks + 16 * sizes.chunks, sets, made, false);
+    let b = count_faults(area, chunks + 20 * sizes.chunks, sizes.chunks, made, true);
+    let c = count_faults(area, modules, sizes.modules, made, true);
+    let d = count_faults(area, entries, used, made, false);
+    let e = count_faults(area, entries + sizes.entries, used, sizes.modules, false);
+    let f = count_faults(area, chunks + 19 * sizes.chunks, initial, 1, false);
+    a + b + c + d + e + f
+}
+
+// Set i of the table.
+pub fn set_of(sizes: Sizes, area: &[u32], i: usize) -> EntrySet
+    requires { ⌜ Within sizes × (room sizes ≤ length (now area)) × (i < 2 * sizes .chunks) ⌝ }
+    ensures { λ r. ⌜ Holds (lanes (now (area .entry)) (set-place sizes i) 1) r ⌝ }
+{
+    entry_set::read_lanes(area, sizes.chunks * sizes.chunks + 32 + 8 * i, 1)
+}
+
+// One of the first n sets has a bit at or above E.
+fn sets_out_of_range(sizes: Sizes, area: &[u32], n: usize) -> bool
+    requires { ⌜ Tabled sizes (now area) n ⌝ }
+    ensures { λ r. ⌜ r ≡ some-below (out-of-range sizes (now (area .entry))) n ⌝ }
+{
+    let mut i = 0;
+    while i < n {
+        if !entry_set::in_range(set_of(sizes, area, i), sizes.bits) {
+            return true;
+        }
+        i += 1;
+    }
+    false
+}
+
+// Set j is one of the sets before it.
+fn set_came_before(sizes: Sizes, area: &[u32], j: usize) -> bool
+    requires { ⌜ Tabled sizes (now area) (j + 1) ⌝ }
+    ensures { λ r. ⌜ r ≡ came-before (λ (i : ℕ). lanes (now (area .entry)) (set-place sizes i) 1) j ⌝ }
+{
+    let set = set_of(sizes, area, j);
+    let mut i = 0;
+    while i < j {
+        if entry_set::equal(set_of(sizes, area, i), set) {
+            return true;
+        }
+        i += 1;
+    }
+    false
+}
+
+// Two of the first n sets are equal.
+fn sets_repeat(sizes: Sizes, area: &[u32], n: usize) -> bool
+    requires { ⌜ Tabled sizes (now area) n ⌝ }
+    ensures { λ r. ⌜ r ≡ twice (λ (i : ℕ). lanes (now (area .entry)) (set-place sizes i) 1) n ⌝ }
+{
+    let mut j = 0;
+    while j < n {
+        if set_came_before(sizes, area, j) {
+            return true;
+        }
+        j += 1;
+    }
+    false
+}
+
+// Row 21.
+pub fn is_inconsistent(sizes: Sizes, area: &[u32]) -> bool
+    requires { ⌜ Within sizes × (room sizes ≤ length (now area)) ⌝ }
+    ensures { λ r. ⌜ r ≡ inconsistent sizes (now (area .entry)) ⌝ }
+{
+    if head_has_fault(sizes, area) {
+        return true;
+    }
+    if flags_have_fault(area, sizes.chunks, header(sizes, area, 1) as usize) {
+        return true;
+    }
+    if 0 < count_index_faults(sizes, area) {
+        return true;
+    }
+    let sets = header(sizes, area, 3) as usize;
+    if sets_out_of_range(sizes, area, sets) {
+        return true;
+    }
+    sets_repeat(sizes, area, sets)
+}
+
+// The chunk named with a set among the first n, or None.
+pub fn chunk_of_set(sizes: Sizes, area: &[u32], n: usize, set: EntrySet) -> u32
+    requires { ⌜ Tabled sizes (now area) n ⌝ }
+    ensures { λ r. ⌜ r ≡ chunk-of (number set) (pairs (named-set sizes (now (area .entry))) n) ⌝ }
+{
+    let mut i = 0;
+    while i < n {
+        if entry_set::equal(set_of(sizes, area, i), set) {
+            let at = sizes.chunks * sizes.chunks + 32 + 16 * sizes.chunks + i;
+            return area[at];
+        }
+        i += 1;
+    }
+    4294967295
+}
+
+// The first of rows 14, 15 and 21 that fits, 0 where none does; many and mislaid are what the call's own lists say to 14 and 15.
+pub fn standing_row(sizes: Sizes, many: bool, mislaid: bool, area: &[u32]) -> u32
+    ensures { λ r. ⌜ r ≡ standing sizes many mislaid (now (area .entry)) ⌝ }
+{
+    if over_limits(sizes) {
+        return 14;
+    }
+    if many {
+        return 14;
+    }
+    if mislaid {
+        return 15;
+    }
+    if too_short(sizes, area) {
+        return 15;
+    }
+    if is_inconsistent(sizes, area) {
+        return 21;
+    }
+    0
+}
