@@ -7,6 +7,7 @@ use lib.Dec.{ltb, leb, eqb}
 use Rattle.graphs.specs.Count.{count}
 use Rattle.graphs.specs.Lists.{some-below, below}
 use Rattle.graphs.specs.Walk.{via}
+use Rattle.walks.specs.Closed.{closed}
 use Rattle.merge_state.specs.State.{None, Graph, put, chunk-of, flag, at}
 
 -- Module m is listed with chunk x: "appends to the named chunk and or-s its side effects"; "assigned where it was put last".
@@ -85,11 +86,8 @@ calculated g starts deps = record {
 unfoldable pub reachable : Graph → ℕ → ℕ → Bool
 reachable g x y = via (g .depends) (below (g .made)) x y
 
--- x is in "the union of source's and target's dependencies, closed under dependency", for dependencies d of the chunks below n
-unfoldable pub closed : (ℕ → ℕ → Bool) → ℕ → ℕ → ℕ → ℕ → Bool
-closed d n s t x = some-below (λ y. (d s y || d t y) && (eqb y x || via d (below n) y x)) n
-
--- `would_create_circular_dependency`: "yes if the target is in it or a member depends on the source"
+-- `would_create_circular_dependency`: "from the union of source's and target's dependencies, closed under dependency, yes if the target is
+-- in it or a member depends on the source", for dependencies d of the chunks below n
 unfoldable pub warns : (ℕ → ℕ → Bool) → ℕ → ℕ → ℕ → Bool
 warns d n s t = closed d n s t t || some-below (λ x. closed d n s t x && d x s) n
 

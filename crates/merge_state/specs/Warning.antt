@@ -8,11 +8,13 @@ use mathlib.Core.Bool.{Bool, true, false, not, _&&_, _||_, true≢false}
 use lib.Dec.{eqb}
 use borrow.Author.Tests.{eqb-true, eqb-false, eq-eqb, ne-eqb, not-true}
 use Rattle.graphs.specs.Bools.{or-cases, or-left, or-right, and-left, and-right, and-both}
-use Rattle.graphs.specs.Lists.{some-below, below, some-give, some-take}
-use Rattle.graphs.specs.Walk.{Walk, one, more, via}
-use Rattle.graphs.specs.Walks.{Sources, sources-below, join, sound, complete}
+use Rattle.graphs.specs.Lists.{some-below, some-give, some-take}
+use Rattle.graphs.specs.Walk.{Walk, one, more}
+use Rattle.graphs.specs.Walks.{join}
 use Rattle.merge_state.specs.State.{Graph}
-use Rattle.merge_state.specs.Methods.{closed, warns, warn}
+use Rattle.walks.specs.Closed.{closed}
+use Rattle.walks.specs.ClosedLaws.{closed-first, closed-next, closed-all}
+use Rattle.merge_state.specs.Methods.{warns, warn}
 
 -- The fused graph: the source's place is taken by the target. An edge between two different nodes, neither of them the source, where a
 -- chunk of the first depends on a chunk of the second; the target's chunks are target and source, any other's is itself.
@@ -51,36 +53,6 @@ module _ (d : ℕ → ℕ → Bool) (s t x y : ℕ) where
       (λ b. inr (⊎-elim (λ p. inl (eqb-true x t (and-left (eqb x t) _ p), and-right (eqb x t) _ p)) (λ p. inr (eqb-true y t (and-left (eqb y t) _ p), and-right (eqb y t) _ p)) (or-cases (eqb x t && d s y) _ b)))
       (or-cases (d x y) _ (and-right (not (eqb x y) && (not (eqb x s) && not (eqb y s))) _ h))
 
--- the closed union, by walks
-module _ (d : ℕ → ℕ → Bool) (n s t : ℕ) where
-  pub first-closed : (x : ℕ) → x < n → (d s x ≡ true) ⊎ (d t x ≡ true) → closed d n s t x ≡ true
-  unfolding closed
-  first-closed x b h =
-      some-give (λ y. (d s y || d t y) && (eqb y x || via d (below n) y x)) n x b
-      (and-both _ _ (⊎-elim (λ a. or-left _ _ a) (λ a. or-right (d s x) _ a) h) (or-left _ _ (eq-eqb x x refl)))
-
-  pub next-closed : Sources d n → (x y : ℕ) → closed d n s t x ≡ true → d x y ≡ true → closed d n s t y ≡ true
-  unfolding closed
-  next-closed from x y h e =
-      let r = some-take (λ z. (d s z || d t z) && (eqb z x || via d (below n) z x)) n h in
-      let z = r .0 in
-      let far : Walk d z y = ⊎-elim (λ q. one (rw (← eqb-true z x q) at e)) (λ q. join (sound d (below n) z x q) (one e)) (or-cases (eqb z x) _ (and-right (d s z || d t z) _ (r .2))) in
-      some-give (λ z. (d s z || d t z) && (eqb z y || via d (below n) z y)) n z (r .1)
-      (and-both _ _ (and-left (d s z || d t z) _ (r .2)) (or-right (eqb z y) _ (complete d (below n) (sources-below from) z y far)))
-
-  -- what holds of the first dependencies, and is handed on by a dependency, holds of the closed union
-  pub closed-all : (P : ℕ → Type 0) → ((x : ℕ) → (d s x ≡ true) ⊎ (d t x ≡ true) → P x) → ((x y : ℕ) → P x → d x y ≡ true → P y) → (x : ℕ) → closed d n s t x ≡ true → P x
-  unfolding closed
-  closed-all P base step x h =
-      let r = some-take (λ z. (d s z || d t z) && (eqb z x || via d (below n) z x)) n h in
-      let z = r .0 in
-      let b : P z = base z (or-cases (d s z) _ (and-left (d s z || d t z) _ (r .2))) in
-      ⊎-elim (λ q. rw (← eqb-true z x q) b) (λ q. along b (sound d (below n) z x q)) (or-cases (eqb z x) _ (and-right (d s z || d t z) _ (r .2)))
-    where
-      along : {a b : ℕ} → P a → Walk d a b → P b
-      along p (one h) = step _ _ p h
-      along p (more h w) = along (step _ _ p h) w
-
 module _ (g : Graph) (v : Sound g) (s t : ℕ) (differ : s ≡ t → ⊥) where
   First : ℕ → Type 0
   First x = (g .depends s x ≡ true) ⊎ (g .depends t x ≡ true)
@@ -93,11 +65,11 @@ module _ (g : Graph) (v : Sound g) (s t : ℕ) (differ : s ≡ t → ⊥) where
 
   first-in : (x : ℕ) → First x → In x ≡ true
   unfolding First In
-  first-in x h = first-closed (g .depends) (g .made) s t x (⊎-elim (v .to s x) (v .to t x) h) h
+  first-in x h = closed-first (g .depends) (g .made) s t x (⊎-elim (v .to s x) (v .to t x) h) h
 
   next-in : (x y : ℕ) → In x ≡ true → g .depends x y ≡ true → In y ≡ true
   unfolding In
-  next-in = next-closed (g .depends) (g .made) s t (v .from)
+  next-in = closed-next (g .depends) (g .made) s t (v .from)
 
   in-all : (P : ℕ → Type 0) → ((x : ℕ) → First x → P x) → ((x y : ℕ) → P x → g .depends x y ≡ true → P y) → (x : ℕ) → In x ≡ true → P x
   unfolding First In
