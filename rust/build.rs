@@ -6,10 +6,8 @@ use std::process::exit;
 fn main() {
     println!("cargo:rerun-if-env-changed=NIDSKALM_LIB_DIR");
     let here = env::var("CARGO_MANIFEST_DIR").expect("cargo sets CARGO_MANIFEST_DIR");
-    let directory = env::var_os("NIDSKALM_LIB_DIR").map_or_else(
-        || Path::new(&here).join("../target/staticlib"),
-        PathBuf::from,
-    );
+    let directory =
+        env::var_os("NIDSKALM_LIB_DIR").map_or_else(|| Path::new(&here).join("../target/staticlib"), PathBuf::from);
     let archive = directory.join("libexports.a");
     println!("cargo:rerun-if-changed={}", archive.display());
     if !archive.exists() {

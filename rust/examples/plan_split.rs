@@ -1,8 +1,5 @@
 //! Plans a small split: folds shared code into entries where that is safe, then decides about the rest.
-use nidskalm::{
-    Assignment, ChunkIdx, EntrySet, InitialChunks, Load, MergeGraph, ModuleIdx, MoveGraph, Refusal,
-    Size,
-};
+use nidskalm::{Assignment, ChunkIdx, EntrySet, InitialChunks, Load, MergeGraph, ModuleIdx, MoveGraph, Refusal, Size};
 
 fn bits(set: EntrySet) -> String {
     let bits: Vec<String> = set.bits().map(|bit| bit.to_string()).collect();
@@ -11,57 +8,24 @@ fn bits(set: EntrySet) -> String {
 
 fn main() -> Result<(), Refusal> {
     // Atom 0 is code shared by the entries 0 and 1, which atoms 1 and 2 hold; both need it.
-    let load = Load {
-        starts: &[0, 0, 1, 2],
-        dependencies: &[0, 0],
-        hosts: &[1, 2],
-    };
+    let load = Load { starts: &[0, 0, 1, 2], dependencies: &[0, 0], hosts: &[1, 2] };
     let sets = [EntrySet::from(3), EntrySet::from(1), EntrySet::from(2)];
     let mut moves = MoveGraph::new(load, 8, &sets)?;
-    println!(
-        "loaded, {}",
-        if moves.cyclic_at_loading() {
-            "cyclic"
-        } else {
-            "acyclic"
-        }
-    );
-    for (atom, target) in [
-        (0, EntrySet::from(1)),
-        (1, EntrySet::from(3)),
-        (1, EntrySet::from(1)),
-    ] {
+    println!("loaded, {}", if moves.cyclic_at_loading() { "cyclic" } else { "acyclic" });
+    for (atom, target) in [(0, EntrySet::from(1)), (1, EntrySet::from(3)), (1, EntrySet::from(1))] {
         match moves.try_move(atom, target) {
             Ok(true) => println!("atom {atom} to {}: accepted", bits(target)),
-            Ok(false) => println!(
-                "atom {atom} to {}: rejected, it would close a cycle",
-                bits(target)
-            ),
+            Ok(false) => println!("atom {atom} to {}: rejected, it would close a cycle", bits(target)),
             Err(refusal) => println!("atom {atom} to {}: {refusal}", bits(target)),
         }
     }
     for edge in moves.edges()? {
-        println!(
-            "chunk {} depends on {}, {} times",
-            bits(edge.from),
-            bits(edge.to),
-            edge.multiplicity
-        );
+        println!("chunk {} depends on {}, {} times", bits(edge.from), bits(edge.to), edge.multiplicity);
     }
 
     // Two entry chunks, and modules 2 and 3 that both entries share: module 0 needs 2, module 1 needs 3, 3 needs 0.
-    let size = Size {
-        chunks: 8,
-        modules: 4,
-        entries: 16,
-        entry_bits: 2,
-    };
-    let initial = InitialChunks {
-        module_starts: &[0, 1, 2],
-        modules: &[0, 1],
-        sets: &[],
-        set_chunks: &[],
-    };
+    let size = Size { chunks: 8, modules: 4, entries: 16, entry_bits: 2 };
+    let initial = InitialChunks { module_starts: &[0, 1, 2], modules: &[0, 1], sets: &[], set_chunks: &[] };
     let mut merges = MergeGraph::new(size, initial, &[0; 4])?;
     merges.init_module_assignment(ModuleIdx(2), EntrySet::from(3))?;
     merges.init_module_assignment(ModuleIdx(3), EntrySet::from(2))?;

@@ -58,19 +58,14 @@ impl EntrySet {
 /// The sets as one list of `width` numbers each, and whether that cut no bit off.
 pub(crate) fn flat(sets: &[EntrySet], width: usize) -> (Vec<u64>, bool) {
     let width = width.min(4);
-    let list = sets
-        .iter()
-        .flat_map(|set| set.words[..width].iter().copied())
-        .collect();
+    let list = sets.iter().flat_map(|set| set.words[..width].iter().copied()).collect();
     (list, sets.iter().all(|set| set.fits(width)))
 }
 
 impl From<u64> for EntrySet {
     /// The set of the number's bits.
     fn from(low: u64) -> Self {
-        Self {
-            words: [low, 0, 0, 0],
-        }
+        Self { words: [low, 0, 0, 0] }
     }
 }
 

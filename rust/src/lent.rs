@@ -22,11 +22,7 @@ pub fn merge_area_length(size: Size) -> Option<usize> {
     if size.chunks > 1024 || size.modules > 4096 || size.entries > 8192 {
         return None;
     }
-    let (c, m, l) = (
-        size.chunks as usize,
-        size.modules as usize,
-        size.entries as usize,
-    );
+    let (c, m, l) = (size.chunks as usize, size.modules as usize, size.entries as usize);
     Some(c * c + 32 * (c + m + l + 1))
 }
 
@@ -58,106 +54,39 @@ macro_rules! with_size {
 
 /// Loads a move graph with room for `n` sets; value 0 acyclic, 1 cyclic.
 pub fn reduced_chunk_graph_new(load: &Load, n: u64, sets: &[u64], area: &mut [u32]) -> Reply {
-    with_load!(
-        reduced_chunk_graph_new,
-        load,
-        n,
-        sets.as_ptr(),
-        sets.len(),
-        area.as_mut_ptr(),
-        area.len()
-    )
+    with_load!(reduced_chunk_graph_new, load, n, sets.as_ptr(), sets.len(), area.as_mut_ptr(), area.len())
 }
 
 /// Tries a move; value 1 accepted, 0 rejected.
-pub fn reduced_chunk_graph_try_move(
-    load: &Load,
-    n: u64,
-    area: &mut [u32],
-    atom: u32,
-    bits: &[u64],
-) -> Reply {
+pub fn reduced_chunk_graph_try_move(load: &Load, n: u64, area: &mut [u32], atom: u32, bits: &[u64]) -> Reply {
     let (lent, length) = (area.as_mut_ptr(), area.len());
-    with_load!(
-        reduced_chunk_graph_try_move,
-        load,
-        n,
-        lent,
-        length,
-        atom,
-        bits.as_ptr(),
-        bits.len()
-    )
+    with_load!(reduced_chunk_graph_try_move, load, n, lent, length, atom, bits.as_ptr(), bits.len())
 }
 
 /// An atom's set.
 pub fn reduced_chunk_graph_atom_set(load: &Load, n: u64, area: &[u32], atom: u32) -> SetReply {
-    with_load!(
-        reduced_chunk_graph_atom_set,
-        load,
-        n,
-        area.as_ptr(),
-        area.len(),
-        atom
-    )
+    with_load!(reduced_chunk_graph_atom_set, load, n, area.as_ptr(), area.len(), atom)
 }
 
 /// The number of atoms in a set.
 pub fn reduced_chunk_graph_atom_count(load: &Load, n: u64, area: &[u32], bits: &[u64]) -> Reply {
-    with_load!(
-        reduced_chunk_graph_atom_count,
-        load,
-        n,
-        area.as_ptr(),
-        area.len(),
-        bits.as_ptr(),
-        bits.len()
-    )
+    with_load!(reduced_chunk_graph_atom_count, load, n, area.as_ptr(), area.len(), bits.as_ptr(), bits.len())
 }
 
 /// An edge's multiplicity.
-pub fn reduced_chunk_graph_multiplicity(
-    load: &Load,
-    n: u64,
-    area: &[u32],
-    from: &[u64],
-    to: &[u64],
-) -> Reply {
+pub fn reduced_chunk_graph_multiplicity(load: &Load, n: u64, area: &[u32], from: &[u64], to: &[u64]) -> Reply {
     let (lent, length, from, from_length) = (area.as_ptr(), area.len(), from.as_ptr(), from.len());
-    with_load!(
-        reduced_chunk_graph_multiplicity,
-        load,
-        n,
-        lent,
-        length,
-        from,
-        from_length,
-        to.as_ptr(),
-        to.len()
-    )
+    with_load!(reduced_chunk_graph_multiplicity, load, n, lent, length, from, from_length, to.as_ptr(), to.len())
 }
 
 /// The number of distinct edges.
 pub fn reduced_chunk_graph_edge_count(load: &Load, n: u64, area: &[u32]) -> Reply {
-    with_load!(
-        reduced_chunk_graph_edge_count,
-        load,
-        n,
-        area.as_ptr(),
-        area.len()
-    )
+    with_load!(reduced_chunk_graph_edge_count, load, n, area.as_ptr(), area.len())
 }
 
 /// The k-th edge, from 0, by rising source set, then target set.
 pub fn reduced_chunk_graph_edge_at(load: &Load, n: u64, area: &[u32], k: u64) -> EdgeReply {
-    with_load!(
-        reduced_chunk_graph_edge_at,
-        load,
-        n,
-        area.as_ptr(),
-        area.len(),
-        k
-    )
+    with_load!(reduced_chunk_graph_edge_at, load, n, area.as_ptr(), area.len(), k)
 }
 
 /// Loads a merge graph. `sets` holds the named sets' numbers, as many for each as the entry bits need.
@@ -195,8 +124,7 @@ pub fn chunk_optimization_graph_init_module_assignment(
     bits: &[u64],
     side_effects: &[u32],
 ) -> Reply {
-    let (lent, length, bits, bits_length) =
-        (area.as_mut_ptr(), area.len(), bits.as_ptr(), bits.len());
+    let (lent, length, bits, bits_length) = (area.as_mut_ptr(), area.len(), bits.as_ptr(), bits.len());
     let (effects, count) = (side_effects.as_ptr(), side_effects.len());
     with_size!(
         chunk_optimization_graph_init_module_assignment,
@@ -221,16 +149,7 @@ pub fn chunk_optimization_graph_add_module_to_chunk(
 ) -> Reply {
     let (lent, length) = (area.as_mut_ptr(), area.len());
     let (effects, count) = (side_effects.as_ptr(), side_effects.len());
-    with_size!(
-        chunk_optimization_graph_add_module_to_chunk,
-        size,
-        lent,
-        length,
-        module,
-        chunk,
-        effects,
-        count
-    )
+    with_size!(chunk_optimization_graph_add_module_to_chunk, size, lent, length, module, chunk, effects, count)
 }
 
 /// Registers a chunk under a key.
@@ -241,25 +160,12 @@ pub fn chunk_optimization_graph_register_chunk_graph_index(
     chunk: u32,
 ) -> Reply {
     let (lent, length) = (area.as_mut_ptr(), area.len());
-    with_size!(
-        chunk_optimization_graph_register_chunk_graph_index,
-        size,
-        lent,
-        length,
-        key,
-        chunk
-    )
+    with_size!(chunk_optimization_graph_register_chunk_graph_index, size, lent, length, key, chunk)
 }
 
 /// The chunk registered under a key, or 4,294,967,295.
 pub fn chunk_optimization_graph_to_temp_idx(size: Size, area: &[u32], key: u32) -> Reply {
-    with_size!(
-        chunk_optimization_graph_to_temp_idx,
-        size,
-        area.as_ptr(),
-        area.len(),
-        key
-    )
+    with_size!(chunk_optimization_graph_to_temp_idx, size, area.as_ptr(), area.len(), key)
 }
 
 /// Adds the chunk dependencies that module dependencies give.
@@ -269,19 +175,9 @@ pub fn chunk_optimization_graph_calc_chunk_dependencies(
     starts: &[u32],
     dependencies: &[u32],
 ) -> Reply {
-    let (lent, length, starts, starts_length) =
-        (area.as_mut_ptr(), area.len(), starts.as_ptr(), starts.len());
+    let (lent, length, starts, starts_length) = (area.as_mut_ptr(), area.len(), starts.as_ptr(), starts.len());
     let (list, count) = (dependencies.as_ptr(), dependencies.len());
-    with_size!(
-        chunk_optimization_graph_calc_chunk_dependencies,
-        size,
-        lent,
-        length,
-        starts,
-        starts_length,
-        list,
-        count
-    )
+    with_size!(chunk_optimization_graph_calc_chunk_dependencies, size, lent, length, starts, starts_length, list, count)
 }
 
 /// Value 1: merging source into target is warned of.
@@ -292,31 +188,12 @@ pub fn chunk_optimization_graph_would_create_circular_dependency(
     target: u32,
 ) -> Reply {
     let (lent, length) = (area.as_ptr(), area.len());
-    with_size!(
-        chunk_optimization_graph_would_create_circular_dependency,
-        size,
-        lent,
-        length,
-        source,
-        target
-    )
+    with_size!(chunk_optimization_graph_would_create_circular_dependency, size, lent, length, source, target)
 }
 
 /// Value 1: `from` reaches `to` in one step or more.
-pub fn chunk_optimization_graph_is_reachable(
-    size: Size,
-    area: &[u32],
-    from: u32,
-    to: u32,
-) -> Reply {
-    with_size!(
-        chunk_optimization_graph_is_reachable,
-        size,
-        area.as_ptr(),
-        area.len(),
-        from,
-        to
-    )
+pub fn chunk_optimization_graph_is_reachable(size: Size, area: &[u32], from: u32, to: u32) -> Reply {
+    with_size!(chunk_optimization_graph_is_reachable, size, area.as_ptr(), area.len(), from, to)
 }
 
 /// Merges the dependencies of source into target.
@@ -327,14 +204,7 @@ pub fn chunk_optimization_graph_merge_chunk_dependencies(
     source: u32,
 ) -> Reply {
     let (lent, length) = (area.as_mut_ptr(), area.len());
-    with_size!(
-        chunk_optimization_graph_merge_chunk_dependencies,
-        size,
-        lent,
-        length,
-        target,
-        source
-    )
+    with_size!(chunk_optimization_graph_merge_chunk_dependencies, size, lent, length, target, source)
 }
 
 /// The pass; value is the number of candidates, one entry each in the four lists.

@@ -70,37 +70,17 @@ pub struct MergeGraph<'a> {
 
 impl<'a> MergeGraph<'a> {
     /// Loads the initial chunks. `side_effects` has a number for each module, nonzero means yes.
-    pub fn new(
-        size: Size,
-        initial: InitialChunks,
-        side_effects: &'a [u32],
-    ) -> Result<Self, Refusal> {
+    pub fn new(size: Size, initial: InitialChunks, side_effects: &'a [u32]) -> Result<Self, Refusal> {
         let (list, whole) = flat(initial.sets, size.entry_bits.div_ceil(64).min(4) as usize);
         let mut area = vec![0; lent::merge_area_length(size).unwrap_or(0)];
-        let reply =
-            lent::chunk_optimization_graph_new(size, &initial, &list, side_effects, &mut area);
+        let reply = lent::chunk_optimization_graph_new(size, &initial, &list, side_effects, &mut area);
         // A bit that was cut off above is row 16, which comes before 17 and 19.
-        let row = if !whole && (reply.refusal == 0 || reply.refusal > 16) {
-            16
-        } else {
-            reply.refusal
-        };
-        Refusal::check(
-            row,
-            Self {
-                size,
-                side_effects,
-                area,
-            },
-        )
+        let row = if !whole && (reply.refusal == 0 || reply.refusal > 16) { 16 } else { reply.refusal };
+        Refusal::check(row, Self { size, side_effects, area })
     }
 
     /// Appends a module to the chunk of a set, or to a new chunk of that set, which then needs creation.
-    pub fn init_module_assignment(
-        &mut self,
-        module: ModuleIdx,
-        set: EntrySet,
-    ) -> Result<(), Refusal> {
+    pub fn init_module_assignment(&mut self, module: ModuleIdx, set: EntrySet) -> Result<(), Refusal> {
         let bits = set.lent(self.size.entry_bits.min(256) as usize);
         let reply = lent::chunk_optimization_graph_init_module_assignment(
             self.size,
@@ -113,118 +93,66 @@ impl<'a> MergeGraph<'a> {
     }
 
     /// Appends a module to a chunk.
-    pub fn add_module_to_chunk(
-        &mut self,
-        module: ModuleIdx,
-        chunk: ChunkIdx,
-    ) -> Result<(), Refusal> {
+    pub fn add_module_to_chunk(&mut self, module: ModuleIdx, chunk: ChunkIdx) -> Result<(), Refusal> {
         let (size, area, effects) = (self.size, &mut self.area, self.side_effects);
-        let reply = lent::chunk_optimization_graph_add_module_to_chunk(
-            size, area, module.0, chunk.0, effects,
-        );
+        let reply = lent::chunk_optimization_graph_add_module_to_chunk(size, area, module.0, chunk.0, effects);
         Refusal::check(reply.refusal, ())
     }
 
     /// Registers a chunk under a key, in the place of an older one.
-    pub fn register_chunk_graph_index(
-        &mut self,
-        key: ChunkIdx,
-        chunk: ChunkIdx,
-    ) -> Result<(), Refusal> {
+    pub fn register_chunk_graph_index(&mut self, key: ChunkIdx, chunk: ChunkIdx) -> Result<(), Refusal> {
         let (size, area) = (self.size, &mut self.area);
-        let reply =
-            lent::chunk_optimization_graph_register_chunk_graph_index(size, area, key.0, chunk.0);
+        let reply = lent::chunk_optimization_graph_register_chunk_graph_index(size, area, key.0, chunk.0);
         Refusal::check(reply.refusal, ())
     }
 
     /// The chunk registered under a key.
     pub fn to_temp_idx(&self, key: ChunkIdx) -> Result<Option<ChunkIdx>, Refusal> {
         let reply = lent::chunk_optimization_graph_to_temp_idx(self.size, &self.area, key.0);
-        let chunk = u32::try_from(reply.value)
-            .ok()
-            .filter(|&chunk| chunk != NONE)
-            .map(ChunkIdx);
+        let chunk = u32::try_from(reply.value).ok().filter(|&chunk| chunk != NONE).map(ChunkIdx);
         Refusal::check(reply.refusal, chunk)
     }
 
     /// Adds to each chunk the chunks that its modules' dependencies are in: module i depends on
     /// `dependencies[starts[i]..starts[i + 1]]`.
-    pub fn calc_chunk_dependencies(
-        &mut self,
-        starts: &[u32],
-        dependencies: &[u32],
-    ) -> Result<(), Refusal> {
+    pub fn calc_chunk_dependencies(&mut self, starts: &[u32], dependencies: &[u32]) -> Result<(), Refusal> {
         let (size, area) = (self.size, &mut self.area);
-        let reply = lent::chunk_optimization_graph_calc_chunk_dependencies(
-            size,
-            area,
-            starts,
-            dependencies,
-        );
+        let reply = lent::chunk_optimization_graph_calc_chunk_dependencies(size, area, starts, dependencies);
         Refusal::check(reply.refusal, ())
     }
 
     /// Whether merging source into target would close a cycle, or source depends directly on target.
-    pub fn would_create_circular_dependency(
-        &self,
-        source: ChunkIdx,
-        target: ChunkIdx,
-    ) -> Result<bool, Refusal> {
+    pub fn would_create_circular_dependency(&self, source: ChunkIdx, target: ChunkIdx) -> Result<bool, Refusal> {
         let (size, area) = (self.size, &self.area);
-        let reply = lent::chunk_optimization_graph_would_create_circular_dependency(
-            size, area, source.0, target.0,
-        );
+        let reply = lent::chunk_optimization_graph_would_create_circular_dependency(size, area, source.0, target.0);
         Refusal::check(reply.refusal, reply.value == 1)
     }
 
     /// Whether one chunk reaches another in one step or more.
     pub fn is_reachable(&self, from: ChunkIdx, to: ChunkIdx) -> Result<bool, Refusal> {
-        let reply =
-            lent::chunk_optimization_graph_is_reachable(self.size, &self.area, from.0, to.0);
+        let reply = lent::chunk_optimization_graph_is_reachable(self.size, &self.area, from.0, to.0);
         Refusal::check(reply.refusal, reply.value == 1)
     }
 
     /// Gives target the dependencies of source, which loses them.
-    pub fn merge_chunk_dependencies(
-        &mut self,
-        target: ChunkIdx,
-        source: ChunkIdx,
-    ) -> Result<(), Refusal> {
+    pub fn merge_chunk_dependencies(&mut self, target: ChunkIdx, source: ChunkIdx) -> Result<(), Refusal> {
         let (size, area) = (self.size, &mut self.area);
-        let reply =
-            lent::chunk_optimization_graph_merge_chunk_dependencies(size, area, target.0, source.0);
+        let reply = lent::chunk_optimization_graph_merge_chunk_dependencies(size, area, target.0, source.0);
         Refusal::check(reply.refusal, ())
     }
 
     /// Decides about each chunk that needs creation, in rising order: one proposal and one bar for each.
-    pub fn pass(
-        &mut self,
-        proposals: &[Option<ChunkIdx>],
-        bars: &[bool],
-    ) -> Result<Vec<Assignment>, Refusal> {
-        let proposals: Vec<u32> = proposals
-            .iter()
-            .map(|chunk| chunk.map_or(NONE, |chunk| chunk.0))
-            .collect();
+    pub fn pass(&mut self, proposals: &[Option<ChunkIdx>], bars: &[bool]) -> Result<Vec<Assignment>, Refusal> {
+        let proposals: Vec<u32> = proposals.iter().map(|chunk| chunk.map_or(NONE, |chunk| chunk.0)).collect();
         let bars: Vec<u32> = bars.iter().map(|&bar| bar.into()).collect();
         let (mut kinds, mut numbers) = (vec![0; proposals.len()], vec![0; proposals.len()]);
         let (size, area) = (self.size, &mut self.area);
-        let reply = lent::chunk_optimization_graph_pass(
-            size,
-            area,
-            &proposals,
-            &bars,
-            &mut kinds,
-            &mut numbers,
-        );
+        let reply = lent::chunk_optimization_graph_pass(size, area, &proposals, &bars, &mut kinds, &mut numbers);
         let assignment = |(kind, number)| match kind {
             0 => Assignment::Merged(ChunkIdx(number)),
             _ => Assignment::Created(ChunkIdx(number)),
         };
-        Refusal::check(
-            reply.refusal,
-            kinds.into_iter().zip(numbers).map(assignment).collect(),
-        )
+        Refusal::check(reply.refusal, kinds.into_iter().zip(numbers).map(assignment).collect())
     }
 
     /// Whether one chunk depends directly on another; false where there is no such chunk.

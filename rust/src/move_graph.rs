@@ -61,20 +61,8 @@ impl<'a> MoveGraph<'a> {
         let mut area = vec![0; lent::move_area_length(&load, sets).unwrap_or(0)];
         let reply = lent::reduced_chunk_graph_new(&load, sets, &list, &mut area);
         // A bit that was cut off above is row 7, which comes before 8.
-        let row = if !whole && (reply.refusal == 0 || reply.refusal > 7) {
-            7
-        } else {
-            reply.refusal
-        };
-        Refusal::check(
-            row,
-            Self {
-                load,
-                sets,
-                cyclic: reply.value == 1,
-                area,
-            },
-        )
+        let row = if !whole && (reply.refusal == 0 || reply.refusal > 7) { 7 } else { reply.refusal };
+        Refusal::check(row, Self { load, sets, cyclic: reply.value == 1, area })
     }
 
     /// Whether the graph had a cycle when it was loaded.
@@ -85,8 +73,7 @@ impl<'a> MoveGraph<'a> {
     /// Moves an atom to another set if the chunk graph then has no cycle: true if so.
     pub fn try_move(&mut self, atom: u32, target: EntrySet) -> Result<bool, Refusal> {
         let bits = target.lent(self.load.hosts.len());
-        let reply =
-            lent::reduced_chunk_graph_try_move(&self.load, self.sets, &mut self.area, atom, bits);
+        let reply = lent::reduced_chunk_graph_try_move(&self.load, self.sets, &mut self.area, atom, bits);
         Refusal::check(reply.refusal, reply.value == 1)
     }
 
@@ -106,12 +93,8 @@ impl<'a> MoveGraph<'a> {
 
     /// How many dependencies and facade edges lead from one chunk to another.
     pub fn multiplicity(&self, from: EntrySet, to: EntrySet) -> Result<u64, Refusal> {
-        let (from, to) = (
-            from.lent(self.load.hosts.len()),
-            to.lent(self.load.hosts.len()),
-        );
-        let reply =
-            lent::reduced_chunk_graph_multiplicity(&self.load, self.sets, &self.area, from, to);
+        let (from, to) = (from.lent(self.load.hosts.len()), to.lent(self.load.hosts.len()));
+        let reply = lent::reduced_chunk_graph_multiplicity(&self.load, self.sets, &self.area, from, to);
         Refusal::check(reply.refusal, reply.value)
     }
 

@@ -66,7 +66,8 @@ fn main() {
     fs::write(out, cut).unwrap();
 
     if env::var_os("CARGO_FEATURE_OURS").is_some() {
-        let library = env::var_os("NIDSKALM_LIB_DIR").map_or_else(|| repository.join("target/staticlib"), PathBuf::from);
+        let library =
+            env::var_os("NIDSKALM_LIB_DIR").map_or_else(|| repository.join("target/staticlib"), PathBuf::from);
         let archive = library.join("libexports.a");
         println!("cargo:rerun-if-changed={}", archive.display());
         assert!(archive.exists(), "{} is missing: build it with `rt staticlib exports`", archive.display());

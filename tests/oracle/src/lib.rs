@@ -11,6 +11,6 @@ pub mod raw;
 pub mod record;
 pub mod run;
 pub mod sets;
+pub mod stand_in_library;
 #[doc(hidden)]
 pub mod stand_ins;
-pub mod stand_in_library;

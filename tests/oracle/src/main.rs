@@ -7,7 +7,8 @@ use oracle::run::{Counts, Disagreement, Random, run};
 use oracle::stand_in_library::{PLANTS, StandIn};
 use oracle::{merges_cases, merges_model, moves_cases, record};
 
-const HELP: &str = "oracle [--long | --percent NUMBER] [--seed NUMBER] [--stand-in] [--self-test] [--record CASES] [--replay FILE]
+const HELP: &str =
+    "oracle [--long | --percent NUMBER] [--seed NUMBER] [--stand-in] [--self-test] [--record CASES] [--replay FILE]
   default      the library if linked (feature `ours`), the original and the model: about a minute
   --long       twenty times as many made-up cases
   --percent    so many hundredths of the default
@@ -44,8 +45,10 @@ fn every_small(library: Option<&dyn Library>, amount: Amount, counts: &mut Count
             }
             for atom in 0..a as u32 {
                 for set in 0..4 {
-                    let second = moves_cases::MoveCall::Move { atom: random.below(a) as u32, bits: vec![random.below(4)] };
-                    let third = moves_cases::MoveCall::Move { atom: random.below(a) as u32, bits: vec![random.below(4)] };
+                    let second =
+                        moves_cases::MoveCall::Move { atom: random.below(a) as u32, bits: vec![random.below(4)] };
+                    let third =
+                        moves_cases::MoveCall::Move { atom: random.below(a) as u32, bits: vec![random.below(4)] };
                     let edge = moves_cases::MoveCall::EdgeAt { k: random.below(3) };
                     let first = moves_cases::MoveCall::Move { atom, bits: vec![set] };
                     let calls = [first, second, moves_cases::MoveCall::EdgeCount, edge, third];
@@ -182,7 +185,8 @@ fn self_test(amount: Amount) -> ExitCode {
         let amount = if plant == "none" { amount } else { Amount { percent: 10, ..amount } };
         let library: Option<&dyn Library> = Some(&StandIn { plant });
         // The merge graph's bugs need no move graph runs.
-        let merge_bug = PLANTS.iter().position(|&name| name == plant) >= PLANTS.iter().position(|&name| name == "needs_creation cleared");
+        let merge_bug = PLANTS.iter().position(|&name| name == plant)
+            >= PLANTS.iter().position(|&name| name == "needs_creation cleared");
         let found = if merge_bug {
             merges(library, amount, &mut Counts::default())
         } else {
@@ -277,4 +281,3 @@ fn main() -> ExitCode {
         }
     }
 }
-

@@ -129,9 +129,8 @@ fn original_answer(original: &mut OriginalMerges, call: &MergeCall) -> Answer {
         MergeCall::Register { key, chunk } => original.register_chunk_graph_index(*key, *chunk),
         MergeCall::ToTempIdx { key } => value = original.to_temp_idx(*key).unwrap_or(NONE).into(),
         MergeCall::Calc { starts, dependencies } => {
-            let lists: Vec<Vec<u32>> = (starts.windows(2))
-                .map(|pair| dependencies[pair[0] as usize..pair[1] as usize].to_vec())
-                .collect();
+            let lists: Vec<Vec<u32>> =
+                (starts.windows(2)).map(|pair| dependencies[pair[0] as usize..pair[1] as usize].to_vec()).collect();
             original.calc_chunk_dependencies(&lists);
         }
         MergeCall::Warning { source, target } => {
@@ -140,8 +139,7 @@ fn original_answer(original: &mut OriginalMerges, call: &MergeCall) -> Answer {
         MergeCall::IsReachable { from, to } => value = original.is_reachable(*from, *to).into(),
         MergeCall::Merge { target, source } => original.merge_chunk_dependencies(*target, *source),
         MergeCall::Pass { proposals, bars, .. } => {
-            let proposals: Vec<Option<u32>> =
-                proposals.iter().map(|&chunk| (chunk != NONE).then_some(chunk)).collect();
+            let proposals: Vec<Option<u32>> = proposals.iter().map(|&chunk| (chunk != NONE).then_some(chunk)).collect();
             let answers = original.pass(&proposals, bars);
             return (Reply::value(answers.len() as u64), answers);
         }

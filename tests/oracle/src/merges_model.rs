@@ -115,8 +115,7 @@ impl MergeState {
     pub fn warning(&self, source: u32, target: u32) -> bool {
         let union = &self.dependencies[source as usize] | &self.dependencies[target as usize];
         let members = self.closed(&union);
-        members.contains(&target)
-            || members.iter().any(|&chunk| self.dependencies[chunk as usize].contains(&source))
+        members.contains(&target) || members.iter().any(|&chunk| self.dependencies[chunk as usize].contains(&source))
     }
 
     pub fn is_reachable(&self, from: u32, to: u32) -> bool {
@@ -187,9 +186,7 @@ impl MergeState {
         if !sound {
             return Verdict::Inconsistent;
         }
-        let odd = |which| {
-            lane(which, at.c).enumerate().any(|(chunk, flag)| flag > 1 || (chunk >= made && flag != 0))
-        };
+        let odd = |which| lane(which, at.c).enumerate().any(|(chunk, flag)| flag > 1 || (chunk >= made && flag != 0));
         if odd(MergeLayout::SIDE_EFFECTS) || odd(MergeLayout::NEEDS_CREATION) {
             return Verdict::Unsettled;
         }

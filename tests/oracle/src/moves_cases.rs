@@ -9,14 +9,28 @@ use crate::stand_ins::rolldown_utils::BitSet;
 
 #[derive(Clone, Debug, PartialEq, Eq)]
 pub enum MoveCall {
-    Move { atom: u32, bits: Vec<u64> },
-    AtomSet { atom: u32 },
-    AtomCount { bits: Vec<u64> },
-    Multiplicity { from: Vec<u64>, to: Vec<u64> },
+    Move {
+        atom: u32,
+        bits: Vec<u64>,
+    },
+    AtomSet {
+        atom: u32,
+    },
+    AtomCount {
+        bits: Vec<u64>,
+    },
+    Multiplicity {
+        from: Vec<u64>,
+        to: Vec<u64>,
+    },
     EdgeCount,
-    EdgeAt { k: u64 },
+    EdgeAt {
+        k: u64,
+    },
     /// No call: the run puts this number into the walk counter, unless that is higher.
-    Counter { value: u32 },
+    Counter {
+        value: u32,
+    },
 }
 
 /// What is wrong with what one call is lent.
@@ -99,15 +113,12 @@ fn original_answer(view: &MoveView, call: &MoveCall) -> Option<Answer> {
     let reply = |value: u32| Answer::Reply(Reply::value(value.into()));
     Some(match call {
         MoveCall::Move { .. } | MoveCall::Counter { .. } => return None,
-        MoveCall::AtomSet { atom } => {
-            Answer::Set(SetReply::set(view.registered[view.node[*atom as usize] as usize]))
-        }
+        MoveCall::AtomSet { atom } => Answer::Set(SetReply::set(view.registered[view.node[*atom as usize] as usize])),
         MoveCall::AtomCount { bits } => reply(node(bits).map_or(0, |node| view.count[node])),
         MoveCall::Multiplicity { from, to } => {
             let ends = node(from).zip(node(to));
-            let edge = ends.and_then(|(from, to)| {
-                view.edges.iter().find(|edge| (edge.0 as usize, edge.1 as usize) == (from, to))
-            });
+            let edge = ends
+                .and_then(|(from, to)| view.edges.iter().find(|edge| (edge.0 as usize, edge.1 as usize) == (from, to)));
             reply(edge.map_or(0, |edge| edge.2))
         }
         MoveCall::EdgeCount => reply(view.edges.len() as u32),
@@ -225,11 +236,14 @@ impl Case for MoveCase {
         if refusal != 0 {
             return Ok(());
         }
-        if reply.value == 0 { counts.acyclic += 1 } else { counts.cyclic += 1 }
+        if reply.value == 0 {
+            counts.acyclic += 1
+        } else {
+            counts.cyclic += 1
+        }
         let lists = original_lists(load, &self.sets);
         let mut original = OriginalMoves::new(&lists);
-        let mut state =
-            MoveState::at_loading(load, &entry_sets(&self.sets, load.a as usize, width(load.e) as usize));
+        let mut state = MoveState::at_loading(load, &entry_sets(&self.sets, load.a as usize, width(load.e) as usize));
         same("original's loading against the model", &u64::from(!original.acyclic()), &reply.value)?;
         let mut view = original.view();
         same("original's state at loading against the model", &view, &model_view(load, &state))?;
@@ -256,7 +270,11 @@ impl Case for MoveCase {
             let answer = model_answer(load, &mut state, call);
             counts.refused(answer.refusal());
             if let (MoveCall::Move { atom, bits }, Answer::Reply(Reply { refusal: 0, value })) = (call, answer) {
-                if value == 1 { counts.accepted += 1 } else { counts.rejected += 1 }
+                if value == 1 {
+                    counts.accepted += 1
+                } else {
+                    counts.rejected += 1
+                }
                 let accepted = original.try_move(*atom, &BitSet::from_words(bits));
                 same(&format!("call {place}: original against the model"), &u64::from(accepted), &value)?;
                 view = original.view();
@@ -377,7 +395,8 @@ fn random_set(random: &mut Random, e: u64) -> Set {
 fn distinct_sets(random: &mut Random, a: u64, e: u64) -> Vec<Set> {
     let mut sets: Vec<Set> = vec![];
     for _ in 0..a {
-        let mut set = if e > 0 && random.chance(35) { Set::single(random.index(e as usize)) } else { random_set(random, e) };
+        let mut set =
+            if e > 0 && random.chance(35) { Set::single(random.index(e as usize)) } else { random_set(random, e) };
         for _ in 0..40 {
             if !sets.contains(&set) {
                 break;
@@ -386,7 +405,8 @@ fn distinct_sets(random: &mut Random, a: u64, e: u64) -> Vec<Set> {
         }
         if sets.contains(&set) && e < 60 {
             // The smallest set not yet taken, if there is one.
-            if let Some(free) = (0..(1_u64 << e.min(12))).map(|low| Set([low, 0, 0, 0])).find(|set| !sets.contains(set)) {
+            if let Some(free) = (0..(1_u64 << e.min(12))).map(|low| Set([low, 0, 0, 0])).find(|set| !sets.contains(set))
+            {
                 set = free;
             }
         }
@@ -498,7 +518,8 @@ fn damaged_load(random: &mut Random, load: &Load) -> Load {
         }
         8 if !load.dependencies.is_empty() => {
             let place = random.index(load.dependencies.len());
-            load.dependencies[place] = if random.chance(50) { random.below(load.a + 1) as u32 } else { random.odd_number() };
+            load.dependencies[place] =
+                if random.chance(50) { random.below(load.a + 1) as u32 } else { random.odd_number() };
         }
         9 if !load.hosts.is_empty() => {
             let place = random.index(load.hosts.len());
@@ -590,8 +611,10 @@ pub fn refused_loading(random: &mut Random, shape: Shape) -> MoveCase {
 
 /// Every load with A atoms and E = 2: sets, single dependencies, hosts, N; `each` gets a case without calls.
 pub fn every_small_load(a: u64, each: &mut dyn FnMut(MoveCase)) {
-    let pairs: Vec<(u32, u32)> =
-        (0..a as u32).flat_map(|from| (0..a as u32).map(move |to| (from, to))).filter(|(from, to)| from != to).collect();
+    let pairs: Vec<(u32, u32)> = (0..a as u32)
+        .flat_map(|from| (0..a as u32).map(move |to| (from, to)))
+        .filter(|(from, to)| from != to)
+        .collect();
     let choices = 4_u64.pow(a as u32);
     for chosen in 0..choices {
         let sets: Vec<u64> = (0..a).map(|atom| chosen / 4_u64.pow(atom as u32) % 4).collect();

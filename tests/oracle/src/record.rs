@@ -211,8 +211,7 @@ fn small(sets: &[u64], lists: &[&[u32]], hosts: &[u32], n: u64, moves: &[(u32, u
         hosts: hosts.to_vec(),
     };
     let calls = moves.iter().map(|&(atom, set)| (MoveCall::Move { atom, bits: vec![set] }, moves_cases::Damage::No));
-    let mut case =
-        MoveCase { load, sets: sets.to_vec(), extra: 0, short: false, fill: 0, calls: calls.collect() };
+    let mut case = MoveCase { load, sets: sets.to_vec(), extra: 0, short: false, fill: 0, calls: calls.collect() };
     asked(&mut case);
     case
 }

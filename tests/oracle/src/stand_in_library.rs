@@ -78,7 +78,8 @@ impl StandIn {
         let at = load.layout();
         if self.planted("counts not checked by 9") {
             for node in 0..at.n {
-                let count = (0..at.a).filter(|&atom| area[at.atom_lane(MoveLayout::NODE, atom)] as usize == node).count();
+                let count =
+                    (0..at.a).filter(|&atom| area[at.atom_lane(MoveLayout::NODE, atom)] as usize == node).count();
                 area[at.node_lane(MoveLayout::COUNT, node)] = count as u32;
             }
         }
@@ -148,7 +149,8 @@ impl StandIn {
                 }
                 if self.planted("walk only from the target while cyclic") {
                     let graph = Graph::new(&load, &state.ledger().place);
-                    if graph.cyclic() && graph.component().contains(&present) && !(unseen && full) && target != present {
+                    if graph.cyclic() && graph.component().contains(&present) && !(unseen && full) && target != present
+                    {
                         let mut place = state.ledger().place;
                         place[atom as usize] = target;
                         if !Graph::new(&load, &place).reached(target).contains(&target) {
@@ -186,7 +188,13 @@ impl StandIn {
         reply
     }
 
-    fn question<T>(&self, load: &Load, area: &[u32], refused: impl Fn(u64) -> T, answer: impl Fn(&Load, MoveState) -> T) -> T {
+    fn question<T>(
+        &self,
+        load: &Load,
+        area: &[u32],
+        refused: impl Fn(u64) -> T,
+        answer: impl Fn(&Load, MoveState) -> T,
+    ) -> T {
         match self.open(load, area) {
             Err(row) => refused(row),
             Ok((load, state)) => answer(&load, state),
@@ -198,7 +206,9 @@ impl StandIn {
         if row != 0 {
             return (Reply::refused(row), vec![]);
         }
-        let Verdict::Consistent(mut state) = MergeState::decode(size, area) else { return (Reply::refused(21), vec![]) };
+        let Verdict::Consistent(mut state) = MergeState::decode(size, area) else {
+            return (Reply::refused(21), vec![]);
+        };
         let before = state.clone();
         if self.planted("calc clears") && matches!(call, MergeCall::Calc { .. }) {
             state.dependencies.iter_mut().for_each(BTreeSet::clear);

@@ -1,0 +1,48 @@
+//! Times the original and the library on the same inputs, in one run, and prints Markdown tables. README.md says how.
+mod merges;
+mod moves;
+
+use std::time::Instant;
+
+use oracle::library::Library;
+
+/// Runs of which the best counts.
+const RUNS: usize = 7;
+
+/// Best time in nanoseconds of one call, where `run` makes `calls` of them on what `prepare` gives.
+fn best<T>(calls: usize, mut prepare: impl FnMut() -> T, mut run: impl FnMut(&mut T)) -> f64 {
+    let mut best = f64::INFINITY;
+    for _ in 0..RUNS {
+        let mut input = prepare();
+        let start = Instant::now();
+        run(&mut input);
+        best = best.min(start.elapsed().as_nanos() as f64 / calls as f64);
+        std::hint::black_box(&input);
+    }
+    best
+}
+
+/// A time with three figures or so.
+fn time(nanoseconds: f64) -> String {
+    match nanoseconds {
+        t if t < 1e4 => format!("{t:.0} ns"),
+        t if t < 1e6 => format!("{:.1} µs", t / 1e3),
+        t => format!("{:.2} ms", t / 1e6),
+    }
+}
+
+fn ratio(ours: f64, original: f64) -> String {
+    format!("{:.2}", ours / original)
+}
+
+fn main() {
+    #[cfg(feature = "ours")]
+    let library: Option<&dyn Library> = Some(&oracle::library::Ours);
+    #[cfg(not(feature = "ours"))]
+    let library: Option<&dyn Library> = None;
+    if library.is_none() {
+        println!("The library is not linked (feature `ours`): only the original is timed.\n");
+    }
+    moves::table(library);
+    merges::table(library);
+}

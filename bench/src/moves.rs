@@ -1,0 +1,150 @@
+//! The move graph: `new`, `try_move` and each question.
+use oracle::library::Library;
+use oracle::moves_cases::{Shape, original_lists, random_load, words};
+use oracle::moves_model::{Graph, Load};
+use oracle::original::OriginalMoves;
+use oracle::run::Random;
+use oracle::sets::Set;
+use oracle::stand_ins::rolldown_utils::BitSet;
+
+use crate::{best, ratio, time};
+
+const MOVES: usize = 200;
+/// Questions asked in one run.
+const ASKED: usize = 50;
+
+struct Input {
+    load: Load,
+    sets: Vec<Set>,
+    flat: Vec<u64>,
+    /// None goes to the atom's present set, none registers more sets than N.
+    moves: Vec<(u32, Vec<u64>)>,
+    accepted: usize,
+}
+
+/// An acyclic load and moves that answer alike for both.
+fn input(a: u64, d: u64, e: u64, n: u64) -> Input {
+    let mut random = Random(a * 31 + d);
+    let (load, sets) = loop {
+        let (load, sets) = random_load(&mut random, Shape { a, d, e, n, calls: 0 });
+        if !Graph::new(&load, &sets).cyclic()
+            && sets.iter().enumerate().all(|(place, set)| !sets[..place].contains(set))
+        {
+            break (load, sets);
+        }
+    };
+    let flat: Vec<u64> = sets.iter().flat_map(|&set| words(set, e)).collect();
+    let lists = original_lists(&load, &flat);
+    let mut original = OriginalMoves::new(&lists);
+    let mut place = sets.clone();
+    let mut registered = sets.clone();
+    let (mut moves, mut accepted) = (vec![], 0);
+    while moves.len() < MOVES {
+        let atom = random.index(a as usize);
+        let target = if random.chance(30) { Set::single(random.index(e as usize)) } else { random.pick(&sets) };
+        let unseen = !registered.contains(&target);
+        if target == place[atom] || (unseen && registered.len() as u64 >= n) {
+            continue;
+        }
+        if unseen {
+            registered.push(target);
+        }
+        let bits = words(target, e);
+        if original.try_move(atom as u32, &BitSet::from_words(&bits)) {
+            place[atom] = target;
+            accepted += 1;
+        }
+        moves.push((atom as u32, bits));
+    }
+    Input { load, sets, flat, moves, accepted }
+}
+
+fn loaded(library: &dyn Library, input: &Input) -> Vec<u32> {
+    let mut area = vec![0; input.load.layout().length()];
+    assert_eq!(library.move_new(&input.load, &input.flat, &mut area).refusal, 0);
+    area
+}
+
+/// The library's time for `new`, `try_move` and the five questions.
+fn library_times(library: &dyn Library, input: &Input) -> Vec<(&'static str, f64)> {
+    let load = &input.load;
+    let new = best(
+        1,
+        || vec![0; load.layout().length()],
+        |area| {
+            std::hint::black_box(library.move_new(load, &input.flat, area));
+        },
+    );
+    let moves = best(
+        MOVES,
+        || loaded(library, input),
+        |area| {
+            let accepted = (input.moves.iter())
+                .filter(|(atom, bits)| library.try_move(load, area, *atom, bits).value == 1)
+                .count();
+            assert_eq!(accepted, input.accepted, "the same answers");
+        },
+    );
+    let bits: Vec<Vec<u64>> = input.sets.iter().map(|&set| words(set, load.e)).collect();
+    let ask = |question: &dyn Fn(&[u32], usize) -> u64| {
+        best(
+            ASKED,
+            || loaded(library, input),
+            |area| {
+                for k in 0..ASKED {
+                    std::hint::black_box(question(area, k));
+                }
+            },
+        )
+    };
+    let set = |k: usize| &bits[k % bits.len()];
+    vec![
+        ("new", new),
+        ("try_move", moves),
+        ("atom_set", ask(&|area, k| library.atom_set(load, area, k as u32 % load.a as u32).set0)),
+        ("atom_count", ask(&|area, k| library.atom_count(load, area, set(k)).value)),
+        ("multiplicity", ask(&|area, k| library.multiplicity(load, area, set(k), set(k + 1)).value)),
+        ("edge_count", ask(&|area, _| library.edge_count(load, area).value)),
+        ("edge_at", ask(&|area, k| library.edge_at(load, area, k as u64).multiplicity)),
+    ]
+}
+
+pub fn table(library: Option<&dyn Library>) {
+    println!("## Move graph\n");
+    println!("| A | D | E | N | call | original | ours | ours / original | ours / original's `new` |");
+    println!("|---|---|---|---|---|---|---|---|---|");
+    for (a, d, e) in [(48, 96, 16), (48, 768, 16), (128, 512, 32), (512, 1024, 64), (512, 8192, 64)] {
+        for n in [2 * a, a] {
+            let input = input(a, d, e, n);
+            let lists = original_lists(&input.load, &input.flat);
+            let new = best(1, || (), |()| drop(std::hint::black_box(OriginalMoves::new(&lists))));
+            let targets: Vec<(u32, BitSet)> =
+                input.moves.iter().map(|(atom, bits)| (*atom, BitSet::from_words(bits))).collect();
+            let moves = best(
+                MOVES,
+                || OriginalMoves::new(&lists),
+                |graph| {
+                    for (atom, bits) in &targets {
+                        std::hint::black_box(graph.try_move(*atom, bits));
+                    }
+                },
+            );
+            let ours = library.map_or(vec![("new", 0.0), ("try_move", 0.0)], |library| library_times(library, &input));
+            for (call, ours) in ours {
+                let original = match call {
+                    "new" => Some(new),
+                    "try_move" => Some(moves),
+                    _ => None,
+                };
+                let shown = original.map_or("–".into(), time);
+                let (own, against, against_new) = if library.is_some() {
+                    (time(ours), original.map_or("–".into(), |original| ratio(ours, original)), ratio(ours, new))
+                } else {
+                    ("–".into(), "–".into(), "–".into())
+                };
+                println!("| {a} | {d} | {e} | {n} | `{call}` | {shown} | {own} | {against} | {against_new} |");
+            }
+        }
+    }
+    println!();
+}
