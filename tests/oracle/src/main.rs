@@ -52,7 +52,7 @@ fn every_small(library: Option<&dyn Library>, amount: Amount, counts: &mut Count
                     let edge = moves_cases::MoveCall::EdgeAt { k: random.below(3) };
                     let first = moves_cases::MoveCall::Move { atom, bits: vec![set] };
                     let calls = [first, second, moves_cases::MoveCall::EdgeCount, edge, third];
-                    let calls = calls.into_iter().map(|call| (call, moves_cases::Damage::No)).collect();
+                    let calls = calls.into_iter().map(|call| (call, moves_cases::Damage::default())).collect();
                     if found.is_ok() {
                         found = run(&moves_cases::MoveCase { calls, ..case.clone() }, library, counts);
                     }
@@ -102,6 +102,7 @@ fn moves(library: Option<&dyn Library>, amount: Amount, counts: &mut Counts) -> 
         run(&moves_cases::random_case(&mut random, shape, if round % 2 == 0 { 0 } else { 30 }), library, counts)?;
         if round % 4 == 0 {
             run(&moves_cases::refused_loading(&mut random, shape), library, counts)?;
+            run(&moves_cases::crafted_case(&mut random, shape, 10), library, counts)?;
         }
     }
     // Long histories.
@@ -143,6 +144,7 @@ fn merges(library: Option<&dyn Library>, amount: Amount, counts: &mut Counts) ->
         run(&merges_cases::random_case(&mut random, shape, if round % 2 == 0 { 0 } else { 25 }), library, counts)?;
         if round % 4 == 0 {
             run(&merges_cases::refused_loading(&mut random, shape), library, counts)?;
+            run(&merges_cases::crafted_case(&mut random, shape, 10), library, counts)?;
         }
     }
     for _ in 0..amount.times(30) {

@@ -3,19 +3,24 @@ use crate::layout::MergeLayout;
 use crate::library::{Library, MergeLoad, Reply};
 use crate::merges_model::{self, MergeCall, MergeState, NONE, Size, Verdict, size_refusal};
 use crate::original::OriginalMerges;
-use crate::run::{Case, Counts, Random, same_area, shorter};
-use crate::sets::width;
+use crate::run::{Case, Counts, GUARD, Random, same_area, shorter};
+use crate::sets::{Set, width};
 
 /// A pass whose lists are made as long as there are candidates.
 pub const FITTED: usize = usize::MAX;
 
 /// What is wrong with what one call is lent.
-#[derive(Clone, Debug)]
-pub enum Damage {
-    No,
-    Size(Size),
-    ShortArea,
-    Cell { cell: usize, value: u32 },
+#[derive(Clone, Debug, Default)]
+pub struct Damage {
+    pub size: Option<Size>,
+    pub short: bool,
+    pub cell: Option<(usize, u32)>,
+}
+
+impl Damage {
+    pub fn none(&self) -> bool {
+        self.size.is_none() && !self.short && self.cell.is_none()
+    }
 }
 
 #[derive(Clone, Debug)]
@@ -25,6 +30,8 @@ pub struct MergeCase {
     pub extra: usize,
     pub short: bool,
     pub fill: u64,
+    /// Starts from this consistent area in the place of loading; the original then stays out.
+    pub crafted: Option<MergeState>,
     pub calls: Vec<(MergeCall, Damage)>,
 }
 
@@ -48,16 +55,23 @@ pub fn library_answer(library: &dyn Library, size: Size, area: &mut [u32], call:
         MergeCall::Merge { target, source } => (library.merge(size, area, *target, *source), vec![]),
         MergeCall::Pass { proposals, bars, kinds, numbers } => {
             let fill = |place: usize| 0x5eed_0000 + place as u32;
-            let mut kinds: Vec<u32> = (0..*kinds).map(fill).collect();
-            let mut numbers: Vec<u32> = (0..*numbers).map(fill).collect();
-            let reply = library.pass(size, area, proposals, bars, &mut kinds, &mut numbers);
+            let (k, n) = (*kinds, *numbers);
+            let mut kinds: Vec<u32> = (0..k + GUARD).map(fill).collect();
+            let mut numbers: Vec<u32> = (0..n + GUARD).map(fill).collect();
+            let reply = library.pass(size, area, proposals, bars, &mut kinds[..k], &mut numbers[..n]);
+            let untouched =
+                |list: &[u32], from: usize| (from..list.len()).all(|place| list[place] == fill(place));
+            if !untouched(&kinds, k) || !untouched(&numbers, n) {
+                return Err("wrote past an answer list".into());
+            }
             if reply.refusal != 0 {
-                let untouched = |list: &[u32]| list.iter().enumerate().all(|(place, &number)| number == fill(place));
-                if !untouched(&kinds) || !untouched(&numbers) {
+                if !untouched(&kinds, 0) || !untouched(&numbers, 0) {
                     return Err(format!("refused {} and wrote an answer list", reply.refusal));
                 }
                 return Ok((reply, vec![]));
             }
+            kinds.truncate(k);
+            numbers.truncate(n);
             (reply, kinds.into_iter().zip(numbers).collect())
         }
     })
@@ -93,7 +107,7 @@ fn model_on_area(size: Size, area: &[u32], call: &MergeCall) -> (Answer, Option<
     }
 }
 
-/// Compares an area after an unrefused call with the state, and its free cells with those before.
+/// Compares an area after an unrefused call with the state, and its free cells and the guard with those before.
 fn same_state(size: Size, state: &MergeState, area: &[u32], before: &[u32]) -> Result<(), String> {
     match MergeState::decode(size, area) {
         Verdict::Consistent(other) if other == *state => {}
@@ -158,7 +172,7 @@ impl MergeCase {
         let length = if far { 64 } else { size.layout().length() };
         let length = if self.short { length - 1 } else { length + self.extra };
         let mut random = Random(self.fill);
-        (0..length).map(|_| random.next() as u32).collect()
+        (0..length + GUARD).map(|_| random.next() as u32).collect()
     }
 
     fn check_damaged(
@@ -169,17 +183,18 @@ impl MergeCase {
         damage: &Damage,
         counts: &mut Counts,
     ) -> Result<(), String> {
-        let mut size = self.size;
         let mut ours = area.to_vec();
-        match damage {
-            Damage::No => unreachable!(),
-            Damage::Size(other) => size = *other,
-            Damage::ShortArea => ours.truncate(size.layout().length() - 1),
-            Damage::Cell { cell, value } => ours[*cell] = *value,
+        let mut lent = area.len() - GUARD;
+        if let Some((cell, value)) = damage.cell {
+            ours[cell] = value;
         }
+        if damage.short {
+            lent = self.size.layout().length() - 1;
+        }
+        let size = damage.size.unwrap_or(self.size);
         let before = ours.clone();
-        let (expected, state, unsettled) = model_on_area(size, &ours, call);
-        let answer = library_answer(library, size, &mut ours, call)?;
+        let (expected, state, unsettled) = model_on_area(size, &ours[..lent], call);
+        let answer = library_answer(library, size, &mut ours[..lent], call)?;
         if unsettled {
             counts.damaged_unsettled += 1;
             if answer.0.refusal != 0 {
@@ -187,7 +202,7 @@ impl MergeCase {
             }
             return Ok(());
         }
-        if let Damage::Cell { .. } = damage {
+        if damage.cell.is_some() && damage.size.is_none() && !damage.short {
             if expected.0.refusal == 21 { counts.damaged_refused += 1 } else { counts.damaged_consistent += 1 }
         }
         counts.refused(expected.0.refusal);
@@ -205,54 +220,26 @@ impl Case for MergeCase {
         counts.calls += 1;
         let size = self.size;
         let mut area = self.fresh_area();
-        let loaded = merges_model::new(size, &self.load, area.len());
+        let lent = area.len() - GUARD;
+        if let Some(state) = &self.crafted {
+            state.encode(size, &mut area[..lent]);
+            return self.check_calls(library, None, state.clone(), area, counts);
+        }
+        let loaded = merges_model::new(size, &self.load, lent);
         let row = loaded.as_ref().err().copied().unwrap_or(0);
         counts.refused(row);
         if let Some(library) = library {
             let before = area.clone();
-            same("loading", &library.merge_new(size, &self.load, &mut area), &Reply::refused(row))?;
+            same("loading", &library.merge_new(size, &self.load, &mut area[..lent]), &Reply::refused(row))?;
             match &loaded {
                 Err(_) => same_area("loading", &area, &before)?,
                 Ok(state) => same_state(size, state, &area, &before).map_err(|why| format!("loading: {why}"))?,
             }
         }
-        let Ok(mut state) = loaded else { return Ok(()) };
-        let mut original = original_of(size, &self.load);
+        let Ok(state) = loaded else { return Ok(()) };
+        let original = original_of(size, &self.load);
         same("original's state at loading against the model", &original.view(), &state.view())?;
-        for (place, (call, damage)) in self.calls.iter().enumerate() {
-            counts.calls += 1;
-            let at = |why: String| format!("call {place}: {why}");
-            let call = &fitted(call, &state);
-            if !matches!(damage, Damage::No) {
-                if let Some(library) = library {
-                    self.check_damaged(library, &area, call, damage, counts).map_err(at)?;
-                }
-                continue;
-            }
-            let row = size_refusal(size, usize::MAX, call);
-            let answer = if row != 0 { (Reply::refused(row), vec![]) } else { state.call(size, call) };
-            counts.refused(answer.0.refusal);
-            if answer.0.refusal == 0 {
-                let theirs = original_answer(&mut original, call);
-                same(&format!("call {place}: original against the model"), &theirs, &answer)?;
-                same(&format!("call {place}: original's state against the model"), &original.view(), &state.view())?;
-                if let MergeCall::Warning { .. } = call {
-                    if answer.0.value == 1 { counts.warned += 1 } else { counts.unwarned += 1 }
-                }
-                counts.merged += answer.1.iter().filter(|(kind, _)| *kind == 0).count() as u64;
-                counts.created += answer.1.iter().filter(|(kind, _)| *kind == 1).count() as u64;
-            }
-            if let Some(library) = library {
-                let before = area.clone();
-                same("answer", &library_answer(library, size, &mut area, call).map_err(at)?, &answer).map_err(at)?;
-                if answer.0.refusal != 0 {
-                    same_area("refused", &area, &before).map_err(at)?;
-                } else {
-                    same_state(size, &state, &area, &before).map_err(at)?;
-                }
-            }
-        }
-        Ok(())
+        self.check_calls(library, Some(original), state, area, counts)
     }
 
     fn smaller(&self) -> Vec<Self> {
@@ -292,6 +279,59 @@ impl Case for MergeCase {
             }
         }
         cases
+    }
+}
+
+impl MergeCase {
+    /// The calls, from a state that the area holds.
+    fn check_calls(
+        &self,
+        library: Option<&dyn Library>,
+        mut original: Option<OriginalMerges>,
+        mut state: MergeState,
+        mut area: Vec<u32>,
+        counts: &mut Counts,
+    ) -> Result<(), String> {
+        let size = self.size;
+        let lent = area.len() - GUARD;
+        for (place, (call, damage)) in self.calls.iter().enumerate() {
+            counts.calls += 1;
+            let at = |why: String| format!("call {place}: {why}");
+            let call = &fitted(call, &state);
+            if !damage.none() {
+                if let Some(library) = library {
+                    self.check_damaged(library, &area, call, damage, counts).map_err(at)?;
+                }
+                continue;
+            }
+            let row = size_refusal(size, usize::MAX, call);
+            let answer = if row != 0 { (Reply::refused(row), vec![]) } else { state.call(size, call) };
+            counts.refused(answer.0.refusal);
+            if answer.0.refusal == 0 {
+                if let Some(original) = &mut original {
+                    let theirs = original_answer(original, call);
+                    same(&format!("call {place}: original against the model"), &theirs, &answer)?;
+                    let view = original.view();
+                    same(&format!("call {place}: original's state against the model"), &view, &state.view())?;
+                }
+                if let MergeCall::Warning { .. } = call {
+                    if answer.0.value == 1 { counts.warned += 1 } else { counts.unwarned += 1 }
+                }
+                counts.merged += answer.1.iter().filter(|(kind, _)| *kind == 0).count() as u64;
+                counts.created += answer.1.iter().filter(|(kind, _)| *kind == 1).count() as u64;
+            }
+            if let Some(library) = library {
+                let before = area.clone();
+                let ours = library_answer(library, size, &mut area[..lent], call).map_err(at)?;
+                same("answer", &ours, &answer).map_err(at)?;
+                if answer.0.refusal != 0 {
+                    same_area("refused", &area, &before).map_err(at)?;
+                } else {
+                    same_state(size, &state, &area, &before).map_err(at)?;
+                }
+            }
+        }
+        Ok(())
     }
 }
 
@@ -412,7 +452,7 @@ fn damaged_size(random: &mut Random, mut size: Size) -> Size {
     size
 }
 
-fn damaged_cell(random: &mut Random, size: Size, state: &MergeState, extra: usize) -> Damage {
+fn damaged_cell(random: &mut Random, size: Size, state: &MergeState, extra: usize) -> (usize, u32) {
     let at = size.layout();
     let chunk = random.index(at.c);
     let cell = match random.below(12) {
@@ -429,7 +469,7 @@ fn damaged_cell(random: &mut Random, size: Size, state: &MergeState, extra: usiz
         _ => random.index(at.length() + extra),
     };
     let value = if random.chance(70) { random.below(size.c.max(size.m) + 2) as u32 } else { random.odd_number() };
-    Damage::Cell { cell, value }
+    (cell, value)
 }
 
 pub fn random_load(random: &mut Random, shape: Shape) -> MergeLoad {
@@ -458,70 +498,119 @@ pub fn random_case(random: &mut Random, shape: Shape, damage: u64) -> MergeCase 
     let load = random_load(random, shape);
     let size = shape.size;
     let extra = random.pick(&[0, 0, 1, 7]);
-    let mut case = MergeCase { size, load, extra, short: false, fill: random.next(), calls: vec![] };
-    let Ok(mut state) = merges_model::new(size, &case.load, usize::MAX) else { return case };
+    let mut case = MergeCase { size, load, extra, short: false, fill: random.next(), crafted: None, calls: vec![] };
+    let Ok(state) = merges_model::new(size, &case.load, usize::MAX) else { return case };
+    add_calls(random, &mut case, state, shape, damage);
+    case
+}
+
+fn add_calls(random: &mut Random, case: &mut MergeCase, mut state: MergeState, shape: Shape, damage: u64) {
+    let (size, extra) = (case.size, case.extra);
     for _ in 0..shape.calls {
         let call = random_call(random, shape, &state, damage / 2);
-        let kind = if !random.chance(damage) {
-            Damage::No
-        } else {
-            match random.below(6) {
-                0 => Damage::Size(damaged_size(random, size)),
-                1 => Damage::ShortArea,
-                _ => damaged_cell(random, size, &state, extra),
+        let mut wrong = Damage::default();
+        if random.chance(damage) {
+            // Mostly one thing, now and then several: the first fitting row wins.
+            let kind = random.below(8);
+            if kind == 0 || kind == 7 {
+                wrong.size = Some(damaged_size(random, size));
             }
-        };
-        if matches!(kind, Damage::No) {
+            wrong.short = kind == 1 || (kind == 7 && random.chance(30));
+            if (2..7).contains(&kind) || (kind == 7 && random.chance(50)) {
+                wrong.cell = Some(damaged_cell(random, size, &state, extra));
+            }
+        }
+        if wrong.none() {
             let call = fitted(&call, &state);
             if size_refusal(size, usize::MAX, &call) == 0 {
                 state.call(size, &call);
             }
         }
-        case.calls.push((call, kind));
+        case.calls.push((call, wrong));
+    }
+}
+
+/// A case that starts from a made-up consistent area: nothing in it need come of a loading.
+pub fn crafted_case(random: &mut Random, shape: Shape, damage: u64) -> MergeCase {
+    let mut case = random_case(random, Shape { calls: 0, ..shape }, 0);
+    let size = case.size;
+    let made = random.below(size.c + 1).max(shape.initial);
+    let maybe = |random: &mut Random| (made > 0 && random.chance(70)).then(|| random.below(made) as u32);
+    let flags = |random: &mut Random, from: u64| (0..made).map(|chunk| chunk >= from && random.chance(40)).collect();
+    let mut sets: Vec<(Set, u32)> = vec![];
+    for _ in 0..if made == 0 { 0 } else { random.below(2 * (size.c + made)) } {
+        let set = Set::from_words(&random_set(random, size.e, 16 * size.c));
+        if (sets.len() as u64) < size.c + made && !sets.iter().any(|(other, _)| *other == set) {
+            sets.push((set, random.below(made) as u32));
+        }
+    }
+    let dense = random.pick(&[5, 20, 50]);
+    let entries = if made == 0 || size.m == 0 { 0 } else { random.below(size.l + 1) };
+    let state = MergeState {
+        initial: shape.initial as u32,
+        created: if random.chance(20) { random.odd_number() } else { random.below(2) as u32 },
+        dependencies: (0..made as u32)
+            .map(|from| (0..made as u32).filter(|&to| to != from && random.chance(dense)).collect())
+            .collect(),
+        side_effects: flags(random, 0),
+        needs_creation: flags(random, shape.initial),
+        sets,
+        entries: (0..entries).map(|_| (random.below(made) as u32, random.below(size.m) as u32)).collect(),
+        module_chunk: (0..size.m).map(|_| maybe(random)).collect(),
+        registered: (0..size.c).map(|_| maybe(random)).collect(),
+    };
+    case.crafted = Some(state.clone());
+    add_calls(random, &mut case, state, shape, damage);
+    case
+}
+
+/// A loading with one thing wrong, now and then two.
+pub fn refused_loading(random: &mut Random, shape: Shape) -> MergeCase {
+    let mut case = random_case(random, Shape { calls: 1, ..shape }, 0);
+    for _ in 0..random.pick(&[1, 1, 2]) {
+        damage_loading(random, &mut case, shape.size);
     }
     case
 }
 
-/// A loading with one thing wrong.
-pub fn refused_loading(random: &mut Random, shape: Shape) -> MergeCase {
-    let mut case = random_case(random, Shape { calls: 1, ..shape }, 0);
-    let w = width(case.size.e) as usize;
+fn damage_loading(random: &mut Random, case: &mut MergeCase, size: Size) {
+    let w = width(size.e) as usize;
+    let load = &mut case.load;
+    let pairs = if w == 0 { 0 } else { load.set_chunks.len().min(load.sets.len() / w) };
     match random.below(12) {
         0 => case.short = true,
         1 => case.size = damaged_size(random, case.size),
-        2 => case.load.initial += random.pick(&[1, 1024, u64::MAX - case.load.initial]),
-        3 => case.load.module_starts.push(0),
+        2 => load.initial = load.initial.saturating_add(random.pick(&[1, 1024, u64::MAX])),
+        3 => load.module_starts.push(0),
         4 => {
-            let place = random.index(case.load.module_starts.len());
-            case.load.module_starts[place] = random.odd_number();
+            let place = random.index(load.module_starts.len());
+            load.module_starts[place] = random.odd_number();
         }
-        5 if !case.load.modules.is_empty() => {
-            let place = random.index(case.load.modules.len());
-            case.load.modules[place] = case.size.m as u32 + random.below(2) as u32;
+        5 if !load.modules.is_empty() => {
+            let place = random.index(load.modules.len());
+            load.modules[place] = size.m as u32 + random.below(2) as u32;
         }
-        6 => case.load.sets.push(0),
-        7 if case.load.set_chunks.len() > 1 => {
-            let (one, other) = (random.index(case.load.set_chunks.len()), random.index(case.load.set_chunks.len()));
-            case.load.sets.copy_within(one * w..(one + 1) * w, other * w);
+        6 => load.sets.push(0),
+        7 | 8 if pairs > 1 => {
+            let (one, other) = (random.index(pairs), random.index(pairs));
+            load.sets.copy_within(one * w..(one + 1) * w, other * w);
+            if random.chance(30) {
+                load.set_chunks[one] = load.initial as u32;
+            }
         }
-        8 if !case.load.set_chunks.is_empty() => {
-            let place = random.index(case.load.set_chunks.len());
-            case.load.set_chunks[place] = case.load.initial as u32;
-        }
-        9 => case.load.side_effects.push(1),
-        10 if case.load.initial > 0 && case.size.m > 0 => {
+        9 => load.side_effects.push(1),
+        10 if load.initial > 0 && load.initial <= size.c && size.m > 0 => {
             // One module more than L.
-            case.load.modules = vec![0; case.size.l as usize + 1];
-            case.load.module_starts = vec![0; case.load.initial as usize + 1];
-            *case.load.module_starts.last_mut().unwrap() = case.size.l as u32 + 1;
+            load.modules = vec![0; size.l as usize + 1];
+            load.module_starts = vec![0; load.initial as usize + 1];
+            *load.module_starts.last_mut().unwrap() = size.l as u32 + 1;
         }
         _ => {
             // One set more than C.
-            case.load.set_chunks = vec![0; case.size.c as usize + 1];
-            case.load.sets = vec![0; w * (case.size.c as usize + 1)];
+            load.set_chunks = vec![0; size.c as usize + 1];
+            load.sets = vec![0; w * (size.c as usize + 1)];
         }
     }
-    case
 }
 
 /// Two initial chunks, two that need creation, every dependency among the four: all warnings and walks, a pass.
@@ -565,8 +654,8 @@ pub fn every_small_graph(each: &mut dyn FnMut(MergeCase)) {
             let pass = MergeCall::Pass { proposals, bars, kinds: FITTED, numbers: FITTED };
             let merge = MergeCall::Merge { target: number % 4, source: (number + 1 + graph % 3) % 4 };
             let calls = calls.iter().cloned().chain([merge, pass.clone(), pass]);
-            let calls = calls.map(|call| (call, Damage::No)).collect();
-            each(MergeCase { size, load: load.clone(), extra: 2, short: false, fill: graph.into(), calls });
+            let calls = calls.map(|call| (call, Damage::default())).collect();
+            each(MergeCase { size, load: load.clone(), extra: 2, short: false, fill: graph.into(), crafted: None, calls });
         }
     }
 }

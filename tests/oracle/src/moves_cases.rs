@@ -3,7 +3,7 @@ use crate::layout::MoveLayout;
 use crate::library::{EdgeReply, Library, Reply, SetReply};
 use crate::moves_model::{Graph, Load, MoveState, NONE, entry_sets, load_refusal, whole};
 use crate::original::{MoveLists, MoveView, OriginalMoves};
-use crate::run::{Case, Counts, Random, same_area, shorter};
+use crate::run::{Case, Counts, GUARD, Random, same_area, shorter};
 use crate::sets::{Set, width};
 use crate::stand_ins::rolldown_utils::BitSet;
 
@@ -34,12 +34,17 @@ pub enum MoveCall {
 }
 
 /// What is wrong with what one call is lent.
-#[derive(Clone, Debug)]
-pub enum Damage {
-    No,
-    Load(Box<Load>),
-    ShortArea,
-    Cell { cell: usize, value: u32 },
+#[derive(Clone, Debug, Default)]
+pub struct Damage {
+    pub load: Option<Box<Load>>,
+    pub short: bool,
+    pub cell: Option<(usize, u32)>,
+}
+
+impl Damage {
+    pub fn none(&self) -> bool {
+        self.load.is_none() && !self.short && self.cell.is_none()
+    }
 }
 
 #[derive(Clone, Debug)]
@@ -52,6 +57,8 @@ pub struct MoveCase {
     pub short: bool,
     /// Fills the area before loading.
     pub fill: u64,
+    /// Starts from this consistent area in the place of loading; the original then stays out.
+    pub crafted: Option<MoveState>,
     pub calls: Vec<(MoveCall, Damage)>,
 }
 
@@ -178,7 +185,7 @@ impl MoveCase {
         let length = if load_refusal(&self.load, None, usize::MAX) == 1 { 64 } else { self.load.layout().length() };
         let mut random = Random(self.fill);
         let length = if self.short { length - 1 } else { length + self.extra };
-        (0..length).map(|_| random.next() as u32).collect()
+        (0..length + GUARD).map(|_| random.next() as u32).collect()
     }
 
     /// One call that is lent something wrong, on a copy.
@@ -191,29 +198,30 @@ impl MoveCase {
         counts: &mut Counts,
     ) -> Result<(), String> {
         let mut ours = area.to_vec();
-        let mut load = &self.load;
-        match damage {
-            Damage::No => unreachable!(),
-            Damage::Load(other) => load = other,
-            Damage::ShortArea => ours.truncate(load.layout().length() - 1),
-            Damage::Cell { cell, value } => ours[*cell] = *value,
+        let mut lent = area.len() - GUARD;
+        if let Some((cell, value)) = damage.cell {
+            ours[cell] = value;
         }
+        if damage.short {
+            lent = self.load.layout().length() - 1;
+        }
+        let load = damage.load.as_deref().unwrap_or(&self.load);
         let mut expected = ours.clone();
-        let answer = match whole::open(load, &ours) {
+        let answer = match whole::open(load, &ours[..lent]) {
             Err(row) => Answer::refused(call, row),
             Ok(mut state) => {
                 let answer = model_answer(load, &mut state, call);
                 if answer.refusal() == 0 {
-                    state.encode(load, &mut expected);
+                    state.encode(load, &mut expected[..lent]);
                 }
                 answer
             }
         };
-        if let Damage::Cell { .. } = damage {
+        if damage.cell.is_some() && damage.load.is_none() && !damage.short {
             if answer.refusal() == 9 { counts.damaged_refused += 1 } else { counts.damaged_consistent += 1 }
         }
         counts.refused(answer.refusal());
-        same("damaged call", &library_answer(library, load, &mut ours, call), &answer)?;
+        same("damaged call", &library_answer(library, load, &mut ours[..lent], call), &answer)?;
         same_area("damaged call", &ours, &expected)
     }
 }
@@ -223,78 +231,32 @@ impl Case for MoveCase {
         counts.cases += 1;
         let load = &self.load;
         let mut area = self.fresh_area();
-        let refusal = load_refusal(load, Some(&self.sets), area.len());
+        let lent = area.len() - GUARD;
+        if let Some(state) = &self.crafted {
+            state.encode(load, &mut area[..lent]);
+            let expected = area.clone();
+            return self.check_calls(library, None, state.clone(), area, expected, counts);
+        }
+        let refusal = load_refusal(load, Some(&self.sets), lent);
         let mut expected = area.clone();
-        let reply = whole::new(load, &self.sets, &mut expected);
+        let reply = whole::new(load, &self.sets, &mut expected[..lent]);
         same("model's loading", &reply.refusal, &refusal)?;
         counts.refused(refusal);
         counts.calls += 1;
         if let Some(library) = library {
-            same("loading", &library.move_new(load, &self.sets, &mut area), &reply)?;
+            same("loading", &library.move_new(load, &self.sets, &mut area[..lent]), &reply)?;
             same_area("loading", &area, &expected)?;
         }
         if refusal != 0 {
             return Ok(());
         }
-        if reply.value == 0 {
-            counts.acyclic += 1
-        } else {
-            counts.cyclic += 1
-        }
+        if reply.value == 0 { counts.acyclic += 1 } else { counts.cyclic += 1 }
         let lists = original_lists(load, &self.sets);
-        let mut original = OriginalMoves::new(&lists);
-        let mut state = MoveState::at_loading(load, &entry_sets(&self.sets, load.a as usize, width(load.e) as usize));
+        let original = OriginalMoves::new(&lists);
+        let state = MoveState::at_loading(load, &entry_sets(&self.sets, load.a as usize, width(load.e) as usize));
         same("original's loading against the model", &u64::from(!original.acyclic()), &reply.value)?;
-        let mut view = original.view();
-        same("original's state at loading against the model", &view, &model_view(load, &state))?;
-        for (place, (call, damage)) in self.calls.iter().enumerate() {
-            counts.calls += 1;
-            if let MoveCall::Counter { value } = call {
-                // No mark may be above the counter.
-                if *value < state.counter {
-                    continue;
-                }
-                state.counter = *value;
-                original.set_mark(*value);
-                area[load.layout().header(MoveLayout::COUNTER)] = *value;
-                expected.clone_from(&area);
-                continue;
-            }
-            if !matches!(damage, Damage::No) {
-                if let Some(library) = library {
-                    self.check_damaged(library, &area, call, damage, counts)
-                        .map_err(|why| format!("call {place}: {why}"))?;
-                }
-                continue;
-            }
-            let answer = model_answer(load, &mut state, call);
-            counts.refused(answer.refusal());
-            if let (MoveCall::Move { atom, bits }, Answer::Reply(Reply { refusal: 0, value })) = (call, answer) {
-                if value == 1 {
-                    counts.accepted += 1
-                } else {
-                    counts.rejected += 1
-                }
-                let accepted = original.try_move(*atom, &BitSet::from_words(bits));
-                same(&format!("call {place}: original against the model"), &u64::from(accepted), &value)?;
-                view = original.view();
-                let expected = model_view(load, &state);
-                same(&format!("call {place}: original's state against the model"), &view, &expected)?;
-                same(&format!("call {place}: original's counter"), &original.mark(), &state.counter)?;
-            } else if answer.refusal() == 0 {
-                let theirs = original_answer(&view, call).unwrap();
-                same(&format!("call {place}: original against the model"), &theirs, &answer)?;
-            }
-            if let Some(library) = library {
-                let ours = library_answer(library, load, &mut area, call);
-                same(&format!("call {place}"), &ours, &answer)?;
-                if answer.refusal() == 0 && matches!(call, MoveCall::Move { .. }) {
-                    state.encode(load, &mut expected);
-                }
-                same_area(&format!("call {place}"), &area, &expected)?;
-            }
-        }
-        Ok(())
+        same("original's state at loading against the model", &original.view(), &model_view(load, &state))?;
+        self.check_calls(library, Some(original), state, area, expected, counts)
     }
 
     fn smaller(&self) -> Vec<Self> {
@@ -306,13 +268,13 @@ impl Case for MoveCase {
         if load_refusal(&self.load, None, usize::MAX) != 0 {
             return cases;
         }
-        let damaged_load = self.calls.iter().any(|(_, damage)| !matches!(damage, Damage::No));
+        let damaged_load = self.crafted.is_some() || self.calls.iter().any(|(_, damage)| !damage.none());
         if !damaged_load {
             for atom in (0..self.load.a as usize).rev() {
                 cases.push(self.without_atom(atom));
             }
         }
-        for entry in (0..self.load.d as usize).rev() {
+        for entry in (0..if damaged_load { 0 } else { self.load.d as usize }).rev() {
             let mut case = self.clone();
             case.load.d -= 1;
             case.load.dependencies.remove(entry);
@@ -338,6 +300,76 @@ impl Case for MoveCase {
             }
         }
         cases
+    }
+}
+
+impl MoveCase {
+    /// The calls, from a state that the area holds.
+    fn check_calls(
+        &self,
+        library: Option<&dyn Library>,
+        mut original: Option<OriginalMoves>,
+        mut state: MoveState,
+        mut area: Vec<u32>,
+        mut expected: Vec<u32>,
+        counts: &mut Counts,
+    ) -> Result<(), String> {
+        let load = &self.load;
+        let lent = area.len() - GUARD;
+        let mut view = original.as_ref().map(OriginalMoves::view);
+        for (place, (call, damage)) in self.calls.iter().enumerate() {
+            counts.calls += 1;
+            if let MoveCall::Counter { value } = call {
+                // No mark may be above the counter.
+                if *value < state.counter {
+                    continue;
+                }
+                state.counter = *value;
+                if let Some(original) = &mut original {
+                    original.set_mark(*value);
+                }
+                area[load.layout().header(MoveLayout::COUNTER)] = *value;
+                expected.clone_from(&area);
+                continue;
+            }
+            if !damage.none() {
+                if let Some(library) = library {
+                    self.check_damaged(library, &area, call, damage, counts)
+                        .map_err(|why| format!("call {place}: {why}"))?;
+                }
+                continue;
+            }
+            let answer = model_answer(load, &mut state, call);
+            counts.refused(answer.refusal());
+            if let (MoveCall::Move { atom, bits }, Answer::Reply(Reply { refusal: 0, value })) = (call, answer) {
+                if value == 1 {
+                    counts.accepted += 1
+                } else {
+                    counts.rejected += 1
+                }
+                if let Some(original) = &mut original {
+                    let accepted = original.try_move(*atom, &BitSet::from_words(bits));
+                    same(&format!("call {place}: original against the model"), &u64::from(accepted), &value)?;
+                    let theirs = original.view();
+                    let expected = model_view(load, &state);
+                    same(&format!("call {place}: original's state against the model"), &theirs, &expected)?;
+                    same(&format!("call {place}: original's counter"), &original.mark(), &state.counter)?;
+                    view = Some(theirs);
+                }
+            } else if let (Some(view), 0) = (&view, answer.refusal()) {
+                let theirs = original_answer(view, call).unwrap();
+                same(&format!("call {place}: original against the model"), &theirs, &answer)?;
+            }
+            if let Some(library) = library {
+                let ours = library_answer(library, load, &mut area[..lent], call);
+                same(&format!("call {place}"), &ours, &answer)?;
+                if answer.refusal() == 0 && matches!(call, MoveCall::Move { .. }) {
+                    state.encode(load, &mut expected[..lent]);
+                }
+                same_area(&format!("call {place}"), &area, &expected)?;
+            }
+        }
+        Ok(())
     }
 }
 
@@ -495,11 +527,18 @@ fn random_call(random: &mut Random, sets: &[Set], load: &Load, damage: u64) -> M
     }
 }
 
-/// A load with one thing wrong, or by luck only another load.
+/// A load with one to three things wrong, or by luck only another load.
 fn damaged_load(random: &mut Random, load: &Load) -> Load {
     let mut load = load.clone();
+    for _ in 0..random.pick(&[1, 1, 1, 2, 3]) {
+        damage_load(random, &mut load);
+    }
+    load
+}
+
+fn damage_load(random: &mut Random, load: &mut Load) {
     let shift = |random: &mut Random, number: u64| match random.below(4) {
-        0 => number + 1,
+        0 => number.saturating_add(1),
         1 => number.saturating_sub(1),
         2 => random.next(),
         _ => random.pick(&[0, 257, 513, 1025, 8193, u64::MAX, 1 << 32, 1 << 63]),
@@ -512,30 +551,35 @@ fn damaged_load(random: &mut Random, load: &Load) -> Load {
         4 => load.starts.push(load.d as u32),
         5 => drop(load.dependencies.pop()),
         6 => load.hosts.push(NONE),
-        7 => {
+        7 if !load.starts.is_empty() => {
             let place = random.index(load.starts.len());
             load.starts[place] = random.odd_number();
         }
         8 if !load.dependencies.is_empty() => {
             let place = random.index(load.dependencies.len());
             load.dependencies[place] =
-                if random.chance(50) { random.below(load.a + 1) as u32 } else { random.odd_number() };
+                if random.chance(50) { random.below(load.a.saturating_add(1)) as u32 } else { random.odd_number() };
         }
         9 if !load.hosts.is_empty() => {
             let place = random.index(load.hosts.len());
-            load.hosts[place] = if random.chance(50) { random.below(load.a + 1) as u32 } else { random.odd_number() };
+            load.hosts[place] = if random.chance(50) { random.below(load.a.saturating_add(1)) as u32 } else { random.odd_number() };
         }
-        10 if !load.dependencies.is_empty() => {
-            let atom = (load.starts.windows(2)).position(|pair| pair[0] < pair[1]).unwrap();
-            load.dependencies[load.starts[atom] as usize] = atom as u32;
+        10 => {
+            // An atom that depends on itself.
+            let atom = load.starts.windows(2).position(|pair| pair[0] < pair[1]);
+            if let Some((atom, entry)) = atom.and_then(|atom| {
+                let entry = load.dependencies.get_mut(load.starts[atom] as usize)?;
+                Some((atom, entry))
+            }) {
+                *entry = atom as u32;
+            }
         }
         _ => drop(load.starts.pop()),
     }
-    load
 }
 
 /// One cell of the area, mostly one that means something.
-fn damaged_cell(random: &mut Random, load: &Load, extra: usize) -> Damage {
+fn damaged_cell(random: &mut Random, load: &Load, extra: usize) -> (usize, u32) {
     let at = load.layout();
     let node = random.index(at.n);
     let cell = match random.below(10) {
@@ -549,7 +593,7 @@ fn damaged_cell(random: &mut Random, load: &Load, extra: usize) -> Damage {
         _ => random.index(at.length() + extra),
     };
     let value = if random.chance(60) { random.below(load.n + 2) as u32 } else { random.odd_number() };
-    Damage::Cell { cell, value }
+    (cell, value)
 }
 
 pub fn random_load(random: &mut Random, shape: Shape) -> (Load, Vec<Set>) {
@@ -570,42 +614,73 @@ pub fn random_case(random: &mut Random, shape: Shape, damage: u64) -> MoveCase {
     let extra = random.pick(&[0, 0, 1, 7]);
     for _ in 0..shape.calls {
         if random.chance(1) {
-            calls.push((MoveCall::Counter { value: u32::MAX - random.below(2) as u32 }, Damage::No));
+            calls.push((MoveCall::Counter { value: u32::MAX - random.below(2) as u32 }, Damage::default()));
         }
         let call = random_call(random, &sets, &load, damage / 2);
-        let damage = if !random.chance(damage) {
-            Damage::No
-        } else {
-            match random.below(8) {
-                0..3 => Damage::Load(Box::new(damaged_load(random, &load))),
-                3 => Damage::ShortArea,
-                _ => damaged_cell(random, &load, extra),
+        let mut wrong = Damage::default();
+        if random.chance(damage) {
+            // Mostly one thing, now and then several: the first fitting row wins.
+            let kind = random.below(10);
+            if kind < 3 || kind > 8 {
+                wrong.load = Some(Box::new(damaged_load(random, &load)));
             }
-        };
-        calls.push((call, damage));
+            wrong.short = kind == 3 || (kind > 8 && random.chance(30));
+            if (4..9).contains(&kind) || (kind > 8 && random.chance(50)) {
+                wrong.cell = Some(damaged_cell(random, &load, extra));
+            }
+        }
+        calls.push((call, wrong));
     }
     let flat = sets.iter().flat_map(|&set| words(set, load.e)).collect();
-    MoveCase { load, sets: flat, extra, short: false, fill: random.next(), calls }
+    MoveCase { load, sets: flat, extra, short: false, fill: random.next(), crafted: None, calls }
 }
 
-/// A loading with one thing wrong.
+/// A loading with one thing wrong, now and then two.
 pub fn refused_loading(random: &mut Random, shape: Shape) -> MoveCase {
     let mut case = random_case(random, Shape { calls: 2, ..shape }, 0);
     let w = width(case.load.e) as usize;
-    match random.below(8) {
-        0 => case.short = true,
-        1 => case.sets.push(0),
-        2 => drop(case.sets.pop()),
-        3 if case.load.a > 1 && w > 0 => {
-            let (one, other) = (random.index(case.load.a as usize), random.index(case.load.a as usize));
-            case.sets.copy_within(one * w..(one + 1) * w, other * w);
+    for _ in 0..random.pick(&[1, 1, 2]) {
+        let atoms = (case.sets.len() / w.max(1)) as u64;
+        match random.below(8) {
+            0 => case.short = true,
+            1 => case.sets.push(0),
+            2 => drop(case.sets.pop()),
+            3 if atoms > 1 && w > 0 => {
+                let (one, other) = (random.index(atoms as usize), random.index(atoms as usize));
+                case.sets.copy_within(one * w..(one + 1) * w, other * w);
+            }
+            4 if atoms > 0 && w > 0 && case.load.e % 64 != 0 => {
+                let atom = random.index(atoms as usize);
+                case.sets[(atom + 1) * w - 1] |= 1 << (case.load.e % 64);
+            }
+            _ => case.load = damaged_load(random, &case.load),
         }
-        4 if case.load.a > 0 && case.load.e % 64 != 0 => {
-            let atom = random.index(case.load.a as usize);
-            case.sets[(atom + 1) * w - 1] |= 1 << (case.load.e % 64);
-        }
-        _ => case.load = damaged_load(random, &case.load),
     }
+    case
+}
+
+/// A case that starts from a made-up consistent area: atoms share sets, sets are registered in any order.
+pub fn crafted_case(random: &mut Random, shape: Shape, damage: u64) -> MoveCase {
+    let mut case = random_case(random, shape, damage);
+    let (load, places) = (&case.load, case.load.n as usize);
+    let mut registered: Vec<Set> = vec![];
+    for _ in 0..4 * places {
+        let set = if random.chance(40) && load.e > 0 {
+            Set::single(random.index(load.e as usize))
+        } else {
+            random_set(random, load.e)
+        };
+        if registered.len() < places && !registered.contains(&set) {
+            registered.push(set);
+        }
+    }
+    if registered.is_empty() && load.a > 0 {
+        return case;
+    }
+    let counter = random.odd_number();
+    let node = (0..load.a).map(|_| random.index(registered.len()) as u32).collect();
+    let marks = (0..places).map(|_| random.below(u64::from(counter) + 1) as u32).collect();
+    case.crafted = Some(MoveState { registered, node, counter, marks });
     case
 }
 
@@ -643,7 +718,7 @@ pub fn every_small_load(a: u64, each: &mut dyn FnMut(MoveCase)) {
                     dependencies: dependencies.clone(),
                     hosts: vec![name(host % (a + 1)), name(host / (a + 1))],
                 };
-                each(MoveCase { load, sets: sets.clone(), extra: 1, short: false, fill: chosen, calls: vec![] });
+                each(MoveCase { load, sets: sets.clone(), extra: 1, short: false, fill: chosen, crafted: None, calls: vec![] });
             }
         }
     }

@@ -132,7 +132,7 @@ fn asked(case: &mut MoveCase) {
     let mut calls: Vec<MoveCall> = (0..case.load.a.min(6) as u32).map(|atom| MoveCall::AtomSet { atom }).collect();
     calls.push(MoveCall::EdgeCount);
     calls.extend((0..8.min(case.load.d + 1)).map(|k| MoveCall::EdgeAt { k }));
-    case.calls.extend(calls.into_iter().map(|call| (call, moves_cases::Damage::No)));
+    case.calls.extend(calls.into_iter().map(|call| (call, moves_cases::Damage::default())));
 }
 
 fn moves_case(random: &mut Random, shape: moves_cases::Shape) -> MoveCase {
@@ -189,8 +189,8 @@ fn missed_loop() -> MergeCase {
         MergeCall::Warning { source: 3, target: 1 },
         MergeCall::Merge { target: 1, source: 3 },
     ];
-    let calls = calls.into_iter().map(|call| (call, merges_cases::Damage::No)).collect();
-    MergeCase { size, load, extra: 0, short: false, fill: 0, calls }
+    let calls = calls.into_iter().map(|call| (call, merges_cases::Damage::default())).collect();
+    MergeCase { size, load, extra: 0, short: false, fill: 0, crafted: None, calls }
 }
 
 /// A move case written out: each atom's set and dependencies, hosts, and moves (atom, set).
@@ -210,8 +210,8 @@ fn small(sets: &[u64], lists: &[&[u32]], hosts: &[u32], n: u64, moves: &[(u32, u
         dependencies,
         hosts: hosts.to_vec(),
     };
-    let calls = moves.iter().map(|&(atom, set)| (MoveCall::Move { atom, bits: vec![set] }, moves_cases::Damage::No));
-    let mut case = MoveCase { load, sets: sets.to_vec(), extra: 0, short: false, fill: 0, calls: calls.collect() };
+    let calls = moves.iter().map(|&(atom, set)| (MoveCall::Move { atom, bits: vec![set] }, moves_cases::Damage::default()));
+    let mut case = MoveCase { load, sets: sets.to_vec(), extra: 0, short: false, fill: 0, crafted: None, calls: calls.collect() };
     asked(&mut case);
     case
 }

@@ -1,5 +1,6 @@
 //! What both runs share: random numbers, counts, the shrinker.
 use std::fmt::Debug;
+use std::panic::{AssertUnwindSafe, catch_unwind};
 use std::time::{Duration, Instant};
 
 use crate::library::Library;
@@ -100,9 +101,17 @@ pub struct Disagreement {
     pub input: String,
 }
 
+/// Numbers behind every lent area and answer list, not lent: a call may not write there either.
+pub const GUARD: usize = 16;
+
+/// A panic, as by one of the original's assertions, is a disagreement too.
+fn checked<C: Case>(case: &C, library: Option<&dyn Library>, counts: &mut Counts) -> Result<(), String> {
+    catch_unwind(AssertUnwindSafe(|| case.check(library, counts))).unwrap_or_else(|_| Err("panic".into()))
+}
+
 /// Runs a case; on a disagreement looks for a smaller one.
 pub fn run<C: Case>(case: &C, library: Option<&dyn Library>, counts: &mut Counts) -> Result<(), Disagreement> {
-    let Err(mut what) = case.check(library, counts) else { return Ok(()) };
+    let Err(mut what) = checked(case, library, counts) else { return Ok(()) };
     let mut smallest = case.clone();
     let end = Instant::now() + Duration::from_secs(10);
     'search: loop {
@@ -110,7 +119,7 @@ pub fn run<C: Case>(case: &C, library: Option<&dyn Library>, counts: &mut Counts
             if Instant::now() > end {
                 break 'search;
             }
-            if let Err(why) = candidate.check(library, &mut Counts::default()) {
+            if let Err(why) = checked(&candidate, library, &mut Counts::default()) {
                 (smallest, what) = (candidate, why);
                 continue 'search;
             }
