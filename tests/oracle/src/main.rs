@@ -128,13 +128,6 @@ fn merge_shape(random: &mut Random, c: u64, m: u64, l: u64, e: u64, calls: usize
 }
 
 fn merges(library: Option<&dyn Library>, amount: Amount, counts: &mut Counts) -> Found {
-    let mut found = Ok(());
-    merges_cases::every_small_graph(&mut |case| {
-        if found.is_ok() {
-            found = run(&case, library, counts);
-        }
-    });
-    found?;
     let mut random = Random(amount.seed ^ 0x6d65_7267);
     for round in 0..amount.times(20_000) {
         let (c, m, l) = (1 + random.below(7), random.below(8), random.below(14));
@@ -168,10 +161,17 @@ fn merges(library: Option<&dyn Library>, amount: Amount, counts: &mut Counts) ->
             run(&merges_cases::refused_loading(&mut random, shape), library, counts)?;
         }
     }
-    Ok(())
+    // Every small graph, in a short run a part of them.
+    let mut found = Ok(());
+    merges_cases::every_small_graph(&mut |case| {
+        if found.is_ok() && random.below(100) < amount.percent {
+            found = run(&case, library, counts);
+        }
+    });
+    found
 }
 
-/// Everything; both counts.
+/// Everything, with the counts of each part.
 fn everything(library: Option<&dyn Library>, amount: Amount) -> Result<[Counts; 3], Disagreement> {
     let mut counts = [Counts::default(), Counts::default(), Counts::default()];
     every_small(library, amount, &mut counts[0])?;

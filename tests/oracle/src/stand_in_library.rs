@@ -4,11 +4,11 @@ use std::collections::BTreeSet;
 use crate::layout::MoveLayout;
 use crate::library::{EdgeReply, Library, MergeLoad, Reply, SetReply};
 use crate::merges_model::{self, MergeCall, MergeState, Size, Verdict, size_refusal};
-use crate::moves_model::{Graph, Load, MoveState, NONE, whole};
-use crate::sets::{Set, lent_set};
+use crate::moves_model::{Graph, Load, MoveState, NONE, entry_sets, load_refusal, whole};
+use crate::sets::{Set, lent_set, width};
 
 /// Bugs by name; the first is none.
-pub const PLANTS: [&str; 33] = [
+pub const PLANTS: [&str; 46] = [
     "none",
     "repeated dependency counted once",
     "facade skipped when the target gets its first atom",
@@ -31,6 +31,13 @@ pub const PLANTS: [&str; 33] = [
     "upper words of a set ignored",
     "12 left out",
     "counter wraps to 0",
+    "3 before 2",
+    "6 before 5",
+    "8 before 7",
+    "10 before 9",
+    "11 before 10",
+    "12 before 11",
+    "a question checks no area",
     "needs_creation cleared",
     "merging does nothing",
     "constant warning",
@@ -42,6 +49,12 @@ pub const PLANTS: [&str; 33] = [
     "is_reachable in no step",
     "bar ignored",
     "a refused pass writes its lists",
+    "15 of the pass before 21",
+    "17 before 16",
+    "18 before 16",
+    "19 before 18",
+    "20 before 16",
+    "no room for a set in a made-up area",
 ];
 
 pub struct StandIn {
@@ -68,14 +81,42 @@ impl StandIn {
         seen
     }
 
+    /// Rows 1 to 8, with a planted wrong order.
+    fn load_row(&self, load: &Load, sets: Option<&[u64]>, area: usize) -> u64 {
+        let row = load_refusal(load, sets, area);
+        if row == 2 && self.planted("3 before 2") && area < load.layout().length() {
+            return 3;
+        }
+        let hosts_first = Load { starts: vec![0; load.starts.len()], dependencies: vec![], d: 0, ..load.clone() };
+        if row == 5 && self.planted("6 before 5") && load_refusal(&hosts_first, None, usize::MAX) == 6 {
+            return 6;
+        }
+        if let (7, Some(sets), true) = (row, sets, self.planted("8 before 7")) {
+            let sets = entry_sets(sets, load.a as usize, width(load.e) as usize);
+            if sets.iter().enumerate().any(|(place, set)| sets[..place].contains(set)) {
+                return 8;
+            }
+        }
+        row
+    }
+
     /// Rows 1 to 6 and 9, and the state.
-    fn open(&self, load: &Load, area: &[u32]) -> Result<(Load, MoveState), u64> {
+    fn open(&self, load: &Load, area: &[u32], question: bool) -> Result<(Load, MoveState), u64> {
         let mut area = area.to_vec();
-        let row = crate::moves_model::load_refusal(load, None, area.len());
+        let row = self.load_row(load, None, area.len());
         if row != 0 {
             return Err(row);
         }
         let at = load.layout();
+        if self.planted("a question checks no area") && question {
+            let mut state = MoveState::at_loading(load, &vec![Set::default(); at.a]);
+            let count = (area[at.header(MoveLayout::REGISTERED)] as usize).min(at.n);
+            let set = |node| Set::from_halves(std::array::from_fn(|lane| area[at.node_lane(lane, node)]));
+            state.registered = (0..count).map(set).collect();
+            state.node = (0..at.a).map(|atom| area[at.atom_lane(MoveLayout::NODE, atom)]).collect();
+            let sound = state.node.iter().all(|&node| (node as usize) < count);
+            return if sound { Ok((load.clone(), state)) } else { Err(9) };
+        }
         if self.planted("counts not checked by 9") {
             for node in 0..at.n {
                 let count =
@@ -195,9 +236,31 @@ impl StandIn {
         refused: impl Fn(u64) -> T,
         answer: impl Fn(&Load, MoveState) -> T,
     ) -> T {
-        match self.open(load, area) {
+        match self.open(load, area, true) {
             Err(row) => refused(row),
             Ok((load, state)) => answer(&load, state),
+        }
+    }
+
+    /// A row that a planted wrong order finds first.
+    fn wrong_order(&self, size: Size, state: &MergeState, call: &MergeCall) -> Option<u64> {
+        let full = state.entries.len() as u64 >= size.l;
+        match call {
+            MergeCall::InitModule { bits, .. } => {
+                let set = lent_set(bits, size.e);
+                let named = set.is_some_and(|set| state.sets.iter().any(|(other, _)| *other == set));
+                if self.planted("18 before 16") && !named && u64::from(state.made()) >= size.c {
+                    return Some(18);
+                }
+                if self.planted("no room for a set in a made-up area") && set.is_some() && !named {
+                    return (state.sets.len() as u64 >= size.c && u64::from(state.made()) < size.c && !full).then_some(18);
+                }
+                (self.planted("19 before 18") && set.is_some() && full).then_some(19)
+            }
+            MergeCall::Merge { target, source } | MergeCall::Warning { source, target } => {
+                (self.planted("20 before 16") && source == target).then_some(20)
+            }
+            _ => None,
         }
     }
 
@@ -207,8 +270,13 @@ impl StandIn {
             return (Reply::refused(row), vec![]);
         }
         let Verdict::Consistent(mut state) = MergeState::decode(size, area) else {
-            return (Reply::refused(21), vec![]);
+            let lists_differ = matches!(call, MergeCall::Pass { proposals, kinds, .. } if proposals.len() != *kinds);
+            let row = if lists_differ && self.planted("15 of the pass before 21") { 15 } else { 21 };
+            return (Reply::refused(row), vec![]);
         };
+        if let Some(row) = self.wrong_order(size, &state, call) {
+            return (Reply::refused(row), vec![]);
+        }
         let before = state.clone();
         if self.planted("calc clears") && matches!(call, MergeCall::Calc { .. }) {
             state.dependencies.iter_mut().for_each(BTreeSet::clear);
@@ -252,7 +320,7 @@ impl StandIn {
 
 impl Library for StandIn {
     fn move_new(&self, load: &Load, sets: &[u64], area: &mut [u32]) -> Reply {
-        let row = crate::moves_model::load_refusal(load, Some(sets), area.len());
+        let row = self.load_row(load, Some(sets), area.len());
         if row != 0 {
             return Reply::refused(row);
         }
@@ -265,10 +333,21 @@ impl Library for StandIn {
     }
 
     fn try_move(&self, load: &Load, area: &mut [u32], atom: u32, bits: &[u64]) -> Reply {
-        let (seen, mut state) = match self.open(load, area) {
+        let (seen, mut state) = match self.open(load, area, false) {
             Ok(open) => open,
+            Err(9) if self.planted("10 before 9") && u64::from(atom) >= load.a => return Reply::refused(10),
             Err(row) => return Reply::refused(row),
         };
+        let wrong_set = lent_set(bits, load.e).is_none();
+        if self.planted("11 before 10") && wrong_set {
+            return Reply::refused(11);
+        }
+        if self.planted("12 before 11") && wrong_set && u64::from(atom) < load.a && bits.len() <= 4 {
+            // A list of the wrong length that names the present set.
+            if Set::from_words(bits) == state.ledger().place[atom as usize] {
+                return Reply::refused(12);
+            }
+        }
         let at = load.layout();
         let reply = self.move_state(&seen, &mut state, atom, bits);
         if reply.refusal == 0 {
@@ -334,6 +413,12 @@ impl Library for StandIn {
 
     fn merge_new(&self, size: Size, load: &MergeLoad, area: &mut [u32]) -> Reply {
         match merges_model::new(size, load, area.len()) {
+            Err(16) if self.planted("17 before 16") => {
+                let w = width(size.e).max(1) as usize;
+                let sets: Vec<&[u64]> = load.sets.chunks(w).collect();
+                let twice = sets.iter().enumerate().any(|(place, set)| sets[..place].contains(set));
+                Reply::refused(if twice { 17 } else { 16 })
+            }
             Err(row) => Reply::refused(row),
             Ok(state) => {
                 state.encode(size, area);
