@@ -1,10 +1,11 @@
 //! The move graph: `new`, `try_move` and each question.
 use oracle::library::Library;
-use oracle::moves_cases::{Shape, original_lists, random_load, words};
+use oracle::moves_made_up::{Shape, random_load};
 use oracle::moves_model::{Graph, Load};
+use oracle::moves_views::original_lists;
 use oracle::original::OriginalMoves;
 use oracle::run::Random;
-use oracle::sets::Set;
+use oracle::sets::{Set, words};
 use oracle::stand_ins::rolldown_utils::BitSet;
 
 use crate::{best, ratio, time};

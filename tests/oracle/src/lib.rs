@@ -1,16 +1,22 @@
 //! The original built unchanged, a plain model of document 01, and the runs that compare them with the library.
 pub mod layout;
 pub mod library;
+pub mod merges_calls;
 pub mod merges_cases;
+pub mod merges_made_up;
 pub mod merges_model;
 pub mod moves_cases;
+pub mod moves_made_up;
 pub mod moves_model;
+pub mod moves_views;
 pub mod original;
 #[path = "../../../rust/src/raw.rs"]
 pub mod raw;
 pub mod record;
+pub mod replay;
 pub mod run;
 pub mod sets;
 pub mod stand_in_library;
-#[doc(hidden)]
+mod stand_in_merges;
+mod stand_in_moves;
 pub mod stand_ins;

@@ -5,7 +5,7 @@ use std::time::Instant;
 use oracle::library::Library;
 use oracle::run::{Counts, Disagreement, Random, run};
 use oracle::stand_in_library::{PLANTS, StandIn};
-use oracle::{merges_cases, merges_model, moves_cases, record};
+use oracle::{merges_made_up, merges_model, moves_cases, moves_made_up, record, replay};
 
 const HELP: &str =
     "oracle [--long | --percent NUMBER] [--seed NUMBER] [--stand-in] [--self-test] [--record CASES] [--replay FILE]
@@ -38,7 +38,7 @@ fn every_small(library: Option<&dyn Library>, amount: Amount, counts: &mut Count
     let mut random = Random(amount.seed);
     let mut found = Ok(());
     for a in 0..4 {
-        moves_cases::every_small_load(a, &mut |case| {
+        moves_made_up::every_small_load(a, &mut |case| {
             // The largest size in full only in a long run.
             if found.is_err() || (a == 3 && random.below(400) >= amount.percent) {
                 return;
@@ -67,7 +67,7 @@ fn every_small(library: Option<&dyn Library>, amount: Amount, counts: &mut Count
 }
 
 /// Sizes around every limit of the move graph.
-fn move_limits(random: &mut Random) -> Vec<moves_cases::Shape> {
+fn move_limits(random: &mut Random) -> Vec<moves_made_up::Shape> {
     let mut shapes = vec![];
     for a in [0, 1, 2, 47, 48, 49, 511, 512] {
         for e in [0, 1, 2, 63, 64, 65, 127, 128, 129, 255, 256] {
@@ -77,15 +77,15 @@ fn move_limits(random: &mut Random) -> Vec<moves_cases::Shape> {
             }
             let n = random.pick(&[a, a, a + 1, (a + 40).min(1024)]);
             let d = random.pick(&[0, 1, a, 2 * a, 4 * a]);
-            shapes.push(moves_cases::Shape { a, d, e, n, calls: if a > 100 { 6 } else { 20 } });
+            shapes.push(moves_made_up::Shape { a, d, e, n, calls: if a > 100 { 6 } else { 20 } });
         }
     }
-    shapes.push(moves_cases::Shape { a: 512, d: 8192, e: 256, n: 1024, calls: 5 });
-    shapes.push(moves_cases::Shape { a: 512, d: 8192, e: 64, n: 512, calls: 10 });
-    shapes.push(moves_cases::Shape { a: 512, d: 0, e: 256, n: 513, calls: 6 });
-    shapes.push(moves_cases::Shape { a: 1, d: 0, e: 256, n: 1024, calls: 5 });
-    shapes.push(moves_cases::Shape { a: 40, d: 8192, e: 16, n: 60, calls: 20 });
-    shapes.push(moves_cases::Shape { a: 2, d: 8192, e: 3, n: 4, calls: 10 });
+    shapes.push(moves_made_up::Shape { a: 512, d: 8192, e: 256, n: 1024, calls: 5 });
+    shapes.push(moves_made_up::Shape { a: 512, d: 8192, e: 64, n: 512, calls: 10 });
+    shapes.push(moves_made_up::Shape { a: 512, d: 0, e: 256, n: 513, calls: 6 });
+    shapes.push(moves_made_up::Shape { a: 1, d: 0, e: 256, n: 1024, calls: 5 });
+    shapes.push(moves_made_up::Shape { a: 40, d: 8192, e: 16, n: 60, calls: 20 });
+    shapes.push(moves_made_up::Shape { a: 2, d: 8192, e: 3, n: 4, calls: 10 });
     shapes
 }
 
@@ -98,33 +98,33 @@ fn moves(library: Option<&dyn Library>, amount: Amount, counts: &mut Counts) -> 
         let d = random.below(2 * a + 2);
         let n = a + random.below(4);
         let calls = 1 + random.index(12);
-        let shape = moves_cases::Shape { a, d, e, n, calls };
-        run(&moves_cases::random_case(&mut random, shape, if round % 2 == 0 { 0 } else { 30 }), library, counts)?;
+        let shape = moves_made_up::Shape { a, d, e, n, calls };
+        run(&moves_made_up::random_case(&mut random, shape, if round % 2 == 0 { 0 } else { 30 }), library, counts)?;
         if round % 4 == 0 {
-            run(&moves_cases::refused_loading(&mut random, shape), library, counts)?;
-            run(&moves_cases::crafted_case(&mut random, shape, 10), library, counts)?;
+            run(&moves_made_up::refused_loading(&mut random, shape), library, counts)?;
+            run(&moves_made_up::crafted_case(&mut random, shape, 10), library, counts)?;
         }
     }
     // Long histories.
     for _ in 0..amount.times(40) {
         let a = 8 + random.below(40);
         let (d, e, n) = (random.below(3 * a), 4 + random.below(90), a + random.below(60));
-        let shape = moves_cases::Shape { a, d, e, n, calls: 300 };
-        run(&moves_cases::random_case(&mut random, shape, 4), library, counts)?;
+        let shape = moves_made_up::Shape { a, d, e, n, calls: 300 };
+        run(&moves_made_up::random_case(&mut random, shape, 4), library, counts)?;
     }
     for _ in 0..amount.times(1) {
         for shape in move_limits(&mut random) {
-            run(&moves_cases::random_case(&mut random, shape, 12), library, counts)?;
-            run(&moves_cases::refused_loading(&mut random, shape), library, counts)?;
+            run(&moves_made_up::random_case(&mut random, shape, 12), library, counts)?;
+            run(&moves_made_up::refused_loading(&mut random, shape), library, counts)?;
         }
     }
     Ok(())
 }
 
-fn merge_shape(random: &mut Random, c: u64, m: u64, l: u64, e: u64, calls: usize) -> merges_cases::Shape {
+fn merge_shape(random: &mut Random, c: u64, m: u64, l: u64, e: u64, calls: usize) -> merges_made_up::Shape {
     let initial = random.below(c + 1).min(c / 2 + 1);
     let pairs = random.below(c + 1).min(2 * c / 3 + 1);
-    merges_cases::Shape { size: merges_model::Size { c, m, l, e }, initial, pairs, calls }
+    merges_made_up::Shape { size: merges_model::Size { c, m, l, e }, initial, pairs, calls }
 }
 
 fn merges(library: Option<&dyn Library>, amount: Amount, counts: &mut Counts) -> Found {
@@ -134,17 +134,17 @@ fn merges(library: Option<&dyn Library>, amount: Amount, counts: &mut Counts) ->
         let e = random.below(5);
         let calls = 1 + random.index(25);
         let shape = merge_shape(&mut random, c, m, l, e, calls);
-        run(&merges_cases::random_case(&mut random, shape, if round % 2 == 0 { 0 } else { 25 }), library, counts)?;
+        run(&merges_made_up::random_case(&mut random, shape, if round % 2 == 0 { 0 } else { 25 }), library, counts)?;
         if round % 4 == 0 {
-            run(&merges_cases::refused_loading(&mut random, shape), library, counts)?;
-            run(&merges_cases::crafted_case(&mut random, shape, 10), library, counts)?;
+            run(&merges_made_up::refused_loading(&mut random, shape), library, counts)?;
+            run(&merges_made_up::crafted_case(&mut random, shape, 10), library, counts)?;
         }
     }
     for _ in 0..amount.times(30) {
         let (c, m, l) = (8 + random.below(40), 8 + random.below(60), 20 + random.below(300));
         let e = random.pick(&[8, 63, 64, 65, 130, 255, 256]);
         let shape = merge_shape(&mut random, c, m, l, e, 200);
-        run(&merges_cases::random_case(&mut random, shape, 4), library, counts)?;
+        run(&merges_made_up::random_case(&mut random, shape, 4), library, counts)?;
     }
     for _ in 0..amount.times(1) {
         for (c, m, l, e) in [
@@ -157,13 +157,13 @@ fn merges(library: Option<&dyn Library>, amount: Amount, counts: &mut Counts) ->
             (1024, 10, 8192, 63),
         ] {
             let shape = merge_shape(&mut random, c, m, l, e, 12);
-            run(&merges_cases::random_case(&mut random, shape, 12), library, counts)?;
-            run(&merges_cases::refused_loading(&mut random, shape), library, counts)?;
+            run(&merges_made_up::random_case(&mut random, shape, 12), library, counts)?;
+            run(&merges_made_up::refused_loading(&mut random, shape), library, counts)?;
         }
     }
     // Every small graph, in a short run a part of them.
     let mut found = Ok(());
-    merges_cases::every_small_graph(&mut |case| {
+    merges_made_up::every_small_graph(&mut |case| {
         if found.is_ok() && random.below(100) < amount.percent {
             found = run(&case, library, counts);
         }
@@ -213,7 +213,7 @@ fn self_test(amount: Amount) -> ExitCode {
     if missed == 0 { ExitCode::SUCCESS } else { ExitCode::FAILURE }
 }
 
-fn replay(library: Option<&dyn Library>, file: Option<&String>) -> ExitCode {
+fn replay_file(library: Option<&dyn Library>, file: Option<&String>) -> ExitCode {
     let (Some(library), Some(file)) = (library, file) else {
         println!("--replay needs a file, and a library");
         return ExitCode::FAILURE;
@@ -222,7 +222,7 @@ fn replay(library: Option<&dyn Library>, file: Option<&String>) -> ExitCode {
     let mut failed = 0;
     for (place, line) in text.lines().enumerate() {
         let numbers: Vec<u64> = line.split(' ').map(|word| word.parse().expect("a number")).collect();
-        if let Err(why) = record::replay(library, &numbers) {
+        if let Err(why) = replay::replay(library, &numbers) {
             println!("case {place}: {why}");
             failed += 1;
         }
@@ -261,7 +261,7 @@ fn main() -> ExitCode {
     let linked: Option<&dyn Library> = None;
     let library = if has("--stand-in") { Some(&stand_in as &dyn Library) } else { linked };
     if let Some(place) = arguments.iter().position(|argument| argument == "--replay") {
-        return replay(library, arguments.get(place + 1));
+        return replay_file(library, arguments.get(place + 1));
     }
     match (has("--stand-in"), library.is_some()) {
         (true, _) => println!("comparing the original, the model and the stand-in library"),

@@ -1,10 +1,10 @@
-//! Merge graph cases: what is run, compared, shrunk, and made up at random.
-use crate::layout::MergeLayout;
+//! Merge graph cases: what is run, compared and shrunk.
 use crate::library::{Library, MergeLoad, Reply};
-use crate::merges_model::{self, MergeCall, MergeState, NONE, Size, Verdict, size_refusal};
+use crate::merges_calls::{self, MergeCall, size_refusal};
+use crate::merges_model::{MergeState, NONE, Size, Verdict};
 use crate::original::OriginalMerges;
-use crate::run::{Case, Counts, GUARD, Random, same_area, shorter};
-use crate::sets::{Set, width};
+use crate::run::{Case, Counts, GUARD, Random, same, same_area, shorter};
+use crate::sets::width;
 
 /// A pass whose lists are made as long as there are candidates.
 pub const FITTED: usize = usize::MAX;
@@ -59,8 +59,7 @@ pub fn library_answer(library: &dyn Library, size: Size, area: &mut [u32], call:
             let mut kinds: Vec<u32> = (0..k + GUARD).map(fill).collect();
             let mut numbers: Vec<u32> = (0..n + GUARD).map(fill).collect();
             let reply = library.pass(size, area, proposals, bars, &mut kinds[..k], &mut numbers[..n]);
-            let untouched =
-                |list: &[u32], from: usize| (from..list.len()).all(|place| list[place] == fill(place));
+            let untouched = |list: &[u32], from: usize| (from..list.len()).all(|place| list[place] == fill(place));
             if !untouched(&kinds, k) || !untouched(&numbers, n) {
                 return Err("wrote past an answer list".into());
             }
@@ -161,10 +160,6 @@ fn original_answer(original: &mut OriginalMerges, call: &MergeCall) -> Answer {
     (Reply::value(value), vec![])
 }
 
-fn same<T: PartialEq + std::fmt::Debug>(what: &str, one: &T, expected: &T) -> Result<(), String> {
-    if one == expected { Ok(()) } else { Err(format!("{what}: {one:?}, expected {expected:?}")) }
-}
-
 impl MergeCase {
     fn fresh_area(&self) -> Vec<u32> {
         let size = self.size;
@@ -225,7 +220,7 @@ impl Case for MergeCase {
             state.encode(size, &mut area[..lent]);
             return self.check_calls(library, None, state.clone(), area, counts);
         }
-        let loaded = merges_model::new(size, &self.load, lent);
+        let loaded = merges_calls::new(size, &self.load, lent);
         let row = loaded.as_ref().err().copied().unwrap_or(0);
         counts.refused(row);
         if let Some(library) = library {
@@ -332,330 +327,5 @@ impl MergeCase {
             }
         }
         Ok(())
-    }
-}
-
-/// Sizes of a made-up case.
-#[derive(Clone, Copy, Debug)]
-pub struct Shape {
-    pub size: Size,
-    pub initial: u64,
-    pub pairs: u64,
-    pub calls: usize,
-}
-
-fn random_set(random: &mut Random, e: u64, pool: u64) -> Vec<u64> {
-    let mut words = vec![0; width(e) as usize];
-    if e == 0 {
-        return words;
-    }
-    // A small pool, spread over all words, so that sets meet again.
-    let number = random.below(pool);
-    for bit in 0..20 {
-        if number >> bit & 1 == 1 {
-            let place = if bit % 2 == 0 { bit / 2 % e } else { e - 1 - bit / 2 % e };
-            words[place as usize / 64] |= 1 << (place % 64);
-        }
-    }
-    words
-}
-
-fn random_lists(random: &mut Random, lists: u64, entries: u64, below: u64) -> (Vec<u32>, Vec<u32>) {
-    let mut ends: Vec<u32> = (1..lists).map(|_| random.below(entries + 1) as u32).collect();
-    ends.sort_unstable();
-    let mut starts = vec![0];
-    starts.extend(ends);
-    if lists > 0 {
-        starts.push(entries as u32);
-    }
-    let entries = if lists == 0 { 0 } else { entries };
-    (starts, (0..entries).map(|_| random.below(below) as u32).collect())
-}
-
-fn random_effects(random: &mut Random, m: u64) -> Vec<u32> {
-    (0..m).map(|_| if random.chance(20) { random.odd_number() } else { 0 }).collect()
-}
-
-fn random_call(random: &mut Random, shape: Shape, state: &MergeState, wrong: u64) -> MergeCall {
-    let size = shape.size;
-    let made = u64::from(state.made());
-    let chunk = |random: &mut Random| {
-        if random.chance(wrong) { made as u32 + random.below(3) as u32 } else { random.below(made) as u32 }
-    };
-    let module = |random: &mut Random| {
-        if random.chance(wrong) { size.m as u32 + random.below(2) as u32 } else { random.below(size.m) as u32 }
-    };
-    let effects = |random: &mut Random| {
-        let mut list = random_effects(random, size.m);
-        if random.chance(wrong / 2) {
-            list.push(0);
-        }
-        list
-    };
-    match random.below(24) {
-        0..7 => {
-            let mut bits = random_set(random, size.e, 4 * size.c);
-            if random.chance(wrong) {
-                if random.chance(50) || size.e % 64 == 0 {
-                    bits.push(0);
-                } else {
-                    *bits.last_mut().unwrap() |= 1 << (size.e % 64);
-                }
-            }
-            MergeCall::InitModule { module: module(random), bits, side_effects: effects(random) }
-        }
-        7..9 => MergeCall::AddModule { module: module(random), chunk: chunk(random), side_effects: effects(random) },
-        9 => {
-            let keys = size.c + u64::from(random.chance(wrong));
-            MergeCall::Register { key: random.below(keys) as u32, chunk: chunk(random) }
-        }
-        10 => MergeCall::ToTempIdx { key: random.pick(&[size.c as u32 - 1, size.c as u32, u32::MAX, 0]) },
-        11 => MergeCall::ToTempIdx { key: random.below(size.c) as u32 },
-        12..14 => {
-            let entries = if size.m == 0 { 0 } else { random.below(2 * size.m + 2).min(8192) };
-            let below = size.m + u64::from(random.chance(wrong));
-            let (mut starts, dependencies) = random_lists(random, size.m, entries, below);
-            if random.chance(wrong) {
-                let place = random.index(starts.len());
-                starts[place] = random.odd_number();
-            }
-            MergeCall::Calc { starts, dependencies }
-        }
-        14..17 => MergeCall::Warning { source: chunk(random), target: chunk(random) },
-        17..19 => MergeCall::IsReachable { from: chunk(random), to: chunk(random) },
-        19..22 => MergeCall::Merge { target: chunk(random), source: chunk(random) },
-        _ => {
-            let count = state.candidates().len();
-            let named = u64::from(state.initial) + u64::from(random.chance(wrong));
-            let proposals = (0..count.max(1))
-                .map(|_| if named == 0 || random.chance(30) { NONE } else { random.below(named) as u32 })
-                .collect();
-            let bars = (0..count.max(1)).map(|_| if random.chance(15) { random.odd_number() } else { 0 }).collect();
-            let kinds = if random.chance(wrong) { count + 1 } else { FITTED };
-            MergeCall::Pass { proposals, bars, kinds, numbers: if kinds == FITTED { FITTED } else { count } }
-        }
-    }
-}
-
-fn damaged_size(random: &mut Random, mut size: Size) -> Size {
-    let odd = |random: &mut Random, number: u64| match random.below(3) {
-        0 => number + 1,
-        1 => number.saturating_sub(1),
-        _ => random.pick(&[0, 257, 1025, 4097, 8193, u64::MAX, 1 << 32, 1 << 63]),
-    };
-    match random.below(4) {
-        0 => size.c = odd(random, size.c),
-        1 => size.m = odd(random, size.m),
-        2 => size.l = odd(random, size.l),
-        _ => size.e = odd(random, size.e),
-    }
-    size
-}
-
-fn damaged_cell(random: &mut Random, size: Size, state: &MergeState, extra: usize) -> (usize, u32) {
-    let at = size.layout();
-    let chunk = random.index(at.c);
-    let cell = match random.below(12) {
-        0 => at.dependency(chunk, random.index(at.c)),
-        1 => at.dependency(chunk, chunk),
-        2..4 => at.header(random.index(5)),
-        4 => at.set_word(random.index(9), random.index(2 * at.c)),
-        5 if !state.sets.is_empty() => at.set_word(random.index(9), random.index(state.sets.len())),
-        6 => at.chunk_lane(MergeLayout::NEEDS_CREATION, chunk),
-        7 => at.chunk_lane(MergeLayout::KEY, chunk),
-        8 if at.m > 0 => at.module_lane(MergeLayout::MODULE_CHUNK, random.index(at.m)),
-        9 if at.l > 0 => at.entry_lane(random.index(2), random.index(at.l)),
-        10 if !state.entries.is_empty() => at.entry_lane(random.index(2), random.index(state.entries.len())),
-        _ => random.index(at.length() + extra),
-    };
-    let value = if random.chance(70) { random.below(size.c.max(size.m) + 2) as u32 } else { random.odd_number() };
-    (cell, value)
-}
-
-pub fn random_load(random: &mut Random, shape: Shape) -> MergeLoad {
-    let size = shape.size;
-    let listed = if size.m == 0 || shape.initial == 0 { 0 } else { random.below((size.l / 2).min(2 * size.m) + 1) };
-    let (module_starts, modules) = random_lists(random, shape.initial, listed, size.m);
-    let mut sets: Vec<Vec<u64>> = vec![];
-    for _ in 0..shape.pairs.min(if shape.initial == 0 { 0 } else { shape.pairs }) {
-        let set = random_set(random, size.e, 4 * size.c);
-        if !sets.contains(&set) {
-            sets.push(set);
-        }
-    }
-    MergeLoad {
-        initial: shape.initial,
-        module_starts,
-        modules,
-        set_chunks: sets.iter().map(|_| random.below(shape.initial) as u32).collect(),
-        sets: sets.concat(),
-        side_effects: random_effects(random, size.m),
-    }
-}
-
-/// A made-up case; `damage` is the percent of calls with something wrong.
-pub fn random_case(random: &mut Random, shape: Shape, damage: u64) -> MergeCase {
-    let load = random_load(random, shape);
-    let size = shape.size;
-    let extra = random.pick(&[0, 0, 1, 7]);
-    let mut case = MergeCase { size, load, extra, short: false, fill: random.next(), crafted: None, calls: vec![] };
-    let Ok(state) = merges_model::new(size, &case.load, usize::MAX) else { return case };
-    add_calls(random, &mut case, state, shape, damage);
-    case
-}
-
-fn add_calls(random: &mut Random, case: &mut MergeCase, mut state: MergeState, shape: Shape, damage: u64) {
-    let (size, extra) = (case.size, case.extra);
-    for _ in 0..shape.calls {
-        let call = random_call(random, shape, &state, damage / 2);
-        let mut wrong = Damage::default();
-        if random.chance(damage) {
-            // Mostly one thing, now and then several: the first fitting row wins.
-            let kind = random.below(8);
-            if kind == 0 || kind == 7 {
-                wrong.size = Some(damaged_size(random, size));
-            }
-            wrong.short = kind == 1 || (kind == 7 && random.chance(30));
-            if (2..7).contains(&kind) || (kind == 7 && random.chance(50)) {
-                wrong.cell = Some(damaged_cell(random, size, &state, extra));
-            }
-        }
-        if wrong.none() {
-            let call = fitted(&call, &state);
-            if size_refusal(size, usize::MAX, &call) == 0 {
-                state.call(size, &call);
-            }
-        }
-        case.calls.push((call, wrong));
-    }
-}
-
-/// A case that starts from a made-up consistent area: nothing in it need come of a loading.
-pub fn crafted_case(random: &mut Random, shape: Shape, damage: u64) -> MergeCase {
-    let mut case = random_case(random, Shape { calls: 0, ..shape }, 0);
-    let size = case.size;
-    let made = random.below(size.c + 1).max(shape.initial);
-    let maybe = |random: &mut Random| (made > 0 && random.chance(70)).then(|| random.below(made) as u32);
-    let flags = |random: &mut Random, from: u64| (0..made).map(|chunk| chunk >= from && random.chance(40)).collect();
-    let mut sets: Vec<(Set, u32)> = vec![];
-    for _ in 0..if made == 0 { 0 } else { random.below(2 * (size.c + made)) } {
-        let set = Set::from_words(&random_set(random, size.e, 16 * size.c));
-        if (sets.len() as u64) < size.c + made && !sets.iter().any(|(other, _)| *other == set) {
-            sets.push((set, random.below(made) as u32));
-        }
-    }
-    let dense = random.pick(&[5, 20, 50]);
-    let entries = if made == 0 || size.m == 0 { 0 } else { random.below(size.l + 1) };
-    let state = MergeState {
-        initial: shape.initial as u32,
-        created: if random.chance(20) { random.odd_number() } else { random.below(2) as u32 },
-        dependencies: (0..made as u32)
-            .map(|from| (0..made as u32).filter(|&to| to != from && random.chance(dense)).collect())
-            .collect(),
-        side_effects: flags(random, 0),
-        needs_creation: flags(random, shape.initial),
-        sets,
-        entries: (0..entries).map(|_| (random.below(made) as u32, random.below(size.m) as u32)).collect(),
-        module_chunk: (0..size.m).map(|_| maybe(random)).collect(),
-        registered: (0..size.c).map(|_| maybe(random)).collect(),
-    };
-    case.crafted = Some(state.clone());
-    add_calls(random, &mut case, state, shape, damage);
-    case
-}
-
-/// A loading with one thing wrong, now and then two.
-pub fn refused_loading(random: &mut Random, shape: Shape) -> MergeCase {
-    let mut case = random_case(random, Shape { calls: 1, ..shape }, 0);
-    for _ in 0..random.pick(&[1, 1, 2]) {
-        damage_loading(random, &mut case, shape.size);
-    }
-    case
-}
-
-fn damage_loading(random: &mut Random, case: &mut MergeCase, size: Size) {
-    let w = width(size.e) as usize;
-    let load = &mut case.load;
-    let pairs = if w == 0 { 0 } else { load.set_chunks.len().min(load.sets.len() / w) };
-    match random.below(12) {
-        0 => case.short = true,
-        1 => case.size = damaged_size(random, case.size),
-        2 => load.initial = load.initial.saturating_add(random.pick(&[1, 1024, u64::MAX])),
-        3 => load.module_starts.push(0),
-        4 => {
-            let place = random.index(load.module_starts.len());
-            load.module_starts[place] = random.odd_number();
-        }
-        5 if !load.modules.is_empty() => {
-            let place = random.index(load.modules.len());
-            load.modules[place] = size.m as u32 + random.below(2) as u32;
-        }
-        6 => load.sets.push(0),
-        7 | 8 if pairs > 1 => {
-            let (one, other) = (random.index(pairs), random.index(pairs));
-            load.sets.copy_within(one * w..(one + 1) * w, other * w);
-            if random.chance(30) {
-                load.set_chunks[one] = load.initial as u32;
-            }
-        }
-        9 => load.side_effects.push(1),
-        10 if load.initial > 0 && load.initial <= size.c && size.m > 0 => {
-            // One module more than L.
-            load.modules = vec![0; size.l as usize + 1];
-            load.module_starts = vec![0; load.initial as usize + 1];
-            *load.module_starts.last_mut().unwrap() = size.l as u32 + 1;
-        }
-        _ => {
-            // One set more than C.
-            load.set_chunks = vec![0; size.c as usize + 1];
-            load.sets = vec![0; w * (size.c as usize + 1)];
-        }
-    }
-}
-
-/// Two initial chunks, two that need creation, every dependency among the four: all warnings and walks, a pass.
-pub fn every_small_graph(each: &mut dyn FnMut(MergeCase)) {
-    let size = Size { c: 6, m: 4, l: 4, e: 2 };
-    let load = MergeLoad {
-        initial: 2,
-        module_starts: vec![0, 1, 2],
-        modules: vec![0, 1],
-        sets: vec![1, 2],
-        set_chunks: vec![0, 1],
-        side_effects: vec![0, 1, 0, 1],
-    };
-    for graph in 0..1_u32 << 12 {
-        let mut calls = vec![];
-        for (module, set) in [(2, 3), (3, 0)] {
-            calls.push(MergeCall::InitModule { module, bits: vec![set], side_effects: load.side_effects.clone() });
-        }
-        let mut starts = vec![0];
-        let mut dependencies = vec![];
-        for from in 0..4 {
-            for (place, to) in (0..4).filter(|&to| to != from).enumerate() {
-                if graph >> (3 * from as usize + place) & 1 == 1 {
-                    dependencies.push(to);
-                }
-            }
-            starts.push(dependencies.len() as u32);
-        }
-        calls.push(MergeCall::Calc { starts, dependencies });
-        for one in 0..4 {
-            for other in 0..4 {
-                calls.push(MergeCall::Warning { source: one, target: other });
-                calls.push(MergeCall::IsReachable { from: one, to: other });
-            }
-        }
-        let choice = |number: u32| [0, 1, NONE][number as usize % 3];
-        for number in 0..3 {
-            let pass = graph + 1000 * number;
-            let proposals = vec![choice(pass), choice(pass / 3)];
-            let bars = vec![u32::from(pass % 7 == 6), u32::from(pass % 11 == 10)];
-            let pass = MergeCall::Pass { proposals, bars, kinds: FITTED, numbers: FITTED };
-            let merge = MergeCall::Merge { target: number % 4, source: (number + 1 + graph % 3) % 4 };
-            let calls = calls.iter().cloned().chain([merge, pass.clone(), pass]);
-            let calls = calls.map(|call| (call, Damage::default())).collect();
-            each(MergeCase { size, load: load.clone(), extra: 2, short: false, fill: graph.into(), crafted: None, calls });
-        }
     }
 }

@@ -1,10 +1,9 @@
-//! The merge graph by document 01, worked out plainly.
+//! The merge graph by document 01, worked out plainly: what an area holds.
 use std::collections::BTreeSet;
 
 use crate::layout::MergeLayout;
-use crate::library::{MergeLoad, Reply};
 use crate::original::MergeView;
-use crate::sets::{Set, lent_set, width};
+use crate::sets::Set;
 
 pub const NONE: u32 = u32::MAX;
 
@@ -23,14 +22,9 @@ impl Size {
     }
 
     /// Row 14 as far as the sizes go.
-    fn over(self) -> bool {
+    pub fn over(self) -> bool {
         self.c == 0 || self.c > 1024 || self.m > 4096 || self.l > 8192 || self.e > 256
     }
-}
-
-/// Row 4's condition on starts.
-fn faulty(starts: &[u32], end: usize) -> bool {
-    starts[0] != 0 || starts.windows(2).any(|pair| pair[0] > pair[1]) || starts[starts.len() - 1] as usize != end
 }
 
 /// What a merge area holds.
@@ -86,13 +80,13 @@ impl MergeState {
         }
     }
 
-    fn append(&mut self, chunk: u32, module: u32, side_effects: &[u32]) {
+    pub fn append(&mut self, chunk: u32, module: u32, side_effects: &[u32]) {
         self.entries.push((chunk, module));
         self.side_effects[chunk as usize] |= side_effects[module as usize] != 0;
         self.module_chunk[module as usize] = Some(chunk);
     }
 
-    fn new_chunk(&mut self, needs_creation: bool) -> u32 {
+    pub fn new_chunk(&mut self, needs_creation: bool) -> u32 {
         self.dependencies.push(BTreeSet::new());
         self.side_effects.push(false);
         self.needs_creation.push(needs_creation);
@@ -249,187 +243,5 @@ impl MergeState {
             used(at.entry_lane(MergeLayout::ENTRY_MODULE, entry));
         }
         (0..before).filter(|&cell| !field[cell]).collect()
-    }
-}
-
-/// A call on a merge area.
-#[derive(Clone, Debug, PartialEq, Eq)]
-pub enum MergeCall {
-    InitModule { module: u32, bits: Vec<u64>, side_effects: Vec<u32> },
-    AddModule { module: u32, chunk: u32, side_effects: Vec<u32> },
-    Register { key: u32, chunk: u32 },
-    ToTempIdx { key: u32 },
-    Calc { starts: Vec<u32>, dependencies: Vec<u32> },
-    Warning { source: u32, target: u32 },
-    IsReachable { from: u32, to: u32 },
-    Merge { target: u32, source: u32 },
-    Pass { proposals: Vec<u32>, bars: Vec<u32>, kinds: usize, numbers: usize },
-}
-
-/// Loading: the refusal or the state.
-pub fn new(size: Size, load: &MergeLoad, area: usize) -> Result<MergeState, u64> {
-    let pairs = load.set_chunks.len() as u64;
-    if size.over() || load.initial > size.c || pairs > size.c {
-        return Err(14);
-    }
-    let w = width(size.e) as usize;
-    if load.module_starts.len() as u64 != load.initial + 1
-        || faulty(&load.module_starts, load.modules.len())
-        || load.sets.len() != load.set_chunks.len() * w
-        || load.side_effects.len() as u64 != size.m
-        || area < size.layout().length()
-    {
-        return Err(15);
-    }
-    let sets: Vec<Set> =
-        (0..load.set_chunks.len()).map(|pair| Set::from_words(&load.sets[pair * w..(pair + 1) * w])).collect();
-    if load.modules.iter().any(|&module| u64::from(module) >= size.m)
-        || sets.iter().any(|set| !set.below(size.e))
-        || load.set_chunks.iter().any(|&chunk| u64::from(chunk) >= load.initial)
-    {
-        return Err(16);
-    }
-    if sets.iter().collect::<BTreeSet<_>>().len() != sets.len() {
-        return Err(17);
-    }
-    if load.modules.len() as u64 > size.l {
-        return Err(19);
-    }
-    let mut state = MergeState {
-        initial: load.initial as u32,
-        created: 0,
-        dependencies: vec![],
-        side_effects: vec![],
-        needs_creation: vec![],
-        sets: sets.into_iter().zip(load.set_chunks.iter().copied()).collect(),
-        entries: vec![],
-        module_chunk: vec![None; size.m as usize],
-        registered: (0..size.c).map(|key| (key < load.initial).then_some(key as u32)).collect(),
-    };
-    for place in 0..load.initial as usize {
-        let chunk = state.new_chunk(false);
-        for &module in &load.modules[load.module_starts[place] as usize..load.module_starts[place + 1] as usize] {
-            state.append(chunk, module, &load.side_effects);
-        }
-    }
-    Ok(state)
-}
-
-/// Rows 14 and 15 of a later call, but for the pass's own lists.
-pub fn size_refusal(size: Size, area: usize, call: &MergeCall) -> u64 {
-    if size.over() {
-        return 14;
-    }
-    match call {
-        MergeCall::Calc { dependencies, .. } if dependencies.len() > 8192 => return 14,
-        MergeCall::Calc { starts, dependencies } => {
-            if starts.len() as u64 != size.m + 1 || faulty(starts, dependencies.len()) {
-                return 15;
-            }
-        }
-        MergeCall::InitModule { side_effects, .. } | MergeCall::AddModule { side_effects, .. } => {
-            if side_effects.len() as u64 != size.m {
-                return 15;
-            }
-        }
-        _ => {}
-    }
-    if area < size.layout().length() { 15 } else { 0 }
-}
-
-impl MergeState {
-    /// A call after 14, 15 and 21: the answer and the pass's kinds and numbers.
-    pub fn call(&mut self, size: Size, call: &MergeCall) -> (Reply, Vec<(u32, u32)>) {
-        match self.checked(size, call) {
-            Ok((value, lists)) => (Reply::value(value), lists),
-            Err(refusal) => (Reply::refused(refusal), vec![]),
-        }
-    }
-
-    fn checked(&mut self, size: Size, call: &MergeCall) -> Result<(u64, Vec<(u32, u32)>), u64> {
-        let fits = |yes: bool, row: u64| if yes { Err(row) } else { Ok(()) };
-        let no_chunk = |chunk: u32| chunk >= self.made();
-        let no_module = |module: u32| u64::from(module) >= size.m;
-        let full = self.entries.len() as u64 >= size.l;
-        let mut value = 0;
-        match call {
-            MergeCall::InitModule { module, bits, side_effects } => {
-                fits(no_module(*module), 16)?;
-                let set = lent_set(bits, size.e).ok_or(16_u64)?;
-                let named = self.sets.iter().find(|(other, _)| *other == set).map(|&(_, chunk)| chunk);
-                fits(named.is_none() && u64::from(self.made()) >= size.c, 18)?;
-                fits(full, 19)?;
-                let chunk = named.unwrap_or_else(|| {
-                    let chunk = self.new_chunk(true);
-                    self.sets.push((set, chunk));
-                    chunk
-                });
-                self.append(chunk, *module, side_effects);
-            }
-            MergeCall::AddModule { module, chunk, side_effects } => {
-                fits(no_module(*module) || no_chunk(*chunk), 16)?;
-                fits(full, 19)?;
-                self.append(*chunk, *module, side_effects);
-            }
-            MergeCall::Register { key, chunk } => {
-                fits(u64::from(*key) >= size.c || no_chunk(*chunk), 16)?;
-                self.registered[*key as usize] = Some(*chunk);
-            }
-            MergeCall::ToTempIdx { key } => {
-                let chunk = self.registered.get(*key as usize).copied().flatten();
-                value = chunk.unwrap_or(NONE).into();
-            }
-            MergeCall::Calc { starts, dependencies } => {
-                fits(dependencies.iter().any(|&module| no_module(module)), 16)?;
-                for &(chunk, module) in &self.entries {
-                    let (from, to) = (starts[module as usize], starts[module as usize + 1]);
-                    for &other in &dependencies[from as usize..to as usize] {
-                        if let Some(at) = self.module_chunk[other as usize].filter(|&at| at != chunk) {
-                            self.dependencies[chunk as usize].insert(at);
-                        }
-                    }
-                }
-            }
-            MergeCall::Warning { source, target } => {
-                fits(no_chunk(*source) || no_chunk(*target), 16)?;
-                fits(source == target, 20)?;
-                value = self.warning(*source, *target).into();
-            }
-            MergeCall::IsReachable { from, to } => {
-                fits(no_chunk(*from) || no_chunk(*to), 16)?;
-                value = self.is_reachable(*from, *to).into();
-            }
-            MergeCall::Merge { target, source } => {
-                fits(no_chunk(*source) || no_chunk(*target), 16)?;
-                fits(source == target, 20)?;
-                self.merge(*target, *source);
-            }
-            MergeCall::Pass { proposals, bars, kinds, numbers } => {
-                let candidates = self.candidates();
-                let lengths = [proposals.len(), bars.len(), *kinds, *numbers];
-                fits(lengths != [candidates.len(); 4], 15)?;
-                fits(proposals.iter().any(|&chunk| chunk != NONE && chunk >= self.initial), 16)?;
-                let room = u64::from(self.initial) + u64::from(self.created) + candidates.len() as u64;
-                fits(room > size.c, 18)?;
-                return Ok((candidates.len() as u64, self.pass(&candidates, proposals, bars)));
-            }
-        }
-        Ok((value, vec![]))
-    }
-
-    fn pass(&mut self, candidates: &[u32], proposals: &[u32], bars: &[u32]) -> Vec<(u32, u32)> {
-        let mut answers = vec![];
-        for ((&candidate, &proposal), &bar) in candidates.iter().zip(proposals).zip(bars) {
-            if proposal != NONE && bar == 0 && !self.warning(candidate, proposal) {
-                self.merge(proposal, candidate);
-                answers.push((0, proposal));
-            } else {
-                let number = self.initial + self.created;
-                self.created += 1;
-                self.registered[number as usize] = Some(candidate);
-                answers.push((1, number));
-            }
-        }
-        answers
     }
 }

@@ -150,3 +150,8 @@ pub fn same_area(what: &str, ours: &[u32], expected: &[u32]) -> Result<(), Strin
         Some(cell) => Err(format!("{what}: area cell {cell} is {}, expected {}", ours[cell], expected[cell])),
     }
 }
+
+/// Says how two answers differ.
+pub fn same<T: PartialEq + Debug>(what: &str, one: &T, expected: &T) -> Result<(), String> {
+    if one == expected { Ok(()) } else { Err(format!("{what}: {one:?}, expected {expected:?}")) }
+}

@@ -57,3 +57,8 @@ pub fn lent_set(words: &[u64], e: u64) -> Option<Set> {
     let set = Set::from_words(words);
     set.below(e).then_some(set)
 }
+
+/// The numbers that lend a set of `e` bits.
+pub fn words(set: Set, e: u64) -> Vec<u64> {
+    set.0[..width(e) as usize].to_vec()
+}
