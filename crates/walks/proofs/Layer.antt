@@ -105,6 +105,11 @@ module _ {n mark : ℕ} {marks stack : List ℕ} {sp y : ℕ} (v : Ready n mark 
     unfolding size
     push-less = omega (arith, fewer)
 
+    -- it goes on the stack between two scans
+    pub seed-state : {d : ℕ → ℕ} {f : ℕ → ℕ → ℕ} {h : ℕ → ℕ → Bool} {o r : ℕ → Bool} → ((x i : ℕ) → x < n → i < d x → h x i ≡ true → f x i < n)
+        → Spread n d f h o r (met mark marks) (stk stack) sp n 0 → r y ≡ true → Spread n d f h o r (met mark marks′) (stk stack′) (sp + 1) n 0
+    seed-state g a may = moves.seed a g (met mark marks′) (stk stack′) y yn may cy co top-y so (λ i b. absurd (omega arith))
+
 -- the loop over t's places
 module _ {e : ℕ → ℕ → Bool} {n : ℕ} {d : ℕ → ℕ} {f : ℕ → ℕ → ℕ} {h : ℕ → ℕ → Bool} (G : Offers e n d f h) where
   pub scan-none : {mark : ℕ} {l s : List ℕ} {sp t : ℕ} → Ready n mark l s sp → Scanned e n d f h mark l s sp t 0 l s sp
@@ -128,10 +133,11 @@ module _ {e : ℕ → ℕ → Bool} {n : ℕ} {d : ℕ → ℕ} {f : ℕ → ℕ
         less = omega (arith, v .less, push-less (v .ready) yn k);
         state = λ o r w g.
             let a = v .state o r w g in
-            let new = met-no mark l y k in
-            let free : o y ≡ false = fails (o y) (λ z. omega (arith, a .old y yn z)) in
-            moves.push a (G .ends) tn (met mark (set l y mark)) (stk (set s sp y)) y yn (sym is) new (g y (rw is (G .step t j tn jd holds)) free)
-            (cy (v .ready) yn k) (co (v .ready) yn k) (top-y (v .ready) yn k) (so (v .ready) yn k);
+            let free : o y ≡ false = fails (o y) (λ z. omega (arith, a .old y yn z, met-no mark l y k)) in
+            moves.pass
+            (moves.seed a (G .ends) (met mark (set l y mark)) (stk (set s sp y)) y yn (g y (rw is (G .step t j tn jd holds)) free)
+            (cy (v .ready) yn k) (co (v .ready) yn k) (top-y (v .ready) yn k) (so (v .ready) yn k) (λ i b m q. G .ends t i tn m q))
+            (λ z. rw (← is) (cy (v .ready) yn k));
       }
 
       pub turn-more : {l′ s′ : List ℕ} {sp′ : ℕ} → Looked l s mark sp y l′ s′ sp′ → Scanned e n d f h mark l₀ s₀ sp₀ t (j + 1) l′ s′ sp′

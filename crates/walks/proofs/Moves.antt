@@ -39,39 +39,34 @@ module _ {n : ℕ} {d : ℕ → ℕ} {f : ℕ → ℕ → ℕ} {h : ℕ → ℕ 
     shut = λ x b w u. ⊎-elim (λ k. inl k) (λ k. inr (λ i l q a. k i l q (λ g. omega (arith, ap d g)))) (v .shut x b w u);
   }
 
-  -- t's j-th neighbour y is marked and goes on the stack
-  module _ (g : (x i : ℕ) → x < n → i < d x → h x i ≡ true → f x i < n) (tn : t < n) (c′ s′ : ℕ → ℕ) (y : ℕ) (yn : y < n) (is : f t j ≡ y) (new : c y ≡ 0) (may : r y ≡ true)
-      (cy : c′ y ≡ 1) (co : (x : ℕ) → x < n → (x ≡ y → ⊥) → c′ x ≡ c x) (sy : s′ sp ≡ y) (so : (p : ℕ) → (p ≡ sp → ⊥) → s′ p ≡ s p) where
+  -- a node y is marked and goes on the stack
+  module _ (g : (x i : ℕ) → x < n → i < d x → h x i ≡ true → f x i < n) (c′ s′ : ℕ → ℕ) (y : ℕ) (yn : y < n) (may : r y ≡ true)
+      (cy : c′ y ≡ 1) (co : (x : ℕ) → x < n → (x ≡ y → ⊥) → c′ x ≡ c x) (sy : s′ sp ≡ y) (so : (p : ℕ) → (p ≡ sp → ⊥) → s′ p ≡ s p)
+      (looked : (i : ℕ) → i < j → i < d t → h t i ≡ true → f t i < n) where
     keeps : (x : ℕ) → x < n → c x ≡ 1 → c′ x ≡ 1
     keeps x b w = elim (ℕ-discrete x y) [ yes q ↦ rw q cy | no q ↦ co x b q ∙ w ]
 
     same-s : (p : ℕ) → p < sp → s′ p ≡ s p
     same-s p b = so p (omega arith)
 
-    push-shut : (x : ℕ) → x < n → c′ x ≡ 1 → o x ≡ false
-        → ((p : ℕ) × (p < sp + 1) × (s′ p ≡ x)) ⊎ ((i : ℕ) → i < d x → h x i ≡ true → (x ≡ t → i < j + 1) → c′ (f x i) ≡ 1)
-    push-shut x b w u = elim (ℕ-discrete x y) [
+    seed-shut : (x : ℕ) → x < n → c′ x ≡ 1 → o x ≡ false
+        → ((p : ℕ) × (p < sp + 1) × (s′ p ≡ x)) ⊎ ((i : ℕ) → i < d x → h x i ≡ true → (x ≡ t → i < j) → c′ (f x i) ≡ 1)
+    seed-shut x b w u = elim (ℕ-discrete x y) [
       | yes q ↦ inl (sp, omega arith, sy ∙ sym q)
       | no q ↦ ⊎-elim (λ k. inl (k .0, omega arith, same-s (k .0) (k .1) ∙ k .2))
-          (λ k. inr (λ i l m a. elim (ℕ-discrete (f x i) y) [
-            | yes z ↦ rw z cy
-            | no z ↦ keeps (f x i) (g x i b l m) (k i l m (λ e.
-                let p = a e in
-                let ne : i ≡ j → ⊥ = λ u. z (rw (e, u) is) in
-                omega arith))
-          ]))
+          (λ k. inr (λ i l m a. keeps (f x i) (g x i b l m) (k i l m a)))
           (v .shut x b (sym (co x b q) ∙ w) u)
     ]
 
-    pub push : Spread n d f h o r c′ s′ (sp + 1) t (j + 1)
-    push = record {
+    pub seed : Spread n d f h o r c′ s′ (sp + 1) t j
+    seed = record {
       node = λ p b. elim (ℕ-discrete p sp) [ yes q ↦ rw (q, sy) yn | no q ↦ rw (same-s p (omega arith)) (v .node p (omega arith)) ];
       met = λ p b. elim (ℕ-discrete p sp) [ yes q ↦ rw (q, sy) cy | no q ↦ rw (same-s p (omega arith)) (keeps (s p) (v .node p (omega arith)) (v .met p (omega arith))) ];
       live = λ p b. elim (ℕ-discrete p sp) [ yes q ↦ rw (q, sy) may | no q ↦ rw (same-s p (omega arith)) (v .live p (omega arith)) ];
       old = λ x b w. keeps x b (v .old x b w);
       from = λ x b w u. elim (ℕ-discrete x y) [ yes q ↦ rw q may | no q ↦ v .from x b (sym (co x b q) ∙ w) u ];
-      part = λ i b l q. elim (ℕ-discrete i j) [ yes z ↦ rw (z, is) cy | no z ↦ keeps (f t i) (g t i tn l q) (v .part i (omega arith) l q) ];
-      shut = push-shut;
+      part = λ i b l q. keeps (f t i) (looked i b l q) (v .part i b l q);
+      shut = seed-shut;
     }
 
 module _ {n : ℕ} {d : ℕ → ℕ} {f : ℕ → ℕ → ℕ} {h : ℕ → ℕ → Bool} {o r : ℕ → Bool} {c s : ℕ → ℕ} {sp : ℕ} (v : Spread n d f h o r c s sp n 0) where
