@@ -1,0 +1,4 @@
+-- The laws that the proofs of `set_order` cite. Assumes nothing.
+pub mod Merging
+pub mod Sorting
+pub mod Telling

@@ -1,0 +1,3 @@
+-- The definitions that the contracts of `set_order` cite, and their laws. Assumes nothing.
+pub mod Order
+pub mod Steps
