@@ -1,4 +1,4 @@
-//! The calls on areas that the caller lends: safe, with the replies of [`raw`](crate::raw).
+//! The calls on areas that the caller lends: safe, with the replies of [`raw`].
 //!
 //! An area is any slice of numbers; [`move_area_length`] and [`merge_area_length`] say how long it must be at least. What
 //! lies beyond is not touched. Sizes are taken from the lists, so that only wrong relations between them are refused.

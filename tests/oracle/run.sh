@@ -1,6 +1,6 @@
 #!/usr/bin/env bash
 # Compares the original, the plain model and, if crates/exports is there, the proved library.
-# Arguments go to the runner: --long, --seed NUMBER, --self-test (README.md).
+# Arguments go to the runner: --long, --seed NUMBER, --self-test, --record CASES (README.md).
 set -euo pipefail
 cd "$(dirname "$0")/../.."
 original="${NIDSKALM_ORIGINAL:-../shared/docs/src}"
@@ -21,7 +21,12 @@ if [ -f "${NIDSKALM_LIB_DIR:-target/staticlib}/libexports.a" ]; then
 fi
 cargo build --manifest-path tests/oracle/Cargo.toml --offline -j1 --quiet --profile checked "${features[@]}"
 runner=tests/oracle/target/checked/oracle
-if [ "${#features[@]}" -gt 0 ]; then
+if [ "${#features[@]}" -gt 0 ] && [ "${1:-}" != --record ]; then
+    if command -v cc > /dev/null; then
+        cc -std=c99 -Wall -Wextra -Iinclude tests/oracle/header.c -L"$NIDSKALM_LIB_DIR" -lexports \
+            -o tests/oracle/target/header
+        tests/oracle/target/header
+    fi
     "$runner" --replay tests/oracle/recorded.txt
 fi
 exec "$runner" "$@"

@@ -98,18 +98,16 @@ fn model_on_area(size: Size, area: &[u32], call: &MergeCall) -> (Answer, Option<
     }
     match MergeState::decode(size, area) {
         Verdict::Inconsistent => ((Reply::refused(21), vec![]), None, false),
-        Verdict::Unsettled => ((Reply::default(), vec![]), None, true),
-        Verdict::Consistent(mut state) => {
-            let answer = state.call(size, call);
-            (answer, Some(state), false)
-        }
+        Verdict::Unsettled(None) => ((Reply::default(), vec![]), None, true),
+        Verdict::Unsettled(Some(mut state)) => (state.call(size, call), Some(state), true),
+        Verdict::Consistent(mut state) => (state.call(size, call), Some(state), false),
     }
 }
 
 /// Compares an area after an unrefused call with the state, and its free cells and the guard with those before.
 fn same_state(size: Size, state: &MergeState, area: &[u32], before: &[u32]) -> Result<(), String> {
     match MergeState::decode(size, area) {
-        Verdict::Consistent(other) if other == *state => {}
+        Verdict::Consistent(other) | Verdict::Unsettled(Some(other)) if other == *state => {}
         Verdict::Consistent(other) => return Err(format!("area holds {other:?}, expected {state:?}")),
         verdict => return Err(format!("area is {verdict:?}, expected {state:?}")),
     }
@@ -192,10 +190,12 @@ impl MergeCase {
         let answer = library_answer(library, size, &mut ours[..lent], call)?;
         if unsettled {
             counts.damaged_unsettled += 1;
-            if answer.0.refusal != 0 {
-                same_area("unsettled area, refused", &ours, &before)?;
+            if state.is_none() && answer.0.refusal == 0 {
+                return Ok(());
             }
-            return Ok(());
+            if answer.0.refusal == 21 || state.is_none() {
+                return same_area("unsettled area", &ours, &before);
+            }
         }
         if damage.cell.is_some() && damage.size.is_none() && !damage.short {
             if expected.0.refusal == 21 { counts.damaged_refused += 1 } else { counts.damaged_consistent += 1 }

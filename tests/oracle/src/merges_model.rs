@@ -50,9 +50,9 @@ pub struct MergeState {
 pub enum Verdict {
     Inconsistent,
     Consistent(MergeState),
-    /// Document 01 doesn't say: a flag of side effects or need of creation that is neither 0 nor 1, or set for a
-    /// chunk not yet made.
-    Unsettled,
+    /// Document 01 doesn't say: a flag of side effects or need of creation is neither 0 nor 1, or, then with the state,
+    /// isn't 0 for a chunk not yet made.
+    Unsettled(Option<MergeState>),
 }
 
 impl MergeState {
@@ -180,9 +180,12 @@ impl MergeState {
         if !sound {
             return Verdict::Inconsistent;
         }
-        let odd = |which| lane(which, at.c).enumerate().any(|(chunk, flag)| flag > 1 || (chunk >= made && flag != 0));
-        if odd(MergeLayout::SIDE_EFFECTS) || odd(MergeLayout::NEEDS_CREATION) {
-            return Verdict::Unsettled;
+        let lanes = [MergeLayout::SIDE_EFFECTS, MergeLayout::NEEDS_CREATION];
+        if lanes.iter().any(|&which| lane(which, made).any(|flag| flag > 1)) {
+            return Verdict::Unsettled(None);
+        }
+        if lanes.iter().any(|&which| lane(which, at.c).skip(made).any(|flag| flag != 0)) {
+            return Verdict::Unsettled(Some(state));
         }
         Verdict::Consistent(state)
     }

@@ -282,49 +282,45 @@ pub fn crafted_case(random: &mut Random, shape: Shape, damage: u64) -> MoveCase 
     case
 }
 
-/// Every load with A atoms and E = 2: sets, single dependencies, hosts, N; `each` gets a case without calls.
+/// The dependencies of the `graph`-th way to give each pair of atoms none, one, or (few atoms) two.
+fn small_dependencies(a: u64, graph: u64, counts: u64) -> (Vec<u32>, Vec<u32>) {
+    let (mut starts, mut dependencies) = (vec![0], vec![]);
+    let mut rest = graph;
+    for from in 0..a as u32 {
+        for to in (0..a as u32).filter(|&to| to != from) {
+            dependencies.extend((0..rest % counts).map(|_| to));
+            rest /= counts;
+        }
+        starts.push(dependencies.len() as u32);
+    }
+    (starts, dependencies)
+}
+
+/// Every load with A atoms and E = 2: sets, dependencies, hosts, N up to all four sets; `each` gets a case without calls.
 pub fn every_small_load(a: u64, each: &mut dyn FnMut(MoveCase)) {
-    let pairs: Vec<(u32, u32)> = (0..a as u32)
-        .flat_map(|from| (0..a as u32).map(move |to| (from, to)))
-        .filter(|(from, to)| from != to)
-        .collect();
-    let choices = 4_u64.pow(a as u32);
-    for chosen in 0..choices {
+    let counts: u64 = if a < 3 { 3 } else { 2 };
+    let graphs = counts.pow((a * a.saturating_sub(1)) as u32);
+    for chosen in 0..4_u64.pow(a as u32) {
         let sets: Vec<u64> = (0..a).map(|atom| chosen / 4_u64.pow(atom as u32) % 4).collect();
         if (0..sets.len()).any(|place| sets[..place].contains(&sets[place])) {
             continue;
         }
-        for graph in 0..1_u32 << pairs.len() {
-            let mut starts = vec![0];
-            let mut dependencies = vec![];
-            for atom in 0..a as u32 {
-                for (bit, &(from, to)) in pairs.iter().enumerate() {
-                    if from == atom && graph >> bit & 1 == 1 {
-                        dependencies.push(to);
-                    }
-                }
-                starts.push(dependencies.len() as u32);
-            }
-            for host in 0..(a + 1) * (a + 1) {
-                let name = |number: u64| if number == a { NONE } else { number as u32 };
+        for graph in 0..graphs {
+            let (starts, dependencies) = small_dependencies(a, graph, counts);
+            for choice in 0..(a + 1) * (a + 1) * (5 - a) {
+                let name = |number: u64| if number % (a + 1) == a { NONE } else { (number % (a + 1)) as u32 };
+                let host = choice / (5 - a);
                 let load = Load {
                     a,
                     d: dependencies.len() as u64,
                     e: 2,
-                    n: a + host % 2,
+                    n: a + choice % (5 - a),
                     starts: starts.clone(),
                     dependencies: dependencies.clone(),
-                    hosts: vec![name(host % (a + 1)), name(host / (a + 1))],
+                    hosts: vec![name(host), name(host / (a + 1))],
                 };
-                each(MoveCase {
-                    load,
-                    sets: sets.clone(),
-                    extra: 1,
-                    short: false,
-                    fill: chosen,
-                    crafted: None,
-                    calls: vec![],
-                });
+                let sets = sets.clone();
+                each(MoveCase { load, sets, extra: 1, short: false, fill: chosen, crafted: None, calls: vec![] });
             }
         }
     }

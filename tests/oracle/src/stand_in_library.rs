@@ -1,14 +1,18 @@
 //! A stand-in for the library, over the model, with bugs that can be planted: it shows that the runs find them.
-use crate::layout::MoveLayout;
+use crate::layout::{MergeLayout, MoveLayout};
 use crate::library::{EdgeReply, Library, MergeLoad, Reply, SetReply};
 use crate::merges_calls::{self, MergeCall};
 use crate::merges_model::Size;
 use crate::moves_model::{Graph, Load, MoveState, whole};
 use crate::sets::{Set, lent_set, width};
 
-/// Bugs by name; the first is none.
-pub const PLANTS: [&str; 46] = [
+/// No bug: document 01 leaves these flags open.
+pub const HARMLESS: &str = "flags of chunks not yet made left as they were";
+
+/// Bugs by name; the first two are none.
+pub const PLANTS: [&str; 47] = [
     "none",
+    HARMLESS,
     "repeated dependency counted once",
     "facade skipped when the target gets its first atom",
     "facade of an empty set kept",
@@ -183,7 +187,16 @@ impl Library for StandIn {
             }
             Err(row) => Reply::refused(row),
             Ok(state) => {
+                let before = area.to_vec();
                 state.encode(size, area);
+                if self.planted(HARMLESS) {
+                    let at = size.layout();
+                    for chunk in state.made() as usize..at.c {
+                        for lane in [MergeLayout::SIDE_EFFECTS, MergeLayout::NEEDS_CREATION] {
+                            area[at.chunk_lane(lane, chunk)] = before[at.chunk_lane(lane, chunk)];
+                        }
+                    }
+                }
                 Reply::default()
             }
         }

@@ -36,7 +36,8 @@ impl StandIn {
         if row != 0 {
             return (Reply::refused(row), vec![]);
         }
-        let Verdict::Consistent(mut state) = MergeState::decode(size, area) else {
+        let (Verdict::Consistent(mut state) | Verdict::Unsettled(Some(mut state))) = MergeState::decode(size, area)
+        else {
             let lists_differ = matches!(call, MergeCall::Pass { proposals, kinds, .. } if proposals.len() != *kinds);
             let row = if lists_differ && self.planted("15 of the pass before 21") { 15 } else { 21 };
             return (Reply::refused(row), vec![]);

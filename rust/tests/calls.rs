@@ -1,0 +1,126 @@
+//! Every call once through the safe crate, and the rows that only it can bring about.
+use nidskalm::{
+    Assignment, ChunkIdx, Edge, EntrySet, InitialChunks, Load, MergeGraph, ModuleIdx, MoveGraph, Refusal, Size, NONE,
+};
+
+fn set(bits: u64) -> EntrySet {
+    EntrySet::from(bits)
+}
+
+fn row<T: std::fmt::Debug>(result: Result<T, Refusal>) -> u64 {
+    result.unwrap_err().row()
+}
+
+/// Atoms 1 and 2 depend on atom 0 and host bits 0 and 1.
+const LOAD: Load = Load { starts: &[0, 0, 1, 2], dependencies: &[0, 0], hosts: &[1, 2] };
+
+#[test]
+fn moves_and_questions() {
+    let mut graph = MoveGraph::new(LOAD, 8, &[set(3), set(1), set(2)]).unwrap();
+    assert!(!graph.cyclic_at_loading());
+    assert_eq!(graph.multiplicity(set(1), set(3)), Ok(1));
+    assert_eq!(graph.try_move(0, set(1)), Ok(true));
+    assert_eq!(graph.try_move(1, set(3)), Ok(false));
+    assert_eq!(graph.atom_set(0), Ok(set(1)));
+    assert_eq!(graph.atom_count(set(1)), Ok(2));
+    assert_eq!(graph.atom_count(set(3)), Ok(0));
+    assert_eq!(graph.edge_count(), Ok(1));
+    assert_eq!(graph.edges(), Ok(vec![Edge { from: set(2), to: set(1), multiplicity: 1 }]));
+    assert_eq!(graph.edge_at(1), Ok(None));
+}
+
+#[test]
+fn refused_moves_change_nothing() {
+    let mut graph = MoveGraph::new(LOAD, 3, &[set(3), set(1), set(2)]).unwrap();
+    let before = graph.edges().unwrap();
+    assert_eq!(row(graph.try_move(3, set(1))), 10);
+    assert_eq!(row(graph.try_move(0, set(4))), 11);
+    assert_eq!(row(graph.try_move(0, EntrySet::from_bits([0, 64]))), 11);
+    assert_eq!(row(graph.try_move(0, set(3))), 12);
+    assert_eq!(row(graph.try_move(0, set(0))), 13);
+    assert_eq!(row(graph.atom_set(9)), 10);
+    assert_eq!(row(graph.multiplicity(set(1), EntrySet::from_bits([200]))), 11);
+    assert_eq!(graph.edges(), Ok(before));
+}
+
+#[test]
+fn refused_loadings() {
+    let sets = [set(3), set(1), set(2)];
+    let load = |load: Load, n: u64, sets: &[EntrySet]| row(MoveGraph::new(load, n, sets));
+    assert_eq!(load(LOAD, 2, &sets), 1);
+    assert_eq!(load(LOAD, u64::MAX, &sets), 1);
+    assert_eq!(load(LOAD, 3, &sets[..2]), 2);
+    assert_eq!(load(Load { starts: &[], ..LOAD }, 3, &[]), 2);
+    assert_eq!(load(Load { starts: &[0, 1, 0, 2], ..LOAD }, 3, &sets), 4);
+    assert_eq!(load(Load { dependencies: &[1, 0], ..LOAD }, 3, &sets), 5);
+    assert_eq!(load(Load { hosts: &[3, NONE], ..LOAD }, 3, &sets), 6);
+    assert_eq!(load(LOAD, 3, &[set(3), set(1), set(6)]), 7);
+    assert_eq!(load(LOAD, 3, &[set(3), set(3), EntrySet::from_bits([64])]), 7);
+    assert_eq!(load(LOAD, 3, &[set(3), set(1), set(1)]), 8);
+}
+
+const SIZE: Size = Size { chunks: 5, modules: 4, entries: 6, entry_bits: 2 };
+const INITIAL: InitialChunks =
+    InitialChunks { module_starts: &[0, 1, 2], modules: &[0, 1], sets: &[], set_chunks: &[] };
+
+#[test]
+fn merges() {
+    let effects = [0, 0, 7, 0];
+    let named = [set(1), set(2)];
+    let initial = InitialChunks { sets: &named, set_chunks: &[0, 1], ..INITIAL };
+    let mut graph = MergeGraph::new(SIZE, initial, &effects).unwrap();
+    graph.init_module_assignment(ModuleIdx(2), set(3)).unwrap();
+    graph.init_module_assignment(ModuleIdx(3), set(0)).unwrap();
+    graph.add_module_to_chunk(ModuleIdx(3), ChunkIdx(3)).unwrap();
+    graph.calc_chunk_dependencies(&[0, 1, 1, 2, 3], &[1, 1, 2]).unwrap();
+    let chunk = ChunkIdx;
+    assert!(graph.depends(chunk(0), chunk(1)) && graph.depends(chunk(3), chunk(2)));
+    assert!(!graph.depends(chunk(9), chunk(0)));
+    assert_eq!(graph.is_reachable(chunk(3), chunk(1)), Ok(true));
+    assert_eq!(graph.is_reachable(chunk(3), chunk(3)), Ok(false));
+    assert_eq!(graph.would_create_circular_dependency(chunk(2), chunk(1)), Ok(true));
+    assert_eq!(graph.would_create_circular_dependency(chunk(2), chunk(0)), Ok(false));
+    assert_eq!(graph.to_temp_idx(chunk(4)), Ok(None));
+    graph.register_chunk_graph_index(chunk(4), chunk(3)).unwrap();
+    assert_eq!(graph.to_temp_idx(chunk(4)), Ok(Some(chunk(3))));
+    let decided = graph.pass(&[Some(chunk(0)), None], &[false, false]);
+    assert_eq!(decided, Ok(vec![Assignment::Merged(chunk(0)), Assignment::Created(chunk(2))]));
+    graph.merge_chunk_dependencies(chunk(1), chunk(3)).unwrap();
+    assert!(graph.depends(chunk(1), chunk(2)) && !graph.depends(chunk(3), chunk(2)));
+}
+
+#[test]
+fn refused_merges() {
+    let effects = [0; 4];
+    assert_eq!(row(MergeGraph::new(Size { chunks: 0, ..SIZE }, INITIAL, &effects)), 14);
+    assert_eq!(row(MergeGraph::new(Size { modules: u64::MAX, ..SIZE }, INITIAL, &effects)), 14);
+    assert_eq!(row(MergeGraph::new(SIZE, INITIAL, &effects[1..])), 15);
+    let far = [EntrySet::from_bits([99])];
+    assert_eq!(row(MergeGraph::new(SIZE, InitialChunks { sets: &far, set_chunks: &[0], ..INITIAL }, &effects)), 16);
+    let twice = [set(1), set(1)];
+    assert_eq!(
+        row(MergeGraph::new(SIZE, InitialChunks { sets: &twice, set_chunks: &[0, 1], ..INITIAL }, &effects)),
+        17
+    );
+    let mut graph = MergeGraph::new(SIZE, INITIAL, &effects).unwrap();
+    let (one, two) = (ChunkIdx(1), ChunkIdx(2));
+    assert_eq!(row(graph.init_module_assignment(ModuleIdx(4), set(1))), 16);
+    assert_eq!(row(graph.init_module_assignment(ModuleIdx(0), EntrySet::from_bits([64]))), 16);
+    assert_eq!(row(graph.add_module_to_chunk(ModuleIdx(0), two)), 16);
+    assert_eq!(row(graph.register_chunk_graph_index(ChunkIdx(5), one)), 16);
+    assert_eq!(row(graph.calc_chunk_dependencies(&[0, 0], &[])), 15);
+    assert_eq!(row(graph.would_create_circular_dependency(one, one)), 20);
+    assert_eq!(row(graph.is_reachable(one, two)), 16);
+    assert_eq!(row(graph.merge_chunk_dependencies(one, one)), 20);
+    assert_eq!(row(graph.pass(&[None], &[false])), 15);
+    for _ in 0..4 {
+        graph.add_module_to_chunk(ModuleIdx(0), one).unwrap();
+    }
+    assert_eq!(row(graph.add_module_to_chunk(ModuleIdx(0), one)), 19);
+}
+
+#[test]
+fn every_row_has_words() {
+    let refusal = MoveGraph::new(LOAD, 0, &[]).unwrap_err();
+    assert!(refusal.to_string().starts_with("refused 1: more than 512 atoms"));
+}
