@@ -1,0 +1,16 @@
+use borrow.Author.Tests.{eq-eqb, ne-eqb}
+use Rattle.moving.proofs.early.no_room.Statement.{statement}
+use Rattle.moving.proofs.early.no_room.Tie as tie
+use Rattle.moving.proofs.early.no_room.Reads as reads
+use Rattle.moving.proofs.early.no_room.Lts as lts
+
+-- src/early.rt:53:9
+returns : tie.Need-returns
+returns c = rw (ne-eqb _ _ (c .if1 .taken))
+
+-- src/early.rt:49:1
+returns-2 : tie.Need-returns-2
+returns-2 c = rw (eq-eqb _ _ (c .if1 .left))
+
+pub no-room-spec : {M : Type 1} → statement M
+no-room-spec = tie.close (tie.spec returns returns-2)

@@ -1,0 +1,8 @@
+-- The definitions that the contracts of `moving` cite, and their laws. Assumes nothing.
+pub mod Stands
+pub mod Areas
+pub mod Changes
+pub mod Grown
+pub mod Registering
+pub mod Outcome
+pub mod Early

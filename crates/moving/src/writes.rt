@@ -1,0 +1,47 @@
+// What the steps of a move write into the area.
+ghost use mathlib.Core.Path.{_≡_};
+ghost use mathlib.Core.Bool.{cond};
+ghost use Prim.Native.Nat.{_+_, _*_, _^_, _≤_, _<_};
+ghost use lib.Dec.{eqb};
+ghost use lib.ListN.{length, getD};
+ghost use Rattle.entry_set.specs.Sets.{number};
+ghost use Rattle.move_area.specs.Calls.{next};
+ghost use Rattle.moving.specs.Areas.{registered, counterIn, raised, CanRegister};
+
+// Step 2: the set becomes a node.
+fn add_node(area: &mut [u32], n: usize, r: usize, s: entry_set::EntrySet)
+    requires { ⌜ CanRegister n r (now area) ⌝ }
+    ensures { λ _. ⌜ now (area .exit) ≡ registered n r (number s) (now (area .entry)) ⌝ }
+{
+    let square = n * n;
+    entry_set::write_lanes(area, square + 24 + r, n, s);
+    area[square] = r as u32 + 1;
+    area[square + 24 + 9 * n + r] = 0;
+}
+
+// It does if `to` is no registered node.
+pub fn register(area: &mut [u32], n: usize, r: usize, to: usize, s: entry_set::EntrySet)
+    requires { ⌜ (to ≡ r → CanRegister n r (now area)) ⌝ }
+    ensures { λ _. ⌜ now (area .exit) ≡ cond (eqb to r) (registered n r (number s) (now (area .entry))) (now (area .entry)) ⌝ }
+{
+    if to == r {
+        add_node(area, n, r, s);
+    }
+}
+
+// The next walk counter. After the last one all marks are cleared, and it starts again.
+pub fn raise(area: &mut [u32], n: usize) -> u32
+    requires { ⌜ n * n + 24 + 24 * n ≤ length (now area) ⌝ }
+    ensures { λ r. ⌜ r ≡ next (counterIn n (now (area .entry))) ⌝ }
+    ensures { λ _. ⌜ now (area .exit) ≡ raised n (now (area .entry)) ⌝ }
+{
+    let square = n * n;
+    let counter = area[square + 1];
+    if counter == 4294967295 {
+        layout::fill_with(area, square + 24 + 9 * n, n, 0);
+        area[square + 1] = 1;
+        return 1;
+    }
+    area[square + 1] = counter + 1;
+    counter + 1
+}
