@@ -1,0 +1,6 @@
+-- The laws that the proofs of `components` cite. Assumes nothing.
+pub mod Parts
+pub mod Gathering
+pub mod Labels
+pub mod Meets
+pub mod Found

@@ -1,0 +1,30 @@
+-- `components::gather` meets its contract. Assumes nothing.
+use Rattle.components.proofs.Gathering.{gather-can, spread-can, gather-done}
+use borrow.Author.Needs.{needs}
+use Rattle.components.proofs.gather.Statement.{statement}
+use Rattle.components.proofs.gather.Tie as tie
+use Rattle.components.proofs.gather.Reads as reads
+use Rattle.components.proofs.gather.Lts as lts
+use Rattle.walks.proofs.look.Reads as look-reads
+use Rattle.walks.proofs.spread.Reads as spread-reads
+
+look-requires : tie.Need-look-requires
+look-requires c κs =
+    gather-can (c .before .before .before .before .before .before .before .pre)
+
+spread-requires : tie.Need-spread-requires
+spread-requires c κs =
+    spread-can (c .before .before .before .before .before .before .before .before .before .before .before .before .before .before .pre) (c .before .before .before .before .before .before .look .ensures)
+
+same-length : tie.Need-same-length
+same-length c = search needs
+
+same-length-2 : tie.Need-same-length-2
+same-length-2 c = search needs
+
+returns : tie.Need-returns
+returns c =
+    gather-done (c .before .before .before .before .before .before .before .before .before .before .before .before .before .before .before .before .before .before .before .pre) (c .before .before .before .before .before .before .before .before .before .before .before .look .ensures) (c .before .before .before .before .spread .ensures)
+
+pub gather-spec : {M : Type 1} → statement M
+gather-spec = tie.close (tie.spec look-requires spread-requires same-length same-length-2 returns)
