@@ -1,22 +1,23 @@
 -- What each call of `fill_slots` asks, and what they come to. Assumes nothing.
-use mathlib.Core.Path.{_≡_, refl, sym, ap, _∙_}
+use mathlib.Core.Path.{_≡_, refl, sym, ap, subst, _∙_}
 use mathlib.Core.Bool.{Bool, true}
 use mathlib.Core.List.{List}
-use Prim.Native.Nat.{ℕ, _+_, _*_, _≤_, _<_}
+use Prim.Native.Nat.{ℕ, _+_, _-_, _*_, _≤_, _<_}
 use native.Mathlib.Omega.{arith}
-use lib.ListN.{length, getD}
+use lib.ListN.{length, getD, take, drop}
 use Rattle.entry_set.specs.Lanes.{lanes}
 use Rattle.graphs.specs.Tab.{tab}
-use Rattle.layout.specs.Patch.{patch, patch-long}
+use Rattle.layout.specs.Patch.{patch, patch-long, part, part-long, part-at}
 use Rattle.ledger.specs.Graph.{Load, at, members}
 use Rattle.placement.specs.Slots.{atoms, sources-by, targets-by}
 use Rattle.placement.specs.Steps.{CanTally, CanSlots}
 use Rattle.placement.specs.Facades.{CanFronts, fronts-in}
 use Rattle.placement.specs.SlotLaws.{tally-members, Fronts, InLanes, facades-fronts, slots-written}
-use Rattle.move_area.specs.Bodies.{laneAt}
+use Rattle.move_area.specs.Bodies.{atomAt}
 use Rattle.move_area.specs.Area.{setsIn}
-use Rattle.move_area.specs.Checked.{sets-length, sets-at}
-use Rattle.consistency.specs.Filled.{CanFill, Filled}
+use Rattle.move_area.specs.Checked.{nodesIn, sets-length, sets-at}
+use Rattle.layout.specs.Lent.{mid-part}
+use Rattle.consistency.specs.Filled.{CanFill, Filled, CanFillOwn}
 
 module _ {load : Load} {n : ℕ} {nodes area : List ℕ} {registered : ℕ} {counts facade sources targets : List ℕ} (can : CanFill load n nodes area registered counts facade sources targets) where
   pub fill-tally : CanTally counts n nodes (load .A)
@@ -67,3 +68,29 @@ module _ {load : Load} {n : ℕ} {nodes area : List ℕ} {registered : ℕ} {cou
         count-at = λ x b. tally-members load nodes n counts (can .counts-long) t x b;
         slots = slots-written sources targets fronts-are (can .sources-long) (can .targets-long) p q;
       }
+
+-- the area's own nodes are a part of it
+module _ {load : Load} {n : ℕ} {area counts facade sources targets : List ℕ} (can : CanFillOwn load n area counts facade sources targets) {to : ℕ} (e : to ≡ atomAt n + load .A) where
+  own-nodes : take (to - atomAt n) (drop (atomAt n) area) ≡ nodesIn load n area
+  own-nodes =
+      let q : to - atomAt n ≡ load .A = omega arith in
+      mid-part (atomAt n) to area (omega arith) (omega (arith, can .loadable .sizes .area)) ∙ ap (λ k. part (atomAt n) k area) q
+
+  pub own-can : CanFill load n (take (to - atomAt n) (drop (atomAt n) area)) area (getD area (n * n) 0) counts facade sources targets
+  own-can =
+      subst (λ (v : List ℕ). CanFill load n v area (getD area (n * n) 0) counts facade sources targets) (sym own-nodes)
+      (record {
+        loadable = can .loadable;
+        many = refl;
+        few = can .ranged .few;
+        atoms = omega (arith, part-long (atomAt n) (load .A) area);
+        inside = λ i b. omega (arith, part-at (atomAt n) (load .A) area i b, can .ranged .nodes i b);
+        counts-long = can .counts-long;
+        facade-long = can .facade-long;
+        sources-long = can .sources-long;
+        targets-long = can .targets-long;
+      })
+
+  pub own-done : {counts′ sources′ targets′ : List ℕ} → Filled load n (take (to - atomAt n) (drop (atomAt n) area)) (setsIn n area) counts′ sources′ targets′
+      → Filled load n (nodesIn load n area) (setsIn n area) counts′ sources′ targets′
+  own-done {counts′} {sources′} {targets′} f = subst (λ (v : List ℕ). Filled load n v (setsIn n area) counts′ sources′ targets′) own-nodes f

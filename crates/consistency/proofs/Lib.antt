@@ -1,4 +1,7 @@
 -- Laws that the proofs of `consistency` share. Assumes nothing.
 pub mod Tests
+pub mod Ranging
 pub mod Filling
 pub mod Matching
+pub mod Flagging
+pub mod Working

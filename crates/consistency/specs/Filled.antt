@@ -8,6 +8,7 @@ use Rattle.ledger.specs.Graph.{Load, at}
 use Rattle.ledger.specs.LoadLaws.{Loadable}
 use Rattle.placement.specs.SlotLaws.{Slotted}
 use Rattle.move_area.specs.NodeBodies.{tally}
+use Rattle.move_area.specs.Checked.{Ranged}
 
 -- the load passes the rows 1 to 6, the area names `registered` sets, each atom's node is one of them, and the lists are long enough
 pub record CanFill (load : Load) (n : ℕ) (nodes area : List ℕ) (registered : ℕ) (counts facade sources targets : List ℕ) : Type 0 where
@@ -25,3 +26,12 @@ pub record CanFill (load : Load) (n : ℕ) (nodes area : List ℕ) (registered :
 pub record Filled (load : Load) (n : ℕ) (nodes sets counts sources targets : List ℕ) : Type 0 where
   pub count-at : (x : ℕ) → x < n → at counts x ≡ tally load nodes x
   pub slots : Slotted load nodes sets sources targets
+
+-- the same for the area's own nodes
+pub record CanFillOwn (load : Load) (n : ℕ) (area counts facade sources targets : List ℕ) : Type 0 where
+  pub loadable : Loadable load n true (length area)
+  pub ranged : Ranged load n area
+  pub counts-long : n ≤ length counts
+  pub facade-long : load .E ≤ length facade
+  pub sources-long : load .D + load .E ≤ length sources
+  pub targets-long : load .D + load .E ≤ length targets

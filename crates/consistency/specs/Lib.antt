@@ -2,3 +2,5 @@
 pub mod Ranges
 pub mod Filled
 pub mod Matched
+pub mod Graph
+pub mod Ready

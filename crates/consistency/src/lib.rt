@@ -3,4 +3,7 @@ mod ranges;
 mod slots;
 mod worked;
 
+pub use ranges::in_ranges;
+pub use slots::fill_own_slots;
 pub use slots::fill_slots;
+pub use worked::slot_count;

@@ -1,0 +1,52 @@
+-- What each call of `is_worked` asks, and what they come to. Assumes nothing.
+use mathlib.Core.Path.{_≡_, refl, sym, ap, subst, _∙_}
+use mathlib.Core.Bool.{Bool, true, not, _&&_}
+use mathlib.Core.List.{List}
+use Prim.Native.Nat.{ℕ, _+_, _<_}
+use native.Mathlib.Omega.{arith}
+use native.Mathlib.Nat.{zero-add}
+use lib.ListN.{getD}
+use Rattle.graphs.specs.Bools.{Decides, and-left, and-right}
+use Rattle.graphs.specs.Count.{ind, count}
+use Rattle.graphs.specs.Lists.{below}
+use Rattle.graphs.specs.Slots.{slotEdge}
+use Rattle.graphs.specs.Walk.{only}
+use Rattle.ledger.specs.Graph.{Load}
+use Rattle.placement.specs.Compare.{SamePart}
+use Rattle.node_edges.specs.Matrix.{Holds}
+use Rattle.move_area.specs.Bodies.{laneAt}
+use Rattle.move_area.specs.Area.{setsIn}
+use Rattle.move_area.specs.NodeBodies.{nodeEdge}
+use Rattle.move_area.specs.Checked.{nodesIn, Worked}
+use Rattle.consistency.specs.Filled.{Filled}
+use Rattle.consistency.specs.Graph.{Flagged, Counted, counted-flat, counted-cyclic, counted-edge}
+use Rattle.consistency.specs.Matched.{Matched}
+use Rattle.consistency.specs.Ready.{WorkTold}
+use Rattle.consistency.proofs.Tests.{same-decides, both-decides}
+
+module _ {load : Load} {n m : ℕ} {area counts s t : List ℕ} (f : Filled load n (nodesIn load n area) (setsIn n area) counts s t) (g : Counted load (nodesIn load n area) (setsIn n area) s t n m) where
+  by-parts : {r : Bool} → Decides ((SamePart area (laneAt n 8) counts 0 n × Holds area n s t m) × Flagged (slotEdge s t m) n area) r → Decides (Worked load n area) r
+  by-parts d =
+      same-decides
+      (λ p. record {
+        counts = λ x b. p .0 .0 x b ∙ ap (λ i. getD counts i 0) (zero-add x) ∙ f .count-at x b;
+        edges = λ i b. p .0 .1 .at i b ∙ counted-flat g i b;
+        acyclic = p .1 .acyclic ∙ ap (λ u. ind (not u)) (counted-cyclic g);
+        component = λ x b. p .1 .component x b ∙ same x b;
+      })
+      (λ w. (
+        (λ x b. w .counts x b ∙ sym (f .count-at x b) ∙ ap (λ i. getD counts i 0) (sym (zero-add x)), record { at = λ i b. w .edges i b ∙ sym (counted-flat g i b) }),
+        record { acyclic = w .acyclic ∙ sym (ap (λ u. ind (not u)) (counted-cyclic g)); component = λ x b. w .component x b ∙ sym (same x b) },
+      ))
+      d
+    where
+      same : (x : ℕ) → x < n → ind (only (slotEdge s t m) (below n) x) ≡ ind (only (nodeEdge load (nodesIn load n area) (setsIn n area)) (below n) x)
+      same x b = ap (λ (e : ℕ → ℕ → Bool). ind (only e (below n) x)) (counted-edge g (omega arith))
+
+  pub work-done : {heads list degrees : List ℕ} {r₁ r₂ r₃ : Bool} → Decides (SamePart area (laneAt n 8) counts 0 n) r₁ → Matched area n m s t heads list degrees r₂
+      → Decides (Flagged (slotEdge s t m) n area) r₃ → WorkTold load n area counts s t degrees ((r₁ && r₂) && r₃)
+  work-done {heads} {list} {degrees} {r₁} {r₂} {r₃} c d e = record {
+    says = by-parts (both-decides (both-decides c (d .says)) e);
+    filled = f;
+    degree-at = λ q x b. d .degree-at (and-right r₁ r₂ (and-left (r₁ && r₂) r₃ q)) x b ∙ ap (λ (e : ℕ → ℕ → Bool). count (e x) n) (counted-edge g (omega arith));
+  }

@@ -1,0 +1,70 @@
+-- What the check of a whole area asks, and what it leaves to the calls after it. Assumes nothing.
+use mathlib.Core.Path.{_≡_}
+use mathlib.Core.Bool.{Bool, true}
+use mathlib.Core.List.{List}
+use Prim.Native.Nat.{ℕ, _+_, _*_, _^_, _≤_, _<_}
+use lib.ListN.{length, getD}
+use Rattle.graphs.specs.Bools.{Decides}
+use Rattle.graphs.specs.Count.{count}
+use Rattle.graphs.specs.Slots.{slotEdge, Ends}
+use Rattle.ledger.specs.Graph.{Load}
+use Rattle.ledger.specs.LoadLaws.{Loadable}
+use Rattle.neighbours.specs.Lists.{edge, Graph}
+use Rattle.move_area.specs.Area.{setsIn}
+use Rattle.move_area.specs.NodeBodies.{nodeEdge}
+use Rattle.move_area.specs.Checked.{nodesIn, Ranged, Worked}
+use Rattle.consistency.specs.Filled.{Filled}
+
+-- the header and the node lanes are there
+pub record Lanes (area : List ℕ) (n : ℕ) : Type 0 where
+  pub nodes : n ≤ 1024
+  pub room : n * n + 24 + 24 * n ≤ length area
+
+-- lists lent for the walks over n nodes and m slots
+pub record WalkRoom (n m : ℕ) (turned back colour cursor stack low finish flags : List ℕ) : Type 0 where
+  pub turned-long : n < length turned
+  pub back-long : m ≤ length back
+  pub back-short : length back < 2 ^ 31
+  pub colour-long : n ≤ length colour
+  pub cursor-long : n ≤ length cursor
+  pub stack-long : n ≤ length stack
+  pub low-long : n ≤ length low
+  pub finish-long : n ≤ length finish
+  pub flags-long : n ≤ length flags
+
+-- lists lent for n nodes, m slots and e entry bits
+pub record Room (n m e : ℕ) (counts facade sources targets heads list row degrees : List ℕ) : Type 0 where
+  pub counts-long : n ≤ length counts
+  pub facade-long : e ≤ length facade
+  pub sources-long : m ≤ length sources
+  pub targets-long : m ≤ length targets
+  pub heads-long : n < length heads
+  pub list-long : m ≤ length list
+  pub list-short : length list < 2 ^ 31
+  pub row-long : n ≤ length row
+  pub degrees-long : n ≤ length degrees
+
+-- the slots' graph is grouped by source, and there is room for the walks
+pub record CanFlag (area : List ℕ) (n m : ℕ) (sources targets heads list turned back colour cursor stack low finish flags : List ℕ) : Type 0 where
+  pub lanes : Lanes area n
+  pub slots : m ≤ 8448
+  pub sources-long : m ≤ length sources
+  pub targets-long : m ≤ length targets
+  pub ends : Ends sources targets n m
+  pub graph : Graph heads list n
+  pub edges : edge heads list n ≡ slotEdge sources targets m
+  pub room : WalkRoom n m turned back colour cursor stack low finish flags
+
+-- the load passes the rows 1 to 6, the area's numbers are in range, and the lists are long enough
+pub record CanWork (load : Load) (n : ℕ) (area counts facade sources targets heads list row degrees turned back colour cursor stack low finish flags : List ℕ) : Type 0 where
+  pub loadable : Loadable load n true (length area)
+  pub ranged : Ranged load n area
+  pub room : Room n (load .D + load .E) (load .E) counts facade sources targets heads list row degrees
+  pub walks : WalkRoom n (load .D + load .E) turned back colour cursor stack low finish flags
+
+-- whether the rest is what is worked out; the atom counts and the slots of the area's own placement; and where the answer is yes, how many edges
+-- start at each node
+pub record WorkTold (load : Load) (n : ℕ) (area counts sources targets degrees : List ℕ) (r : Bool) : Type 0 where
+  pub says : Decides (Worked load n area) r
+  pub filled : Filled load n (nodesIn load n area) (setsIn n area) counts sources targets
+  pub degree-at : r ≡ true → (x : ℕ) → x < n → getD degrees x 0 ≡ count (nodeEdge load (nodesIn load n area) (setsIn n area) x) n
