@@ -1,4 +1,6 @@
 -- One file for each demand, and what the demands speak of. Assumes nothing.
 pub mod History
+pub mod Areas
+pub mod Demand1
 pub mod Demand2
 pub mod Demand3

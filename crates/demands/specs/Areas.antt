@@ -1,0 +1,79 @@
+-- From the ledger to the areas that the calls are lent: what the contracts equate the code with. Assumes nothing.
+use Prim.Native.Nat.{ℕ, _+_, _*_, _/_, _%_, _≤_, _<_}
+use native.Mathlib.Omega.{arith}
+use mathlib.Core.Path.{_≡_, refl, sym, ap, ap₂, subst, _∙_}
+use mathlib.Core.Bool.{Bool, true, false}
+use mathlib.Core.List.{List}
+use lib.ListN.{length, getD}
+use borrow.Author.Tests.{lt-ltb}
+use Rattle.graphs.specs.Square.{index-lt, index-div, index-mod}
+use Rattle.graphs.specs.Tab.{tab-at}
+use Rattle.layout.specs.Patch.{part, part-at}
+use Rattle.ledger.specs.Graph.{Load, at, members, mult}
+use Rattle.ledger.specs.Answer.{Answer}
+use Rattle.ledger.specs.Ledger.{Ledger, move, try-move, call}
+use Rattle.ledger.specs.Loading.{refusal}
+use Rattle.ledger.specs.LoadLaws.{first-row-none}
+use Rattle.move_area.specs.Bodies.{laneAt, atomAt, write}
+use Rattle.move_area.specs.BodyLaws.{read-edges, read-counts}
+use Rattle.move_area.specs.Area.{State, bodies, encode, decode, consistent, nodewise}
+use Rattle.move_area.specs.Held.{Held, bodies-sized, consistent-held, consistent-whole}
+use Rattle.move_area.specs.Calls as on-area
+use Rattle.move_area.specs.History.{Holding, holding-consistent, call-area, call-step}
+
+-- an area that no row from 1 to 9 turns back holds the ledger that is read from it
+pub holding : (load : Load) (N : ℕ) (area : List ℕ) → refusal load N (length area) ≡ 0 → consistent load N area ≡ true → Holding load N area (decode load N area)
+holding load N area q c =
+    let l = first-row-none load N true (length area) q in
+    record {
+      legal = q;
+      room = omega (arith, l .sizes .area);
+      bits = l .sizes .bits;
+      held = consistent-held load N area c;
+      whole = consistent-whole load N area c;
+    }
+
+-- "counts and edges equal those worked out afresh"
+pub record Fresh (load : Load) (N : ℕ) (l : Ledger) (area : List ℕ) : Type 0 where
+  pub count-at : (x : ℕ) → x < length (l .registered) → getD area (laneAt N 8 + x) 0 ≡ members load (l .place) (at (l .registered) x)
+  pub edge-at : (x y : ℕ) → x < length (l .registered) → y < length (l .registered)
+      → getD area (x * N + y) 0 ≡ mult load (l .place) (at (l .registered) x) (at (l .registered) y)
+  -- "Rows 1 to 9 can't fit within a list"
+  pub legal : refusal load N (length area) ≡ 0
+  pub consistent : consistent load N area ≡ true
+
+pub holding-fresh : {load : Load} {N : ℕ} {area : List ℕ} {st : State} → Holding load N area st → Fresh load N (st .ledger) area
+unfolding bodies encode
+holding-fresh {load} {N} {area} {st} h =
+    record {
+      count-at = λ x b.
+          let c : x < N = omega (arith, h .held .sound .room) in
+          sym (part-at (laneAt N 8) N area x c) ∙ ap (λ (u : List ℕ). getD (part (laneAt N 8) N u) x 0) (sym (h .whole))
+          ∙ ap (λ (u : List ℕ). getD u x 0) (read-counts N (load .A) (bodies load N st) (bodies-sized (h .held)) area (h .room))
+          ∙ tab-at _ N x c ∙ rw (lt-ltb x (length (st .ledger .registered)) b) refl;
+      edge-at = λ x y bx by.
+          let cx : x < N = omega (arith, h .held .sound .room) in
+          let cy : y < N = omega (arith, h .held .sound .room) in
+          let i : x * N + y < N * N = index-lt N x y cx cy in
+          ap (λ k. getD area k 0) (sym (native.Mathlib.Nat.zero-add (x * N + y)))
+          ∙ sym (part-at 0 (N * N) area (x * N + y) i) ∙ ap (λ (u : List ℕ). getD (part 0 (N * N) u) (x * N + y) 0) (sym (h .whole))
+          ∙ ap (λ (u : List ℕ). getD u (x * N + y) 0) (read-edges N (load .A) (bodies load N st) (bodies-sized (h .held)) area (h .room))
+          ∙ tab-at _ (N * N) (x * N + y) i
+          ∙ rw (index-div N x y cy, index-mod N x y cy, lt-ltb x (length (st .ledger .registered)) bx, lt-ltb y (length (st .ledger .registered)) by) refl;
+      legal = h .legal;
+      consistent = holding-consistent h;
+    }
+
+-- a move on an area that holds a ledger answers as the ledger does, and so does the next one
+pub step-answer : (load : Load) (N : ℕ) (area : List ℕ) (a : ℕ) (s : List ℕ) → Holding load N area (decode load N area)
+    → on-area.try-move load N area a s .answer ≡ move load N (decode load N area .ledger) a s .answer
+unfolding call call-area
+step-answer load N area a s h = call-step load N area (decode load N area) (try-move a s) h .answers
+
+pub after-step : (load : Load) (N : ℕ) (area : List ℕ) (a : ℕ) (s : List ℕ) (b : ℕ) (t : List ℕ) → Holding load N area (decode load N area)
+    → on-area.try-move load N (on-area.try-move load N area a s .area) b t .answer ≡ move load N (move load N (decode load N area .ledger) a s .after) b t .answer
+unfolding call call-area
+after-step load N area a s b t h =
+    let p = call-step load N area (decode load N area) (try-move a s) h in
+    call-step load N (on-area.try-move load N area a s .area) (p .next) (try-move b t) (p .holds) .answers
+    ∙ ap (λ (l : Ledger). move load N l b t .answer) (p .follows)
