@@ -1,0 +1,2 @@
+-- The laws that the proofs of `slot_graph` cite. Assumes nothing.
+pub mod Grouped

@@ -1,0 +1,2 @@
+-- The definitions that the contracts of `slot_graph` cite. Assumes nothing.
+pub mod Asked
