@@ -1,7 +1,7 @@
 -- What the rows say of the numbers, and the first row that fits. Assumes nothing.
 use Prim.Native.Nat.{ℕ, _+_, _*_, _≤_}
 use native.Mathlib.Nat.{mul-le-mul}
-use mathlib.Core.Path.{_≡_, refl, sym, _∙_}
+use mathlib.Core.Path.{_≡_, refl}
 use mathlib.Core.Bool.{Bool, false, not, cond, _||_}
 use mathlib.Core.List.{List, []}
 use lib.Dec.{ltb, eqb}
@@ -10,7 +10,7 @@ use borrow.Author.Tests.{ltb-false, eqb-true, not-false}
 use Rattle.graphs.specs.Bools.{or-false-left, or-false-right, and-left, and-right}
 use Rattle.ledger.specs.Graph.{owner}
 use Rattle.ledger.specs.Loading.{row1, row2, row3, row4, row5, row6, first-row}
-use Rattle.ledger.specs.LoadLaws.{row4-starts}
+use Rattle.load_checks.specs.Legal.{good-starts}
 use Rattle.load_checks.specs.Checks.{lent, falling, bad-starts, bad-hosts, list-row, Limits, Lengths, CanOwn, spans}
 
 pub limits : (a d e n : ℕ) → row1 (lent a d e [] [] []) n ≡ false → Limits a d e n
@@ -41,11 +41,6 @@ module _ (a d e : ℕ) (starts dependencies hosts : List ℕ) where
         of-hosts = eqb-true _ _ (and-right (eqb (length dependencies) d) _ y);
       }
 
-  -- row 4 is the general test of starts
-  pub row4-is : bad-starts starts a d ≡ row4 (lent a d e starts dependencies hosts)
-  unfolding bad-starts falling row4
-  row4-is = refl
-
   -- the rows 4 to 6 by the lists that each looks at
   pub list-is : length hosts ≡ e → list-row (lent a d e starts dependencies hosts) ≡ cond (bad-starts starts a d) 4 (cond (row5 (spans a d starts dependencies)) 5 (cond (bad-hosts hosts a) 6 0))
   unfolding list-row bad-starts falling row4 row5 owner row6 bad-hosts
@@ -57,5 +52,4 @@ module _ (a d e : ℕ) (starts dependencies hosts : List ℕ) where
   first-is n fit size = refl
 
 pub can-own : (a d : ℕ) (starts dependencies : List ℕ) → length starts ≡ a + 1 → length dependencies ≡ d → bad-starts starts a d ≡ false → CanOwn a d starts dependencies
-can-own a d starts dependencies long full h =
-    record { long = long; full = full; rise = row4-starts (spans a d starts dependencies) (sym (row4-is a d 0 starts dependencies []) ∙ h) }
+can-own a d starts dependencies long full h = record { long = long; full = full; rise = good-starts starts a d dependencies h }

@@ -29,8 +29,8 @@ can-set {sets} {w} {a} can i l =
 
 -- the rows 7 and 8 by what the code looks for
 module _ (a e w : ℕ) (sets : List ℕ) (wide : w ≡ width e) where
-  pub can-sets : (e ≤ 256) × (length sets ≡ a * width e) → CanSets sets w a
-  can-sets h = record { narrow = omega (arith, h .0); full = h .1 ∙ ap (λ v. a * v) (sym wide) }
+  pub can-sets : (a ≤ 512) × (e ≤ 256) × (length sets ≡ a * width e) → CanSets sets w a
+  can-sets h = record { narrow = omega (arith, h .1); full = h .2 ∙ ap (λ v. a * v) (sym wide) }
 
   pub set-is : set-row (lent a 0 e [] [] []) sets ≡ cond (too-high sets w a e) 7 (cond (alike-sets sets w a) 8 0)
   unfolding set-row row7 row8 too-high alike-sets met
@@ -57,5 +57,5 @@ module _ (a d e : ℕ) (starts dependencies hosts : List ℕ) (n : ℕ) (sets : 
   unfolding loading-row set-row row7 row8
   loading-late r h q = rw (← fit-is, eq-eqb row 0 h) q
 
-  pub loading-can : row ≡ 0 → (e ≤ 256) × (length sets ≡ a * width e)
-  loading-can h = let l = first-row-none load n (eqb (length sets) (a * width e)) size (sym fit-is ∙ h) in (l .sizes .bits, eqb-true _ _ (l .lengths))
+  pub loading-can : row ≡ 0 → (a ≤ 512) × (e ≤ 256) × (length sets ≡ a * width e)
+  loading-can h = let l = first-row-none load n (eqb (length sets) (a * width e)) size (sym fit-is ∙ h) in (l .sizes .atoms, l .sizes .bits, eqb-true _ _ (l .lengths))

@@ -6,8 +6,8 @@ ghost use lib.ListN.{length};
 ghost use lib.Dec.{leb, eqb};
 ghost use Rattle.entry_set.specs.Sets.{width};
 ghost use Rattle.load_checks.specs.Checks.{lent};
-ghost use Rattle.load_checks.specs.EntrySets.{nth-set, too-high, met, alike-sets, set-row, CanSet, CanSets};
-use entry_set::equal;
+ghost use Rattle.load_checks.specs.EntrySets.{nth-set, too-high, set-row, CanSet, CanSets};
+use crate::alike::any_alike;
 use entry_set::in_range;
 use entry_set::set_at;
 use entry_set::set_width;
@@ -35,47 +35,9 @@ fn any_too_high(sets: &[u64], w: usize, a: usize, e: usize) -> bool
     false
 }
 
-// Sets j and i are equal.
-fn same_set(sets: &[u64], w: usize, j: usize, i: usize) -> bool
-    requires { ⌜ CanSet (now sets) w j × CanSet (now sets) w i ⌝ }
-    ensures { λ r. ⌜ r ≡ eqb (nth-set (now (sets .entry)) w j) (nth-set (now (sets .entry)) w i) ⌝ }
-{
-    equal(set_at(sets, w, j), set_at(sets, w, i))
-}
-
-// Set i is one of those before it.
-fn met_before(sets: &[u64], w: usize, a: usize, i: usize) -> bool
-    requires { ⌜ CanSets (now sets) w a × (i < a) ⌝ }
-    ensures { λ r. ⌜ r ≡ met (now (sets .entry)) w i ⌝ }
-{
-    let mut j = 0;
-    while j < i {
-        if same_set(sets, w, j, i) {
-            return true;
-        }
-        j += 1;
-    }
-    false
-}
-
-// Row 8: two sets are equal.
-fn any_alike(sets: &[u64], w: usize, a: usize) -> bool
-    requires { ⌜ CanSets (now sets) w a ⌝ }
-    ensures { λ r. ⌜ r ≡ alike-sets (now (sets .entry)) w a ⌝ }
-{
-    let mut i = 0;
-    while i < a {
-        if met_before(sets, w, a, i) {
-            return true;
-        }
-        i += 1;
-    }
-    false
-}
-
 // The rows 7 and 8, 0 where none fits.
 pub fn sets_refusal(a: usize, e: usize, sets: &[u64]) -> u32
-    requires { ⌜ (e ≤ 256) × (length (now sets) ≡ a * width e) ⌝ }
+    requires { ⌜ (a ≤ 512) × (e ≤ 256) × (length (now sets) ≡ a * width e) ⌝ }
     ensures { λ r. ⌜ r ≡ set-row (lent a 0 e [] [] []) (now (sets .entry)) ⌝ }
 {
     let w = set_width(e);

@@ -1,4 +1,4 @@
--- `load_checks::sets/any_too_high` meets its contract. Assumes nothing.
+-- `load_checks::sets::any_too_high` meets its contract. Assumes nothing.
 use Prim.Native.Nat.{_-_, _^_, _≤_}
 use native.Mathlib.Omega.{arith}
 use mathlib.Core.Path.{sym, _∙_}

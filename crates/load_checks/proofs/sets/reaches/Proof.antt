@@ -1,4 +1,4 @@
--- `load_checks::sets/reaches` meets its contract. Assumes nothing.
+-- `load_checks::sets::reaches` meets its contract. Assumes nothing.
 use Rattle.load_checks.proofs.SetLaws.{not-ltb}
 use Prim.Native.Nat.{_^_}
 use mathlib.Core.Path.{ap, _∙_}

@@ -1,4 +1,4 @@
--- `load_checks::sets/sets_fit` meets its contract. Assumes nothing.
+-- `load_checks::sets::sets_fit` meets its contract. Assumes nothing.
 use Prim.Native.Nat.{_*_, _≤_}
 use native.Mathlib.Omega.{arith}
 use native.Mathlib.Nat.{mul-le-mul}

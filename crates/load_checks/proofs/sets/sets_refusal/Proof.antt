@@ -1,4 +1,4 @@
--- `load_checks::sets/sets_refusal` meets its contract. Assumes nothing.
+-- `load_checks::sets::sets_refusal` meets its contract. Assumes nothing.
 use mathlib.Core.Path.{refl, sym, _∙_}
 use Rattle.load_checks.proofs.SetLaws.{set-is, can-sets}
 use borrow.Author.Needs.{needs}
@@ -15,7 +15,7 @@ returns : tie.Need-returns
 returns c = rw (set-is (c .before .before .before .before .args .a) (c .before .before .before .before .args .e) _ (c .before .before .before .before .args .sets .now) (c .before .before .set-width .ensures), sym (c .before .any-too-high .ensures) ∙ c .if1 .taken) refl
 
 any-alike-requires : tie.Need-any-alike-requires
-any-alike-requires c κs = can-sets (c .before .before .before .before .args .a) (c .before .before .before .before .args .e) _ (c .before .before .before .before .args .sets .now) (c .before .before .set-width .ensures) (c .before .before .before .before .pre)
+any-alike-requires c κs = (can-sets (c .before .before .before .before .args .a) (c .before .before .before .before .args .e) _ (c .before .before .before .before .args .sets .now) (c .before .before .set-width .ensures) (c .before .before .before .before .pre), c .before .before .before .before .pre .0)
 
 returns-2 : tie.Need-returns-2
 returns-2 c = rw (set-is (c .before .before .before .before .before .before .args .a) (c .before .before .before .before .before .before .args .e) _ (c .before .before .before .before .before .before .args .sets .now) (c .before .before .before .before .set-width .ensures), sym (c .before .before .before .any-too-high .ensures) ∙ c .before .before .if1 .left, sym (c .before .any-alike .ensures) ∙ c .if2 .taken) refl
