@@ -1,0 +1,50 @@
+-- Laws of the listing's steps. Assumes nothing.
+use Prim.Native.Nat.{ℕ, zero, suc, _+_, _-_, _*_, _≤_, _<_}
+use native.Mathlib.Omega.{arith}
+use native.Mathlib.Numerals.{add-one}
+use mathlib.Core.Path.{_≡_, refl, sym, ap, _∙_}
+use mathlib.Core.Bool.{Bool, true, false, not, cond}
+use mathlib.Core.List.{List}
+use lib.Dec.{eqb}
+use lib.ListN.{length, getD}
+use borrow.Author.Tests.{eq-eqb, ne-eqb}
+use Rattle.graphs.specs.Count.{count, count-yes, count-no, count-none}
+use Rattle.graphs.specs.Total.{total}
+use Rattle.graphs.specs.Square.{index-lt}
+use Rattle.listing.specs.Steps.{at, edges-before, cells-before, passed, CanFindCell, RowFound, CellFound}
+
+pub total-none : (f : ℕ → ℕ) → total f 0 ≡ 0
+unfolding total
+total-none f = refl
+
+pub total-more : (f : ℕ → ℕ) (k : ℕ) → total f (k + 1) ≡ total f k + f k
+unfolding total
+total-more f k = rw add-one refl
+
+pub passed-none : (cell rest : ℕ) → cell ≡ 0 → passed cell rest ≡ rest
+unfolding passed
+passed-none cell rest e = rw (eq-eqb cell 0 e) refl
+
+pub passed-some : (cell rest : ℕ) → (cell ≡ 0 → ⊥) → passed cell rest ≡ rest - 1
+unfolding passed
+passed-some cell rest d = rw (ne-eqb cell 0 d) refl
+
+-- one node more of a row
+module _ (area : List ℕ) (n x : ℕ) (order : List ℕ) (j : ℕ) where
+  pub cells-yes : (at area (x * n + at order j) ≡ 0 → ⊥) → cells-before area n x order (j + 1) ≡ cells-before area n x order j + 1
+  cells-yes d = count-yes (λ q. not (eqb (at area (x * n + at order q)) 0)) j (ap not (ne-eqb _ 0 d))
+
+  pub cells-no : at area (x * n + at order j) ≡ 0 → cells-before area n x order (j + 1) ≡ cells-before area n x order j
+  cells-no e = count-no (λ q. not (eqb (at area (x * n + at order q)) 0)) j (ap not (eq-eqb _ 0 e))
+
+  -- what is left to pass
+  pub cells-step : (left rest : ℕ) → cells-before area n x order j + left ≡ rest → ((at area (x * n + at order j) ≡ 0 → ⊥) → 1 ≤ left)
+      → cells-before area n x order (j + 1) + passed (at area (x * n + at order j)) left ≡ rest
+  cells-step left rest h some = go (native.Mathlib.Decide.ℕ-discrete (at area (x * n + at order j)) 0)
+    where
+      go : Dec (at area (x * n + at order j) ≡ 0) → cells-before area n x order (j + 1) + passed (at area (x * n + at order j)) left ≡ rest
+      go (yes e) = omega (arith, cells-no e, passed-none (at area (x * n + at order j)) left e)
+      go (no d) = omega (arith, cells-yes d, passed-some (at area (x * n + at order j)) left d, some d)
+
+pub cell-inside : {area : List ℕ} {n x : ℕ} {order : List ℕ} {r rest : ℕ} → CanFindCell area n x order r rest → (j : ℕ) → j < r → x * n + at order j < length area
+cell-inside {area} {n} {x} {order} c j h = omega (arith, index-lt n x (at order j) (c .row) (c .node j h), c .square)
