@@ -1,5 +1,5 @@
 -- Counts in another order, and what a sorted list of nodes gives the listing. Assumes nothing.
-use Prim.Native.Nat.{ℕ, zero, suc, _+_, _-_, _*_, _≤_, _<_}
+use Prim.Native.Nat.{ℕ, zero, suc, _+_, _-_, _≤_, _<_}
 use native.Mathlib.Omega.{arith}
 use native.Mathlib.Decide.{decLt}
 use mathlib.Core.Path.{_≡_, refl, sym, ap, subst, _∙_}
@@ -8,13 +8,13 @@ use mathlib.Core.List.{List}
 use lib.ListN.{length, getD}
 use Rattle.graphs.specs.Count.{ind, count, count-ext, count-add, count-all-no}
 use Rattle.graphs.specs.Lists.{has, has-at}
-use Rattle.graphs.specs.Total.{total, total-same}
+use Rattle.graphs.specs.Total.{total}
 use Rattle.layout.specs.Patch.{part, part-long, part-at}
 use Rattle.ledger.specs.Graph.{Load, at, edges}
 use Rattle.ledger.specs.LoadLaws.{InOrder}
-use Rattle.ledger.specs.Nodes.{placed, Placing, node-edge}
+use Rattle.ledger.specs.Nodes.{Placing, node-edge}
 use Rattle.ledger.specs.NodeWalks.{edge-inside}
-use Rattle.ledger.specs.NodeListing.{Sorted, in-row, in-rows, edge-count-nodes}
+use Rattle.ledger.specs.NodeListing.{Sorted, in-row}
 use Rattle.set_order.specs.Order.{Ordered, Distinct, order-inside, order-place, order-one, order-strict}
 use Rattle.listing.specs.Permute.{Order, total-order}
 
@@ -36,7 +36,7 @@ count-short p r n b h =
 
 -- the place of a node in an order
 module _ {key : ℕ → ℕ} {order : List ℕ} {r : ℕ} (o : Ordered key order r) where
-  unfoldable place : ℕ → ℕ
+  unfoldable pub place : ℕ → ℕ
   place x = go (decLt x r)
     where
       go : Dec (x < r) → ℕ
@@ -62,7 +62,7 @@ module _ {key : ℕ → ℕ} {order : List ℕ} {r : ℕ} (o : Ordered key order
       go (no b) (yes d) = absurd (order-one o q _ d (s .0) (sym (s .1)))
       go (no b) (no d) = omega arith
 
-  ordering : Order (λ q. getD order q 0) place r
+  pub ordering : Order (λ q. getD order q 0) place r
   ordering =
       record { number = λ q h. order-inside o q h; inside = λ x h. placed-at x h .0; back = place-back; there = λ x h. placed-at x h .1 }
 
@@ -71,7 +71,7 @@ module _ {load : Load} {nodes sets order : List ℕ} {key : ℕ → ℕ} (i : In
   abbrev first : List ℕ
   first = part 0 (length sets) order
 
-  first-at : (q : ℕ) → q < length sets → at (part 0 (length sets) order) q ≡ getD order q 0
+  pub first-at : (q : ℕ) → q < length sets → at (part 0 (length sets) order) q ≡ getD order q 0
   first-at q h = part-at 0 (length sets) order q h ∙ ap (λ k. getD order k 0) (native.Mathlib.Nat.zero-add q)
 
   distinct : Distinct key (length sets)

@@ -1,5 +1,6 @@
--- The listing of a move graph's edges by nodes. Assumes nothing.
+-- The questions about a move graph, by nodes. Assumes nothing.
 pub mod Permute
 pub mod Counts
 pub mod Steps
 pub mod StepLaws
+pub mod Answers

@@ -1,17 +1,17 @@
 -- Laws of the listing's steps. Assumes nothing.
-use Prim.Native.Nat.{ℕ, zero, suc, _+_, _-_, _*_, _≤_, _<_}
+use Prim.Native.Nat.{ℕ, _+_, _-_, _*_, _≤_, _<_}
 use native.Mathlib.Omega.{arith}
 use native.Mathlib.Numerals.{add-one}
-use mathlib.Core.Path.{_≡_, refl, sym, ap, _∙_}
-use mathlib.Core.Bool.{Bool, true, false, not, cond}
+use mathlib.Core.Path.{_≡_, refl, ap}
+use mathlib.Core.Bool.{not}
 use mathlib.Core.List.{List}
 use lib.Dec.{eqb}
-use lib.ListN.{length, getD}
+use lib.ListN.{length}
 use borrow.Author.Tests.{eq-eqb, ne-eqb}
-use Rattle.graphs.specs.Count.{count, count-yes, count-no, count-none}
+use Rattle.graphs.specs.Count.{count-yes, count-no}
 use Rattle.graphs.specs.Total.{total}
 use Rattle.graphs.specs.Square.{index-lt}
-use Rattle.listing.specs.Steps.{at, edges-before, cells-before, passed, CanFindCell, RowFound, CellFound}
+use Rattle.listing.specs.Steps.{at, cells-before, passed, CanFindCell}
 
 pub total-none : (f : ℕ → ℕ) → total f 0 ≡ 0
 unfolding total

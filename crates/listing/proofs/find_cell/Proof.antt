@@ -8,12 +8,9 @@ use mathlib.Core.Logic.{⊎-elim}
 use lib.Dec.{eqb}
 use Rattle.graphs.specs.Count.{count-none}
 use Rattle.listing.specs.Steps.{at, cells-before}
-use Rattle.listing.specs.StepLaws.{cells-yes, cells-no, cells-step, cell-inside}
+use Rattle.listing.specs.StepLaws.{cells-step, cell-inside}
 use Rattle.listing.proofs.find_cell.Statement.{statement}
 use Rattle.listing.proofs.find_cell.Tie as tie
-use Rattle.listing.proofs.find_cell.Reads as reads
-use Rattle.listing.proofs.find_cell.Lts as lts
-use Rattle.listing.proofs.pass.Reads as pass-reads
 
 abbrev Inv-loop : tie.InvT-loop
 Inv-loop area n x order registered rest left₀ j₀ left j = (j ≤ registered) × (cells-before area n x order j + left ≡ rest)

@@ -7,9 +7,6 @@ use Rattle.listing.specs.Steps.{at, edges-before}
 use Rattle.listing.specs.StepLaws.{total-none, total-more}
 use Rattle.listing.proofs.find_row.Statement.{statement}
 use Rattle.listing.proofs.find_row.Tie as tie
-use Rattle.listing.proofs.find_row.Reads as reads
-use Rattle.listing.proofs.find_row.Lts as lts
-use Rattle.listing.proofs.wide.Reads as wide-reads
 
 abbrev Inv-loop : tie.InvT-loop
 Inv-loop order degrees registered k i₀ rest₀ i rest = (i ≤ registered) × (edges-before order degrees i + rest ≡ k)

@@ -1,12 +1,9 @@
 -- `listing::pass` meets its contract. Assumes nothing.
-use borrow.Author.Needs.{needs}
 use native.Mathlib.Omega.{arith}
 use mathlib.Core.Path.{sym}
 use Rattle.listing.specs.StepLaws.{passed-none, passed-some}
 use Rattle.listing.proofs.pass.Statement.{statement}
 use Rattle.listing.proofs.pass.Tie as tie
-use Rattle.listing.proofs.pass.Reads as reads
-use Rattle.listing.proofs.pass.Lts as lts
 
 sub-result : tie.Need-sub-result
 sub-result c = omega (arith, c .before .pre .some (c .if1 .taken))

@@ -8,9 +8,6 @@ use Rattle.listing.specs.Steps.{at}
 use Rattle.listing.specs.StepLaws.{total-none, total-more}
 use Rattle.listing.proofs.sum.Statement.{statement}
 use Rattle.listing.proofs.sum.Tie as tie
-use Rattle.listing.proofs.sum.Reads as reads
-use Rattle.listing.proofs.sum.Lts as lts
-use Rattle.listing.proofs.wide.Reads as wide-reads
 
 abbrev Inv-loop : tie.InvT-loop
 Inv-loop degrees n all₀ x₀ all x = (x ≤ n) × (all ≡ total (at degrees) x) × (all ≤ 4294967295 * x)
