@@ -1,4 +1,5 @@
 -- `slot_graph::only_cyclic_component` meets its contract. Assumes nothing.
+use native.Mathlib.Omega.{arith}
 use Prim.Native.Nat.{ℕ}
 use mathlib.Core.Bool.{Bool}
 use mathlib.Core.Path.{_≡_, ap, _∙_}
@@ -18,7 +19,15 @@ group-requires c κs =
 
 group-requires-2 : tie.Need-group-requires-2
 group-requires-2 c κs =
-    group-can (turned-slots (c .before .before .before .before .before .before .before .before .before .before .before .before .before .before .before .before .before .before .before .before .before .pre .slots)) (c .before .before .before .before .before .before .before .before .before .before .before .before .before .before .before .before .before .before .before .before .before .pre .others)
+    let p = c .before .before .before .before .before .before .before .before .before .before .before .before .before .before .before .before .before .before .before .before .before .pre in
+    record {
+      slots = p .slots .slots;
+      keys = omega (arith, p .slots .sources, p .slots .targets);
+      values = omega (arith, p .slots .sources, p .slots .targets);
+      rows = p .others .rows;
+      within = λ k h. omega (arith, p .slots .ends .source k h, p .slots .ends .target k h);
+      room = p .others .room;
+    }
 
 only-cyclic-component-requires : tie.Need-only-cyclic-component-requires
 only-cyclic-component-requires c κs =
