@@ -5,4 +5,6 @@ pub mod Changes
 pub mod Grown
 pub mod Registering
 pub mod Outcome
-pub mod Early
+pub mod Test
+pub mod Commit
+pub mod Trial

@@ -6,7 +6,10 @@ ghost use lib.Dec.{eqb};
 ghost use lib.ListN.{length, getD};
 ghost use Rattle.entry_set.specs.Sets.{number};
 ghost use Rattle.move_area.specs.Calls.{next};
-ghost use Rattle.moving.specs.Areas.{registered, counterIn, raised, CanRegister};
+ghost use Rattle.layout.specs.Patch.{patch, part};
+ghost use Rattle.node_edges.specs.Matrix.{matrix};
+ghost use Rattle.moving.specs.Areas.{registered, counterIn, raised, committed, CanRegister};
+ghost use Rattle.moving.specs.Commit.{CanFollow, CanCommit};
 
 // Step 2: the set becomes a node.
 fn add_node(area: &mut [u32], n: usize, r: usize, s: entry_set::EntrySet)
@@ -44,4 +47,38 @@ pub fn raise(area: &mut [u32], n: usize) -> u32
     }
     area[square + 1] = counter + 1;
     counter + 1
+}
+
+// The edges of the old slots (s, t) become those of the new ones (u, v).
+fn follow(area: &mut [u32], n: usize, s: &[u32], t: &[u32], u: &[u32], v: &[u32], m: usize)
+    requires { ⌜ CanFollow (now area) n (now s) (now t) (now u) (now v) m ⌝ }
+    ensures { λ _. ⌜ now (area .exit) ≡ patch 0 (matrix (now (u .entry)) (now (v .entry)) n m) (now (area .entry)) ⌝ }
+{
+    let end = n * n;
+    node_edges::update(&mut area[0..end], n, s, t, u, v, m);
+}
+
+// An accepted move: edges and counts, the atom's node, no cycle and no component.
+pub fn commit(
+    area: &mut [u32],
+    n: usize,
+    atom: usize,
+    to: usize,
+    s: &[u32],
+    t: &[u32],
+    u: &[u32],
+    v: &[u32],
+    m: usize,
+    counts: &[u32],
+)
+    requires { ⌜ CanCommit (now area) n atom to (now s) (now t) (now u) (now v) m (now counts) ⌝ }
+    ensures { λ _. ⌜ now (area .exit) ≡ committed n (matrix (now (u .entry)) (now (v .entry)) n m) (part 0 n (now (counts .entry))) atom to (now (area .entry)) ⌝ }
+{
+    let square = n * n;
+    let lanes = square + 24;
+    follow(area, n, s, t, u, v, m);
+    layout::copy(area, lanes + 8 * n, counts, 0, n);
+    area[lanes + 24 * n + atom] = to as u32;
+    area[square + 2] = 1;
+    layout::fill_with(area, lanes + 10 * n, n, 0);
 }

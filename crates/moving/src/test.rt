@@ -1,0 +1,99 @@
+// Step 3's test: whether the graph of the moved placement has a cycle.
+ghost use mathlib.Core.Path.{_≡_};
+ghost use Prim.Native.Nat.{_+_, _*_, _≤_, _<_};
+ghost use lib.ListN.{length, getD};
+ghost use Rattle.graphs.specs.Lists.{below};
+ghost use Rattle.graphs.specs.Walk.{via, cyclic};
+ghost use Rattle.graphs.specs.Slots.{slotEdge};
+ghost use Rattle.neighbours.specs.Lists.{edge};
+ghost use Rattle.moving.specs.Test.{CanAsk, CanMark, CanReachItself, CanTest, walk-area, tested, closes};
+use super::writes::raise;
+
+// Whether the graph of the m slots has a cycle, by a full search.
+fn has_cycle(n: usize, sources: &[u32], targets: &[u32], m: usize) -> bool
+    requires { ⌜ CanAsk (now sources) (now targets) m n ⌝ }
+    ensures { λ r. ⌜ r ≡ cyclic (slotEdge (now (sources .entry)) (now (targets .entry)) m) (below n) ⌝ }
+{
+    let mut starts = [0u32; 1025];
+    let mut list = [0u32; 8448];
+    let mut colour = [0u32; 1024];
+    let mut cursor = [0u32; 1024];
+    let mut stack = [0u32; 1024];
+    let mut low = [0u32; 1024];
+    let mut order = [0u32; 1024];
+    neighbours::group(sources, targets, m, n, &mut starts, &mut list);
+    depth_first::has_cycle(
+        neighbours::Direction::Dependencies,
+        &starts,
+        &list,
+        &list,
+        n,
+        &mut colour,
+        &mut cursor,
+        &mut stack,
+        &mut low,
+        &mut order,
+    )
+}
+
+// The nodes that `to` reaches in one step or more have the counter as their mark.
+fn mark(area: &mut [u32], n: usize, counter: u32, to: usize, starts: &[u32], list: &[u32])
+    requires { ⌜ CanMark (now area) n counter to (now starts) (now list) ⌝ }
+    ensures { λ _. ⌜ now (area .exit) ≡ walk-area (edge (now (starts .entry)) (now (list .entry)) n) n counter to (now (area .entry)) ⌝ }
+{
+    let mut stack = [0u32; 1024];
+    let at = n * n + 24 + 9 * n;
+    let end = at + n;
+    walks::reach(
+        neighbours::Direction::Dependencies,
+        starts,
+        list,
+        list,
+        n,
+        counter,
+        to,
+        &mut area[at..end],
+        &mut stack,
+    );
+}
+
+// Whether `to` reaches itself in the graph of the m slots.
+fn reaches_itself(
+    area: &mut [u32],
+    n: usize,
+    counter: u32,
+    to: usize,
+    sources: &[u32],
+    targets: &[u32],
+    m: usize,
+) -> bool
+    requires { ⌜ CanReachItself (now area) n counter to (now sources) (now targets) m ⌝ }
+    ensures { λ r. ⌜ r ≡ via (slotEdge (now (sources .entry)) (now (targets .entry)) m) (below n) to to ⌝ }
+    ensures { λ _. ⌜ now (area .exit) ≡ walk-area (slotEdge (now (sources .entry)) (now (targets .entry)) m) n counter to (now (area .entry)) ⌝ }
+{
+    let mut starts = [0u32; 1025];
+    let mut list = [0u32; 8448];
+    neighbours::group(sources, targets, m, n, &mut starts, &mut list);
+    mark(area, n, counter, to, &starts, &list);
+    area[n * n + 24 + 9 * n + to] == counter
+}
+
+// Where the graph had no cycle before, a new one passes `to`. Else every old one may have gone.
+pub fn closes_cycle(
+    area: &mut [u32],
+    n: usize,
+    to: usize,
+    sources: &[u32],
+    targets: &[u32],
+    m: usize,
+) -> bool
+    requires { ⌜ CanTest (now area) n to (now sources) (now targets) m ⌝ }
+    ensures { λ r. ⌜ r ≡ closes (slotEdge (now (sources .entry)) (now (targets .entry)) m) n to (now (area .entry)) ⌝ }
+    ensures { λ _. ⌜ now (area .exit) ≡ tested (slotEdge (now (sources .entry)) (now (targets .entry)) m) n to (now (area .entry)) ⌝ }
+{
+    if area[n * n + 2] == 0 {
+        return has_cycle(n, sources, targets, m);
+    }
+    let counter = raise(area, n);
+    reaches_itself(area, n, counter, to, sources, targets, m)
+}
