@@ -1,0 +1,3 @@
+-- The laws that the proofs of `loading` cite. Assumes nothing.
+pub mod Tabbing
+pub mod Starting

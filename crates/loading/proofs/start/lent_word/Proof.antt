@@ -1,0 +1,27 @@
+-- `loading::start::lent_word` meets its contract. Assumes nothing.
+use mathlib.Core.Path.{ap, _∙_}
+use Prim.Native.Nat.{ℕ}
+use lib.ListN.{getD}
+use Rattle.entry_set.specs.Joined.{parts}
+use borrow.Author.Needs.{needs}
+use Rattle.loading.proofs.start.lent_word.Statement.{statement}
+use Rattle.loading.proofs.start.lent_word.Tie as tie
+use Rattle.loading.proofs.start.lent_word.Reads as reads
+use Rattle.loading.proofs.start.lent_word.Lts as lts
+use Rattle.entry_set.proofs.set_at.Reads as set-at-reads
+use Rattle.entry_set.proofs.word.Reads as word-reads
+
+-- src/start.rt:18:21
+set-at-requires : tie.Need-set-at-requires
+set-at-requires c κs = search needs
+
+-- src/start.rt:18:5
+word-requires : tie.Need-word-requires
+word-requires c κs = search needs
+
+-- src/start.rt:14:1
+returns : tie.Need-returns
+returns c = c .word .ensures ∙ ap (λ (X : ℕ). getD (parts 32 8 X) (c .before .before .before .args .j) 0) (c .before .set-at .ensures .value)
+
+pub lent-word-spec : {M : Type 1} → statement M
+lent-word-spec = tie.close (tie.spec set-at-requires word-requires returns)

@@ -1,0 +1,2 @@
+-- The definitions that the contracts of `loading` cite. Assumes nothing.
+pub mod Start

@@ -1,0 +1,2 @@
+// Writes the area of a move graph that is loaded.
+mod start;
