@@ -5,3 +5,4 @@ pub mod Filling
 pub mod Matching
 pub mod Flagging
 pub mod Working
+pub mod Checking

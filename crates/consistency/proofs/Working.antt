@@ -2,10 +2,10 @@
 use mathlib.Core.Path.{_≡_, refl, sym, ap, subst, _∙_}
 use mathlib.Core.Bool.{Bool, true, not, _&&_}
 use mathlib.Core.List.{List}
-use Prim.Native.Nat.{ℕ, _+_, _<_}
+use Prim.Native.Nat.{ℕ, _+_, _*_, _≤_, _<_}
 use native.Mathlib.Omega.{arith}
 use native.Mathlib.Nat.{zero-add}
-use lib.ListN.{getD}
+use lib.ListN.{length, getD}
 use Rattle.graphs.specs.Bools.{Decides, and-left, and-right}
 use Rattle.graphs.specs.Count.{ind, count}
 use Rattle.graphs.specs.Lists.{below}
@@ -17,12 +17,81 @@ use Rattle.node_edges.specs.Matrix.{Holds}
 use Rattle.move_area.specs.Bodies.{laneAt}
 use Rattle.move_area.specs.Area.{setsIn}
 use Rattle.move_area.specs.NodeBodies.{nodeEdge}
-use Rattle.move_area.specs.Checked.{nodesIn, Worked}
-use Rattle.consistency.specs.Filled.{Filled}
-use Rattle.consistency.specs.Graph.{Flagged, Counted, counted-flat, counted-cyclic, counted-edge}
-use Rattle.consistency.specs.Matched.{Matched}
-use Rattle.consistency.specs.Ready.{WorkTold}
+use Rattle.move_area.specs.Checked.{nodesIn, Worked, sets-length, ranged-placing}
+use Rattle.consistency.specs.Filled.{CanFillOwn, Filled}
+use Rattle.consistency.specs.Graph.{slotCount, Flagged, Counted, counted-ends, counted-le, counted-flat, counted-cyclic, counted-edge}
+use Rattle.consistency.specs.Matched.{CanMatch, Matched}
+use Rattle.consistency.specs.Ready.{Lanes, CanLane, CanFlag, CanWork, WorkTold}
 use Rattle.consistency.proofs.Tests.{same-decides, both-decides}
+
+module _ {load : Load} {n : ℕ} {area counts facade sources targets heads list row degrees turned back colour cursor stack low finish flags : List ℕ} (can : CanWork load n area counts facade sources targets heads list row degrees turned back colour cursor stack low finish flags) where
+  pub work-fill : CanFillOwn load n area counts facade sources targets
+  work-fill = record {
+    loadable = can .loadable;
+    ranged = can .ranged;
+    counts-long = can .room .counts-long;
+    facade-long = can .room .facade-long;
+    sources-long = can .room .sources-long;
+    targets-long = can .room .targets-long;
+  }
+
+  work-lanes : Lanes area n
+  work-lanes = record { nodes = can .loadable .sizes .sets; room = omega (arith, can .loadable .sizes .area) }
+
+  pub work-compare : {counts′ : List ℕ} → length counts′ ≡ length counts → CanLane area n counts′
+  work-compare e = record { lanes = work-lanes; long = omega (arith, can .room .counts-long) }
+
+  pub work-counted : {m : ℕ} {counts′ s t : List ℕ} → Filled load n (nodesIn load n area) (setsIn n area) counts′ s t → m ≡ slotCount n (load .D) (load .E)
+      → Counted load (nodesIn load n area) (setsIn n area) s t n m
+  work-counted f e = record {
+    order = can .loadable .order;
+    placing = ranged-placing (can .loadable .sizes .sets) (can .ranged);
+    few = omega (arith, sets-length n area, can .ranged .few);
+    slots = f .slots;
+    many = e;
+  }
+
+  module _ {m : ℕ} {s t : List ℕ} (g : Counted load (nodesIn load n area) (setsIn n area) s t n m) (p : length s ≡ length sources) (q : length t ≡ length targets) where
+    pub work-match : CanMatch area n m s t heads list row degrees
+    work-match =
+        let l = counted-le g in
+        record {
+          square = omega (arith, can .loadable .sizes .area);
+          nodes = omega (arith, can .loadable .sizes .sets);
+          slots = omega (arith, can .loadable .sizes .entries, can .loadable .sizes .bits);
+          sources-long = omega (arith, can .room .sources-long);
+          targets-long = omega (arith, can .room .targets-long);
+          ends = counted-ends g;
+          heads-long = can .room .heads-long;
+          list-long = omega (arith, can .room .list-long);
+          short = can .room .list-short;
+          row-long = can .room .row-long;
+          degrees-long = can .room .degrees-long;
+        }
+
+    pub work-flag : {heads′ list′ degrees′ : List ℕ} {r : Bool} → Matched area n m s t heads′ list′ degrees′ r → CanFlag area n m s t heads′ list′ turned back colour cursor stack low finish flags
+    work-flag d =
+        let l = counted-le g in
+        record {
+          lanes = work-lanes;
+          slots = omega (arith, can .loadable .sizes .entries, can .loadable .sizes .bits);
+          sources-long = omega (arith, can .room .sources-long);
+          targets-long = omega (arith, can .room .targets-long);
+          ends = counted-ends g;
+          graph = d .graph;
+          edges = d .edges;
+          room = record {
+            turned-long = can .walks .turned-long;
+            back-long = omega (arith, can .walks .back-long);
+            back-short = can .walks .back-short;
+            colour-long = can .walks .colour-long;
+            cursor-long = can .walks .cursor-long;
+            stack-long = can .walks .stack-long;
+            low-long = can .walks .low-long;
+            finish-long = can .walks .finish-long;
+            flags-long = can .walks .flags-long;
+          };
+        }
 
 module _ {load : Load} {n m : ℕ} {area counts s t : List ℕ} (f : Filled load n (nodesIn load n area) (setsIn n area) counts s t) (g : Counted load (nodesIn load n area) (setsIn n area) s t n m) where
   by-parts : {r : Bool} → Decides ((SamePart area (laneAt n 8) counts 0 n × Holds area n s t m) × Flagged (slotEdge s t m) n area) r → Decides (Worked load n area) r

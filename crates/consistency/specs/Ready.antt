@@ -8,17 +8,24 @@ use Rattle.graphs.specs.Bools.{Decides}
 use Rattle.graphs.specs.Count.{count}
 use Rattle.graphs.specs.Slots.{slotEdge, Ends}
 use Rattle.ledger.specs.Graph.{Load}
+use Rattle.ledger.specs.Loading.{refusal}
 use Rattle.ledger.specs.LoadLaws.{Loadable}
 use Rattle.neighbours.specs.Lists.{edge, Graph}
-use Rattle.move_area.specs.Area.{setsIn}
+use Rattle.move_area.specs.Area.{setsIn, consistent}
 use Rattle.move_area.specs.NodeBodies.{nodeEdge}
 use Rattle.move_area.specs.Checked.{nodesIn, Ranged, Worked}
+use Rattle.consistency.specs.Ranges.{SetOrder}
 use Rattle.consistency.specs.Filled.{Filled}
 
 -- the header and the node lanes are there
 pub record Lanes (area : List ℕ) (n : ℕ) : Type 0 where
   pub nodes : n ≤ 1024
   pub room : n * n + 24 + 24 * n ≤ length area
+
+-- and a list with a number for each node
+pub record CanLane (area : List ℕ) (n : ℕ) (list : List ℕ) : Type 0 where
+  pub lanes : Lanes area n
+  pub long : n ≤ length list
 
 -- lists lent for the walks over n nodes and m slots
 pub record WalkRoom (n m : ℕ) (turned back colour cursor stack low finish flags : List ℕ) : Type 0 where
@@ -68,3 +75,25 @@ pub record WorkTold (load : Load) (n : ℕ) (area counts sources targets degrees
   pub says : Decides (Worked load n area) r
   pub filled : Filled load n (nodesIn load n area) (setsIn n area) counts sources targets
   pub degree-at : r ≡ true → (x : ℕ) → x < n → getD degrees x 0 ≡ count (nodeEdge load (nodesIn load n area) (setsIn n area) x) n
+
+-- no row from 1 to 6 fits, and the lists are long enough
+pub record CanCheck (load : Load) (n : ℕ) (area counts facade sources targets heads list row degrees turned back colour cursor stack low finish flags order : List ℕ) : Type 0 where
+  pub passes : refusal load n (length area) ≡ 0
+  pub room : Room n (load .D + load .E) (load .E) counts facade sources targets heads list row degrees
+  pub walks : WalkRoom n (load .D + load .E) turned back colour cursor stack low finish flags
+  pub order-long : n ≤ length order
+
+-- what a consistent area and the lists worked out from it give to the call: the atom counts, the slots, how many edges start at each node, and the
+-- registered nodes by rising sets
+pub record Ready (load : Load) (n : ℕ) (area counts sources targets degrees order : List ℕ) : Type 0 where
+  pub loadable : Loadable load n true (length area)
+  pub ranged : Ranged load n area
+  pub worked : Worked load n area
+  pub filled : Filled load n (nodesIn load n area) (setsIn n area) counts sources targets
+  pub degree-at : (x : ℕ) → x < n → getD degrees x 0 ≡ count (nodeEdge load (nodesIn load n area) (setsIn n area) x) n
+  pub ordered : SetOrder n area order
+
+-- row 9's answer
+pub record Told (load : Load) (n : ℕ) (area counts sources targets degrees order : List ℕ) (r : Bool) : Type 0 where
+  pub says : r ≡ consistent load n area
+  pub ready : r ≡ true → Ready load n area counts sources targets degrees order
