@@ -1,0 +1,44 @@
+-- What the answers of the calls say, in this paper's numbers and values. Assumes nothing.
+use Prim.Native.Nat.{ℕ}
+use mathlib.Core.List.{List, [], _∷_}
+use Rattle.entry_set.specs.Sets.{value, numbers}
+use Rattle.ledger.specs.Answer.{Answer, refused, acyclic, accepted, rejected}
+use Rattle.ledger.specs.Answer as answer
+use Rattle.reduced_chunk_graph.specs.declared.LoadAnswer.{LoadAnswer}
+use Rattle.reduced_chunk_graph.specs.declared.LoadAnswer.the-variants as load
+use Rattle.reduced_chunk_graph.specs.declared.MoveAnswer.{MoveAnswer}
+use Rattle.reduced_chunk_graph.specs.declared.MoveAnswer.the-variants as move
+use Rattle.reduced_chunk_graph.specs.declared.SetAnswer.{SetAnswer}
+use Rattle.reduced_chunk_graph.specs.declared.SetAnswer.the-variants as set
+use Rattle.reduced_chunk_graph.specs.declared.NumberAnswer.{NumberAnswer}
+use Rattle.reduced_chunk_graph.specs.declared.NumberAnswer.the-variants as number
+use Rattle.reduced_chunk_graph.specs.declared.EdgeAnswer.{EdgeAnswer}
+use Rattle.reduced_chunk_graph.specs.declared.EdgeAnswer.the-variants as edge
+
+-- the answer of `new`
+abbrev pub ofLoad : LoadAnswer → Answer
+ofLoad load.Acyclic = acyclic
+ofLoad load.Cyclic = answer.cyclic
+ofLoad (load.Refused q) = refused q
+
+-- the answer of `try_move`
+abbrev pub ofMove : MoveAnswer → Answer
+ofMove move.Accepted = accepted
+ofMove move.Rejected = rejected
+ofMove (move.Refused q) = refused q
+
+-- the answer of `atom_set`: "four numbers of 64 bits"
+abbrev pub ofSet : SetAnswer → Answer
+ofSet (set.Set s) = answer.set (numbers s)
+ofSet (set.Refused q) = refused q
+
+-- the answer of `atom_count`, `multiplicity` and `edge_count`
+abbrev pub ofNumber : NumberAnswer → Answer
+ofNumber (number.Number k) = answer.number k
+ofNumber (number.Refused q) = refused q
+
+-- the answer of `edge_at`
+abbrev pub ofEdge : EdgeAnswer → Answer
+ofEdge (edge.Found e) = answer.edge (record { from = value (numbers (e .from)); to = value (numbers (e .to)); multiplicity = e .multiplicity })
+ofEdge edge.None = answer.none
+ofEdge (edge.Refused q) = refused q

@@ -1,0 +1,159 @@
+// The rows 1 to 6 and 9, which come before a later call's own.
+ghost use mathlib.Core.Path.{_≡_};
+ghost use Prim.Native.Nat.{_≤_};
+ghost use lib.ListN.{length};
+ghost use Rattle.placement.specs.Slots.{lent};
+ghost use Rattle.ledger.specs.Loading.{refusal};
+ghost use Rattle.move_area.specs.Area.{consistent};
+ghost use Rattle.reduced_chunk_graph.specs.Later.{later};
+
+// Row 9 for a load of any size within the limits.
+fn is_consistent_large(
+    a: usize,
+    d: usize,
+    e: usize,
+    n: usize,
+    starts: &[u32],
+    dependencies: &[u32],
+    hosts: &[u32],
+    area: &[u32],
+) -> bool
+    requires { ⌜ refusal (lent a d e (now starts) (now dependencies) (now hosts)) n (length (now area)) ≡ 0 ⌝ }
+    ensures { λ r. ⌜ r ≡ consistent (lent a d e (now (starts .entry)) (now (dependencies .entry)) (now (hosts .entry))) n (now (area .entry)) ⌝ }
+{
+    let mut counts = [0u32; 1024];
+    let mut facade = [0u32; 256];
+    let mut sources = [0u32; 8448];
+    let mut targets = [0u32; 8448];
+    let mut heads = [0u32; 1025];
+    let mut list = [0u32; 8448];
+    let mut row = [0u32; 1024];
+    let mut degrees = [0u32; 1024];
+    let mut turned = [0u32; 1025];
+    let mut back = [0u32; 8448];
+    let mut colour = [0u32; 1024];
+    let mut cursor = [0u32; 1024];
+    let mut stack = [0u32; 1024];
+    let mut low = [0u32; 1024];
+    let mut finish = [0u32; 1024];
+    let mut flags = [0u32; 1024];
+    let mut order = [0u32; 1024];
+    consistency::consistent(
+        a,
+        d,
+        e,
+        n,
+        starts,
+        dependencies,
+        hosts,
+        area,
+        &mut counts,
+        &mut facade,
+        &mut sources,
+        &mut targets,
+        &mut heads,
+        &mut list,
+        &mut row,
+        &mut degrees,
+        &mut turned,
+        &mut back,
+        &mut colour,
+        &mut cursor,
+        &mut stack,
+        &mut low,
+        &mut finish,
+        &mut flags,
+        &mut order,
+    )
+}
+
+// Row 9 for a small load: shorter lists, which are sooner cleared.
+fn is_consistent_small(
+    a: usize,
+    d: usize,
+    e: usize,
+    n: usize,
+    starts: &[u32],
+    dependencies: &[u32],
+    hosts: &[u32],
+    area: &[u32],
+) -> bool
+    requires { ⌜ (refusal (lent a d e (now starts) (now dependencies) (now hosts)) n (length (now area)) ≡ 0) × (n ≤ 128) × (d ≤ 768) ⌝ }
+    ensures { λ r. ⌜ r ≡ consistent (lent a d e (now (starts .entry)) (now (dependencies .entry)) (now (hosts .entry))) n (now (area .entry)) ⌝ }
+{
+    let mut counts = [0u32; 128];
+    let mut facade = [0u32; 256];
+    let mut sources = [0u32; 1024];
+    let mut targets = [0u32; 1024];
+    let mut heads = [0u32; 129];
+    let mut list = [0u32; 1024];
+    let mut row = [0u32; 128];
+    let mut degrees = [0u32; 128];
+    let mut turned = [0u32; 129];
+    let mut back = [0u32; 1024];
+    let mut colour = [0u32; 128];
+    let mut cursor = [0u32; 128];
+    let mut stack = [0u32; 128];
+    let mut low = [0u32; 128];
+    let mut finish = [0u32; 128];
+    let mut flags = [0u32; 128];
+    let mut order = [0u32; 128];
+    consistency::consistent(
+        a,
+        d,
+        e,
+        n,
+        starts,
+        dependencies,
+        hosts,
+        area,
+        &mut counts,
+        &mut facade,
+        &mut sources,
+        &mut targets,
+        &mut heads,
+        &mut list,
+        &mut row,
+        &mut degrees,
+        &mut turned,
+        &mut back,
+        &mut colour,
+        &mut cursor,
+        &mut stack,
+        &mut low,
+        &mut finish,
+        &mut flags,
+        &mut order,
+    )
+}
+
+// The first of the rows 1 to 6 and 9 that fits, 0 where none does.
+pub fn later_row(
+    a: usize,
+    d: usize,
+    e: usize,
+    n: usize,
+    starts: &[u32],
+    dependencies: &[u32],
+    hosts: &[u32],
+    area: &[u32],
+) -> u32
+    ensures { λ r. ⌜ r ≡ later (lent a d e (now (starts .entry)) (now (dependencies .entry)) (now (hosts .entry))) n (now (area .entry)) ⌝ }
+{
+    let q = load_checks::refusal(a, d, e, n, starts, dependencies, hosts, true, area.len());
+    if q != 0 {
+        return q;
+    }
+    if n <= 128 {
+        if d <= 768 {
+            if is_consistent_small(a, d, e, n, starts, dependencies, hosts, area) {
+                return 0;
+            }
+            return 9;
+        }
+    }
+    if is_consistent_large(a, d, e, n, starts, dependencies, hosts, area) {
+        return 0;
+    }
+    9
+}

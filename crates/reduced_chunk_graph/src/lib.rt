@@ -1,0 +1,42 @@
+// `ReducedChunkGraph`: trial moves of atoms between chunks, accepted exactly when no cycle arises.
+mod check;
+
+// What `new` answers. `Refused` names a row of the table of refusals, here and below.
+pub enum LoadAnswer {
+    Acyclic,
+    Cyclic,
+    Refused(u32),
+}
+
+// What `try_move` answers.
+pub enum MoveAnswer {
+    Accepted,
+    Rejected,
+    Refused(u32),
+}
+
+// What `atom_set` answers.
+pub enum SetAnswer {
+    Set(entry_set::EntrySet),
+    Refused(u32),
+}
+
+// What `atom_count`, `multiplicity` and `edge_count` answer.
+pub enum NumberAnswer {
+    Number(u64),
+    Refused(u32),
+}
+
+// An edge between two sets and its multiplicity.
+pub struct Edge {
+    pub from: entry_set::EntrySet,
+    pub to: entry_set::EntrySet,
+    pub multiplicity: u32,
+}
+
+// What `edge_at` answers.
+pub enum EdgeAnswer {
+    Found(Edge),
+    None,
+    Refused(u32),
+}
