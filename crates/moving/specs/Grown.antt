@@ -6,7 +6,7 @@ use native.Mathlib.Omega.{arith}
 use lib.ListN.{length, getD}
 use Rattle.layout.specs.Patch.{part}
 use Rattle.layout.specs.Fields.{Field, field, In, here, there, lay-long}
-use Rattle.layout.specs.Change.{Clear, lay-agree, lay-clear}
+use Rattle.layout.specs.Change.{Clear, lay-agree, lay-clear, lay-over}
 use Rattle.move_area.specs.Bodies.{laneAt, atomAt, Bodies, header, fieldsOf, write, Sized}
 use Rattle.move_area.specs.BodyLaws.{write-same}
 
@@ -97,3 +97,8 @@ module _ (n a : ℕ) (b b′ : Bodies) (v : Sized n a b) (v′ : Sized n a b′)
   is-write l₀ l′ r hr hn long e g c y w k m o p far =
       sym (write-same n a l′ b′ v′ e g c y w k m o p)
       ∙ lay-agree (fieldsOf n b′) l₀ l′ long (λ i h q. far i h (clear-free r i hr hn q) ∙ lay-clear (fieldsOf n b) l₀ i h (under-clear under q))
+
+  -- the new fields over the old ones
+  pub write-over : (l : List ℕ) → write n b′ (write n b l) ≡ write n b′ l
+  unfolding write
+  write-over l = lay-over (fieldsOf n b) (fieldsOf n b′) l (λ k c. under-clear under c)

@@ -8,3 +8,6 @@ pub mod Outcome
 pub mod Test
 pub mod Commit
 pub mod Trial
+pub mod Settle
+pub mod Early
+pub mod Tried

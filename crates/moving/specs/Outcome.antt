@@ -54,8 +54,9 @@ abbrev pub walk-marks : Load → ℕ → Nodes → ℕ → ℕ → List ℕ
 walk-marks load N s a y = marked (nodeEdge load (set (s .nodes) a y) (s .sets)) N (next (s .counter)) y (with-raised s .marks)
 
 -- the state after the test of step 3: the walk is made where the graph had no cycle
-unfoldable pub with-test : Load → ℕ → Nodes → ℕ → ℕ → Bool → Nodes
-with-test load N s a y cyc = cond cyc s (with-marks (with-raised s) (walk-marks load N s a y))
+abbrev pub with-test : Load → ℕ → Nodes → ℕ → ℕ → Bool → Nodes
+with-test load N s a y cyc =
+    record { sets = s .sets; nodes = s .nodes; counter = cond cyc (s .counter) (next (s .counter)); marks = cond cyc (s .marks) (walk-marks load N s a y) }
 
 -- atom a goes to the set T, which has the node y once it is registered
 pub record Trial (load : Load) (N : ℕ) (s : Nodes) (a T y : ℕ) : Type 0 where
@@ -147,24 +148,24 @@ module _ {load : Load} {N : ℕ} {s : Nodes} {a T y : ℕ} (v : Trial load N s a
     by-sets = rw (is-tried, is, before, walked-nodes) refl
 
     -- rejected: the target is registered
-    pub trial-rejected : cyclic E (below N) ≡ true → (move load N (ledgerOf s) a w .answer ≡ rejected) × (after load N (stateOf s) a w ≡ stateOf (with-test load N (with-target s T) a y (cyclic (nodeEdge load (s .nodes) (s .sets)) (below N))))
-    unfolding with-test
-    trial-rejected q = (rw (late, q) refl, by-sets ∙ rw (late, q) (go (cyclic (nodeEdge load (s .nodes) (s .sets)) (below N))))
-      where
-        go : (t : Bool) → record { ledger = step2 (ledgerOf s) T; counter = cond t (s .counter) (next (s .counter)); marks = cond t m (walk-marks load N (with-target s T) a y) }
-            ≡ stateOf (cond t (with-target s T) (with-marks (with-raised (with-target s T)) (walk-marks load N (with-target s T) a y)))
-        go true = rw (placed-register (v .placing) T) refl
-        go false = rw (placed-register (v .placing) T) refl
+    pub trial-rejected : cyclic E (below N) ≡ true
+        → (move load N (ledgerOf s) a w .answer ≡ rejected) × (after load N (stateOf s) a w ≡ stateOf (with-test load N (with-target s T) a y (cyclic (nodeEdge load (s .nodes) (s .sets)) (below N))))
+    trial-rejected q = (rw (late, q) refl, by-sets ∙ rw (late, q, placed-register (v .placing) T) refl)
 
     -- accepted: and the atom moved
-    pub trial-accepted : cyclic E (below N) ≡ false → (move load N (ledgerOf s) a w .answer ≡ accepted) × (after load N (stateOf s) a w ≡ stateOf (with-node (with-test load N (with-target s T) a y (cyclic (nodeEdge load (s .nodes) (s .sets)) (below N))) a y))
-    unfolding with-test
-    trial-accepted q = (rw (late, q) refl, by-sets ∙ rw (late, q) (go (cyclic (nodeEdge load (s .nodes) (s .sets)) (below N))))
+    pub trial-accepted : cyclic E (below N) ≡ false
+        → (move load N (ledgerOf s) a w .answer ≡ accepted) × (after load N (stateOf s) a w ≡ stateOf (with-node (with-test load N (with-target s T) a y (cyclic (nodeEdge load (s .nodes) (s .sets)) (below N))) a y))
+    trial-accepted q = (rw (late, q) refl, by-sets ∙ rw (late, q, moved) refl)
       where
         moved : placed (set (s .nodes) a y) sets′ ≡ set place a T
         moved = placed-moved (v .order) (v .placing) a T y few (v .node) (v .set) N (v .wide)
 
-        go : (t : Bool) → record { ledger = step3 (ledgerOf s) a T; counter = cond t (s .counter) (next (s .counter)); marks = cond t m (walk-marks load N (with-target s T) a y) }
-            ≡ stateOf (with-node (cond t (with-target s T) (with-marks (with-raised (with-target s T)) (walk-marks load N (with-target s T) a y))) a y)
-        go true = rw moved refl
-        go false = rw moved refl
+-- the moves that end before anything is written: step 1, and row 13
+module _ (load : Load) (N : ℕ) (st : State) (a : ℕ) (w : List ℕ) (r10 : a < load .A) (r11 : legal (load .E) w ≡ true) (r12 : eqb (value w) (at (st .ledger .place) a) ≡ false) where
+  pub early-rejected : step1 load (st .ledger .place) a ≡ true → (move load N (st .ledger) a w .answer ≡ rejected) × (after load N st a w ≡ st)
+  unfolding move after tried
+  early-rejected s1 = (rw (lt-leb (load .A) a r10, r11, r12, s1) refl, rw (lt-ltb a (load .A) r10, r11, r12, s1) refl)
+
+  pub early-full : step1 load (st .ledger .place) a ≡ false → full N (st .ledger .registered) (value w) ≡ true → (move load N (st .ledger) a w .answer ≡ refused 13) × (after load N st a w ≡ st)
+  unfolding move after tried
+  early-full s1 r13 = (rw (lt-leb (load .A) a r10, r11, r12, s1, r13) refl, rw (lt-ltb a (load .A) r10, r11, r12, s1, r13) refl)

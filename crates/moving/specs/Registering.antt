@@ -21,7 +21,7 @@ use Rattle.entry_set.specs.Lanes.{setLanes}
 use Rattle.entry_set.specs.LaneLaws.{length-setStrided, setStrided-other, setStrided-at}
 use Rattle.ledger.specs.Graph.{Load, at, owner, members}
 use Rattle.ledger.specs.Ledger.{register}
-use Rattle.ledger.specs.MoveLaws.{register-new}
+use Rattle.ledger.specs.MoveLaws.{register-old, register-new}
 use Rattle.ledger.specs.Nodes.{Placing, highest, fronts, front, face-source, face-target, source, target, sources, targets}
 use Rattle.ledger.specs.NodeLaws.{highest-more}
 use Rattle.ledger.specs.NodeMoves.{placing-register}
@@ -66,6 +66,20 @@ module _ {load : Load} {nodes sets : List ℕ} (p : Placing load nodes sets) (T 
   targets-more =
       tab-alike _ _ (load .D + load .E)
       (λ k b. ap (λ f. cond (ltb k (load .D)) (at nodes (at (load .dependencies) k)) (face-target nodes f (at (load .hosts) (k - load .D)))) (front-more (k - load .D)))
+
+  pub sources-register : sources load nodes (register T sets) ≡ sources load nodes sets
+  sources-register = go (has T sets) refl
+    where
+      go : (t : Bool) → has T sets ≡ t → sources load nodes (register T sets) ≡ sources load nodes sets
+      go true q = rw (register-old T sets q) refl
+      go false q = rw (register-new T sets q) sources-more
+
+  pub targets-register : targets load nodes (register T sets) ≡ targets load nodes sets
+  targets-register = go (has T sets) refl
+    where
+      go : (t : Bool) → has T sets ≡ t → targets load nodes (register T sets) ≡ targets load nodes sets
+      go true q = rw (register-old T sets q) refl
+      go false q = rw (register-new T sets q) targets-more
 
 -- the words of two nodes in two lanes stand apart, and before the other lanes
 apart : (n i j x r : ℕ) → x < n → r < n → (x ≡ r → ⊥) → n * n + 24 + i * n + x ≡ n * n + 24 + j * n + r → ⊥
