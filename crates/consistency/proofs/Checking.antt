@@ -1,16 +1,16 @@
 -- What each call of `consistent` asks, and what they come to. Assumes nothing.
-use mathlib.Core.Path.{_≡_, refl, sym, _∙_}
+use mathlib.Core.Path.{_≡_, refl, sym}
 use mathlib.Core.Bool.{Bool, true, false, true≢false}
 use mathlib.Core.List.{List}
-use Prim.Native.Nat.{ℕ, _+_, _*_, _^_, _≤_, _<_}
+use Prim.Native.Nat.{ℕ, _+_, _^_, _≤_, _<_}
 use native.Mathlib.Omega.{arith}
 use lib.ListN.{length, getD}
-use Rattle.graphs.specs.Bools.{Decides, fails, alike}
+use Rattle.graphs.specs.Bools.{fails, alike}
 use Rattle.ledger.specs.Graph.{Load}
 use Rattle.ledger.specs.LoadLaws.{Loadable, first-row-none}
 use Rattle.move_area.specs.Bodies.{atomAt}
 use Rattle.move_area.specs.Area.{consistent}
-use Rattle.move_area.specs.Checked.{Ranged, Worked, checked-consistent, consistent-ranged, consistent-worked}
+use Rattle.move_area.specs.Checked.{Ranged, checked-consistent, consistent-ranged, consistent-worked}
 use Rattle.consistency.specs.Ranges.{bounds, CanRange, RangeTold}
 use Rattle.consistency.specs.Ready.{CanWork, WorkTold, CanCheck, Told}
 

@@ -1,14 +1,13 @@
 -- What each call of `fill_slots` asks, and what they come to. Assumes nothing.
 use mathlib.Core.Path.{_≡_, refl, sym, ap, subst, _∙_}
-use mathlib.Core.Bool.{Bool, true}
 use mathlib.Core.List.{List}
-use Prim.Native.Nat.{ℕ, _+_, _-_, _*_, _≤_, _<_}
+use Prim.Native.Nat.{ℕ, _+_, _-_, _*_}
 use native.Mathlib.Omega.{arith}
 use lib.ListN.{length, getD, take, drop}
 use Rattle.entry_set.specs.Lanes.{lanes}
 use Rattle.graphs.specs.Tab.{tab}
 use Rattle.layout.specs.Patch.{patch, patch-long, part, part-long, part-at}
-use Rattle.ledger.specs.Graph.{Load, at, members}
+use Rattle.ledger.specs.Graph.{Load, members}
 use Rattle.placement.specs.Slots.{atoms, sources-by, targets-by}
 use Rattle.placement.specs.Steps.{CanTally, CanSlots}
 use Rattle.placement.specs.Facades.{CanFronts, fronts-in}

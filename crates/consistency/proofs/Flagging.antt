@@ -1,8 +1,8 @@
 -- The acyclic flag and the component against what the walks found. Assumes nothing.
-use mathlib.Core.Path.{_≡_, refl, sym, ap, subst, fun-ext, _∙_}
-use mathlib.Core.Bool.{Bool, true, false, not, cond, _&&_}
+use mathlib.Core.Path.{_≡_, sym, ap, subst, fun-ext, _∙_}
+use mathlib.Core.Bool.{Bool, true, false, not, _&&_}
 use mathlib.Core.List.{List}
-use Prim.Native.Nat.{ℕ, _+_, _*_, _^_, _≤_, _<_}
+use Prim.Native.Nat.{ℕ, _+_, _*_, _<_}
 use native.Mathlib.Omega.{arith}
 use native.Mathlib.Nat.{zero-add}
 use lib.Dec.{eqb}
@@ -14,7 +14,7 @@ use Rattle.graphs.specs.Lists.{below}
 use Rattle.graphs.specs.Slots.{slotEdge, Ends}
 use Rattle.graphs.specs.SlotLaws.{slot-turned}
 use Rattle.graphs.specs.Tab.{tab-at}
-use Rattle.graphs.specs.Walk.{cyclic, only}
+use Rattle.graphs.specs.Walk.{cyclic}
 use Rattle.neighbours.specs.Lists.{edge}
 use Rattle.ledger.specs.Graph.{at}
 use Rattle.placement.specs.Compare.{SamePart, PartUpTo}

@@ -1,9 +1,8 @@
 -- What each call of `edges_hold` asks, and what they come to. Assumes nothing.
 use mathlib.Core.Bool.{Bool}
 use mathlib.Core.List.{List}
-use Prim.Native.Nat.{ℕ, _*_, _^_, _≤_, _<_}
+use Prim.Native.Nat.{ℕ}
 use native.Mathlib.Omega.{arith}
-use lib.ListN.{length}
 use Rattle.neighbours.specs.Steps.{CanGroup, Grouped}
 use Rattle.neighbours.specs.Grouped.{group-graph, group-edges}
 use Rattle.node_edges.specs.Rows.{CanCheck, Checked, checked-holds, checked-edges}

@@ -1,20 +1,20 @@
 -- What each call of `in_ranges` asks, and what they come to. Assumes nothing.
-use mathlib.Core.Path.{_≡_, refl, sym, ap, _∙_}
-use mathlib.Core.Bool.{Bool, true, false, _&&_, true≢false}
+use mathlib.Core.Path.{_≡_, sym, ap, _∙_}
+use mathlib.Core.Bool.{Bool, false, _&&_, true≢false}
 use mathlib.Core.List.{List}
-use Prim.Native.Nat.{ℕ, _+_, _*_, _^_, _≤_, _<_}
+use Prim.Native.Nat.{ℕ, _+_, _*_, _≤_, _<_}
 use native.Mathlib.Omega.{arith}
-use lib.ListN.{length, getD}
+use lib.ListN.{getD}
 use Rattle.graphs.specs.Bools.{Decides}
 use Rattle.entry_set.specs.Lanes.{lanes}
-use Rattle.ledger.specs.Graph.{Load, at}
+use Rattle.ledger.specs.Graph.{at}
 use Rattle.placement.specs.Compare.{PartUpTo, PartBelow}
 use Rattle.set_order.specs.Order.{laneSet, Distinct}
 use Rattle.move_area.specs.Bodies.{laneAt, atomAt}
 use Rattle.move_area.specs.Area.{setsIn}
 use Rattle.move_area.specs.ListLaws.{one-place}
 use Rattle.move_area.specs.ListLaws as sets
-use Rattle.move_area.specs.Checked.{Ranged, sets-length, sets-at}
+use Rattle.move_area.specs.Checked.{sets-length, sets-at}
 use Rattle.consistency.specs.Ranges.{SetsBelow, SetOrder, RangeTold}
 use Rattle.consistency.proofs.Tests.{no-decides, same-decides, both-decides}
 

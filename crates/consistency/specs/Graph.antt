@@ -9,7 +9,7 @@ use lib.Dec.{eqb}
 use lib.ListN.{length, getD}
 use borrow.Author.Tests.{eq-eqb, ne-eqb}
 use Rattle.graphs.specs.Bools.{fails, and-left}
-use Rattle.graphs.specs.Count.{ind, count, count-ext}
+use Rattle.graphs.specs.Count.{ind, count-ext}
 use Rattle.graphs.specs.Lists.{any, below, some-none}
 use Rattle.graphs.specs.Slots.{flat, slotEdge, Ends}
 use Rattle.graphs.specs.Walk.{via, cyclic, only}

@@ -1,6 +1,6 @@
 // Whether what is worked out from the load and the placement is what an area holds.
 ghost use mathlib.Core.Path.{_≡_};
-ghost use Prim.Native.Nat.{ℕ, _+_, _≤_};
+ghost use Prim.Native.Nat.{_+_, _≤_};
 ghost use Rattle.graphs.specs.Bools.{Decides};
 ghost use Rattle.graphs.specs.Slots.{slotEdge};
 ghost use Rattle.ledger.specs.Graph.{at};

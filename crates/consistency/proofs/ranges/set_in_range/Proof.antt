@@ -5,20 +5,13 @@ use lib.Dec.{ltb}
 use borrow.Author.Needs.{needs}
 use Rattle.consistency.proofs.ranges.set_in_range.Statement.{statement}
 use Rattle.consistency.proofs.ranges.set_in_range.Tie as tie
-use Rattle.consistency.proofs.ranges.set_in_range.Reads as reads
-use Rattle.consistency.proofs.ranges.set_in_range.Lts as lts
-use Rattle.entry_set.proofs.in_range.Reads as in-range-reads
-use Rattle.entry_set.proofs.read_lanes.Reads as read-lanes-reads
 
--- src/ranges.rt:15:25
 read-lanes-requires : tie.Need-read-lanes-requires
 read-lanes-requires c κs = search needs
 
--- src/ranges.rt:15:5
 in-range-requires : tie.Need-in-range-requires
 in-range-requires c κs = search needs
 
--- src/ranges.rt:11:1
 returns : tie.Need-returns
 returns c = c .in-range .ensures ∙ ap (λ X. ltb X (2 ^ c .before .before .before .args .e)) (c .before .read-lanes .ensures .value)
 

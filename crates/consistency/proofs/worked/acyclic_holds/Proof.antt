@@ -3,43 +3,31 @@ use Rattle.consistency.proofs.Flagging.{empty-flags}
 use borrow.Author.Needs.{needs}
 use Rattle.consistency.proofs.worked.acyclic_holds.Statement.{statement}
 use Rattle.consistency.proofs.worked.acyclic_holds.Tie as tie
-use Rattle.consistency.proofs.worked.acyclic_holds.Reads as reads
-use Rattle.consistency.proofs.worked.acyclic_holds.Lts as lts
-use Rattle.placement.proofs.none_above.Reads as none-above-reads
 
--- src/worked.rt:47:18
 mul-header : tie.Need-mul-header
 mul-header c = search needs
 
--- src/worked.rt:48:45
 add-none-above : tie.Need-add-none-above
 add-none-above c = search needs
 
--- src/worked.rt:48:59
 mul-none-above : tie.Need-mul-none-above
 mul-none-above c = search needs
 
--- src/worked.rt:48:45
 add-none-above-2 : tie.Need-add-none-above-2
 add-none-above-2 c = search needs
 
--- src/worked.rt:48:9
 none-above-requires : tie.Need-none-above-requires
 none-above-requires c κs = search needs
 
--- src/worked.rt:49:19
 add-result : tie.Need-add-result
 add-result c = search needs
 
--- src/worked.rt:49:14
 mul-result : tie.Need-mul-result
 mul-result c = search needs
 
--- src/worked.rt:49:14
 shared-slice-read-result : tie.Need-shared-slice-read-result
 shared-slice-read-result c = search needs
 
--- src/worked.rt:43:1
 returns : tie.Need-returns
 returns c = empty-flags (c .before .none-above .ensures)
 

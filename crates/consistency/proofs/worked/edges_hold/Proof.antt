@@ -1,38 +1,26 @@
 -- `consistency::worked::edges_hold` meets its contract. Assumes nothing.
 use Rattle.consistency.proofs.Matching.{match-group, match-check, match-done}
-use borrow.Author.Needs.{needs}
 use Rattle.consistency.proofs.worked.edges_hold.Statement.{statement}
 use Rattle.consistency.proofs.worked.edges_hold.Tie as tie
-use Rattle.consistency.proofs.worked.edges_hold.Reads as reads
-use Rattle.consistency.proofs.worked.edges_hold.Lts as lts
-use Rattle.neighbours.proofs.group.Reads as group-reads
-use Rattle.node_edges.proofs.rows.check.Reads as check-reads
 
--- src/worked.rt:19:5
 group-requires : tie.Need-group-requires
 group-requires c κs = match-group (c .before .before .before .before .before .before .before .before .before .pre)
 
--- src/worked.rt:20:5
 check-requires : tie.Need-check-requires
 check-requires c κs = match-check (c .before .before .before .before .before .before .before .before .before .before .before .before .before .before .before .before .before .before .pre) (c .before .before .before .before .before .before .before .before .group .ensures)
 
--- src/worked.rt:5:1
 same-length : tie.Need-same-length
-same-length c = search needs
+same-length c = c .before .before .before .before .before .before .before .before .before .before .before .before .before .group .kept .1 .1 .1 .1 .0
 
--- src/worked.rt:5:1
 same-length-2 : tie.Need-same-length-2
-same-length-2 c = search needs
+same-length-2 c = c .before .before .before .before .before .before .before .before .before .before .before .before .before .group .kept .1 .1 .1 .1 .1 .0
 
--- src/worked.rt:5:1
 same-length-3 : tie.Need-same-length-3
-same-length-3 c = search needs
+same-length-3 c = c .before .before .before .before .check .kept .1 .1 .1 .1 .0
 
--- src/worked.rt:5:1
 same-length-4 : tie.Need-same-length-4
-same-length-4 c = search needs
+same-length-4 c = c .before .before .before .before .check .kept .1 .1 .1 .1 .1 .0
 
--- src/worked.rt:5:1
 returns : tie.Need-returns
 returns c = match-done (c .before .before .before .before .before .before .before .before .before .before .before .before .before .before .before .before .before .before .before .before .before .before .before .pre) (c .before .before .before .before .before .before .before .before .before .before .before .before .before .group .ensures) (c .before .before .before .before .check .ensures)
 

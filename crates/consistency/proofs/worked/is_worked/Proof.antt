@@ -1,102 +1,72 @@
 -- `consistency::worked::is_worked` meets its contract. Assumes nothing.
 use native.Mathlib.Omega.{arith}
 use Rattle.consistency.proofs.Working.{work-fill, work-compare, work-counted, work-match, work-flag, work-done}
-use borrow.Author.Needs.{needs}
 use Rattle.consistency.proofs.worked.is_worked.Statement.{statement}
 use Rattle.consistency.proofs.worked.is_worked.Tie as tie
-use Rattle.consistency.proofs.worked.is_worked.Reads as reads
-use Rattle.consistency.proofs.worked.is_worked.Lts as lts
-use Rattle.consistency.proofs.slots.fill_own_slots.Reads as fill-own-slots-reads
-use Rattle.consistency.proofs.worked.edges_hold.Reads as edges-hold-reads
-use Rattle.consistency.proofs.worked.flags_hold.Reads as flags-hold-reads
-use Rattle.consistency.proofs.worked.slot_count.Reads as slot-count-reads
-use Rattle.placement.proofs.same_numbers.Reads as counts-hold-reads
 
--- src/worked.rt:160:5
 fill-own-slots-requires : tie.Need-fill-own-slots-requires
 fill-own-slots-requires c κs = work-fill (c .before .before .before .before .before .before .before .before .before .before .before .before .before .before .before .before .before .before .before .before .before .before .before .before .pre)
 
--- src/worked.rt:174:9
 slot-count-requires : tie.Need-slot-count-requires
 slot-count-requires c κs = omega (arith, c .before .before .before .before .before .before .before .before .before .before .before .before .before .before .before .before .before .before .before .before .before .before .before .before .before .before .before .before .before .before .before .before .before .pre .loadable .sizes .entries, c .before .before .before .before .before .before .before .before .before .before .before .before .before .before .before .before .before .before .before .before .before .before .before .before .before .before .before .before .before .before .before .before .before .pre .loadable .sizes .bits)
 
--- src/worked.rt:175:9
 counts-hold-requires : tie.Need-counts-hold-requires
 counts-hold-requires c κs = work-compare (c .before .before .before .before .before .before .before .before .before .before .before .before .before .before .before .before .before .before .before .before .before .before .before .before .before .before .before .before .before .before .before .before .before .before .before .pre) (c .before .before .before .before .before .before .before .before .before .before .fill-own-slots .kept .1 .1 .1 .1 .1 .1 .1 .1 .0)
 
--- src/worked.rt:176:9
 edges-hold-requires : tie.Need-edges-hold-requires
 edges-hold-requires c κs = let f = c .before .before .before .before .before .before .before .before .before .before .before .before .before .before .before .before .before .fill-own-slots in work-match (c .before .before .before .before .before .before .before .before .before .before .before .before .before .before .before .before .before .before .before .before .before .before .before .before .before .before .before .before .before .before .before .before .before .before .before .before .before .before .before .before .before .before .pre) (work-counted (c .before .before .before .before .before .before .before .before .before .before .before .before .before .before .before .before .before .before .before .before .before .before .before .before .before .before .before .before .before .before .before .before .before .before .before .before .before .before .before .before .before .before .pre) (f .ensures) (c .before .before .before .before .before .before .before .before .slot-count .ensures)) (f .kept .1 .1 .1 .1 .1 .1 .1 .1 .1 .1 .0) (f .kept .1 .1 .1 .1 .1 .1 .1 .1 .1 .1 .1 .0)
 
--- src/worked.rt:177:9
 flags-hold-requires : tie.Need-flags-hold-requires
 flags-hold-requires c κs = let f = c .before .before .before .before .before .before .before .before .before .before .before .before .before .before .before .before .before .before .before .before .before .before .before .before .before .before .before .before .before .before .before .before .before .before .before .before .before .before .fill-own-slots in work-flag (c .before .before .before .before .before .before .before .before .before .before .before .before .before .before .before .before .before .before .before .before .before .before .before .before .before .before .before .before .before .before .before .before .before .before .before .before .before .before .before .before .before .before .before .before .before .before .before .before .before .before .before .before .before .before .before .before .before .before .before .before .before .before .before .pre) (work-counted (c .before .before .before .before .before .before .before .before .before .before .before .before .before .before .before .before .before .before .before .before .before .before .before .before .before .before .before .before .before .before .before .before .before .before .before .before .before .before .before .before .before .before .before .before .before .before .before .before .before .before .before .before .before .before .before .before .before .before .before .before .before .before .before .pre) (f .ensures) (c .before .before .before .before .before .before .before .before .before .before .before .before .before .before .before .before .before .before .before .before .before .before .before .before .before .before .before .before .before .slot-count .ensures)) (f .kept .1 .1 .1 .1 .1 .1 .1 .1 .1 .1 .0) (f .kept .1 .1 .1 .1 .1 .1 .1 .1 .1 .1 .1 .0) (c .before .before .before .before .before .before .before .before .before .before .before .before .before .before .before .before .before .before .before .before .edges-hold .ensures)
 
--- src/worked.rt:131:1
 same-length : tie.Need-same-length
 same-length c = c .before .before .before .before .before .before .before .before .before .before .before .before .before .before .before .before .before .before .before .before .before .before .before .before .before .before .before .before .before .before .before .before .before .before .before .before .before .before .before .before .before .before .before .before .before .before .before .before .before .before .before .before .before .before .before .fill-own-slots .kept .1 .1 .1 .1 .1 .1 .1 .1 .0
 
--- src/worked.rt:131:1
 same-length-2 : tie.Need-same-length-2
 same-length-2 c = c .before .before .before .before .before .before .before .before .before .before .before .before .before .before .before .before .before .before .before .before .before .before .before .before .before .before .before .before .before .before .before .before .before .before .before .before .before .before .before .before .before .before .before .before .before .before .before .before .before .before .before .before .before .before .before .fill-own-slots .kept .1 .1 .1 .1 .1 .1 .1 .1 .1 .0
 
--- src/worked.rt:131:1
 same-length-3 : tie.Need-same-length-3
 same-length-3 c = c .before .before .before .before .before .before .before .before .before .before .before .before .before .before .before .before .before .before .before .before .before .before .before .before .before .before .before .before .before .before .before .before .before .before .before .before .before .before .before .before .before .before .before .before .before .before .before .before .before .before .before .before .before .before .before .fill-own-slots .kept .1 .1 .1 .1 .1 .1 .1 .1 .1 .1 .0
 
--- src/worked.rt:131:1
 same-length-4 : tie.Need-same-length-4
 same-length-4 c = c .before .before .before .before .before .before .before .before .before .before .before .before .before .before .before .before .before .before .before .before .before .before .before .before .before .before .before .before .before .before .before .before .before .before .before .before .before .before .before .before .before .before .before .before .before .before .before .before .before .before .before .before .before .before .before .fill-own-slots .kept .1 .1 .1 .1 .1 .1 .1 .1 .1 .1 .1 .0
 
--- src/worked.rt:131:1
 same-length-5 : tie.Need-same-length-5
 same-length-5 c = c .before .before .before .before .before .before .before .before .before .before .before .before .before .before .before .before .before .before .before .before .before .before .before .before .before .before .before .before .before .before .before .before .before .before .before .before .before .edges-hold .kept .1 .1 .1 .1 .1 .0
 
--- src/worked.rt:131:1
 same-length-6 : tie.Need-same-length-6
 same-length-6 c = c .before .before .before .before .before .before .before .before .before .before .before .before .before .before .before .before .before .before .before .before .before .before .before .before .before .before .before .before .before .before .before .before .before .before .before .before .before .edges-hold .kept .1 .1 .1 .1 .1 .1 .0
 
--- src/worked.rt:131:1
 same-length-7 : tie.Need-same-length-7
 same-length-7 c = c .before .before .before .before .before .before .before .before .before .before .before .before .before .before .before .before .before .before .before .before .before .before .before .before .before .before .before .before .before .before .before .before .before .before .before .before .before .edges-hold .kept .1 .1 .1 .1 .1 .1 .1 .0
 
--- src/worked.rt:131:1
 same-length-8 : tie.Need-same-length-8
 same-length-8 c = c .before .before .before .before .before .before .before .before .before .before .before .before .before .before .before .before .before .before .before .before .before .before .before .before .before .before .before .before .before .before .before .before .before .before .before .before .before .edges-hold .kept .1 .1 .1 .1 .1 .1 .1 .1 .0
 
--- src/worked.rt:131:1
 same-length-9 : tie.Need-same-length-9
 same-length-9 c = c .before .before .before .before .before .before .before .before .before .before .before .before .before .before .before .before .flags-hold .kept .1 .1 .1 .1 .1 .1 .1 .0
 
--- src/worked.rt:131:1
 same-length-10 : tie.Need-same-length-10
 same-length-10 c = c .before .before .before .before .before .before .before .before .before .before .before .before .before .before .before .before .flags-hold .kept .1 .1 .1 .1 .1 .1 .1 .1 .0
 
--- src/worked.rt:131:1
 same-length-11 : tie.Need-same-length-11
 same-length-11 c = c .before .before .before .before .before .before .before .before .before .before .before .before .before .before .before .before .flags-hold .kept .1 .1 .1 .1 .1 .1 .1 .1 .1 .0
 
--- src/worked.rt:131:1
 same-length-12 : tie.Need-same-length-12
 same-length-12 c = c .before .before .before .before .before .before .before .before .before .before .before .before .before .before .before .before .flags-hold .kept .1 .1 .1 .1 .1 .1 .1 .1 .1 .1 .0
 
--- src/worked.rt:131:1
 same-length-13 : tie.Need-same-length-13
 same-length-13 c = c .before .before .before .before .before .before .before .before .before .before .before .before .before .before .before .before .flags-hold .kept .1 .1 .1 .1 .1 .1 .1 .1 .1 .1 .1 .0
 
--- src/worked.rt:131:1
 same-length-14 : tie.Need-same-length-14
 same-length-14 c = c .before .before .before .before .before .before .before .before .before .before .before .before .before .before .before .before .flags-hold .kept .1 .1 .1 .1 .1 .1 .1 .1 .1 .1 .1 .1 .0
 
--- src/worked.rt:131:1
 same-length-15 : tie.Need-same-length-15
 same-length-15 c = c .before .before .before .before .before .before .before .before .before .before .before .before .before .before .before .before .flags-hold .kept .1 .1 .1 .1 .1 .1 .1 .1 .1 .1 .1 .1 .1 .0
 
--- src/worked.rt:131:1
 same-length-16 : tie.Need-same-length-16
 same-length-16 c = c .before .before .before .before .before .before .before .before .before .before .before .before .before .before .before .before .flags-hold .kept .1 .1 .1 .1 .1 .1 .1 .1 .1 .1 .1 .1 .1 .1 .0
 
--- src/worked.rt:131:1
 returns : tie.Need-returns
 returns c = let f = c .before .before .before .before .before .before .before .before .before .before .before .before .before .before .before .before .before .before .before .before .before .before .before .before .before .before .before .before .before .before .before .before .before .before .before .before .before .before .before .before .before .before .before .before .before .before .before .before .before .before .before .before .before .before .before .fill-own-slots .ensures in work-done f (work-counted (c .before .before .before .before .before .before .before .before .before .before .before .before .before .before .before .before .before .before .before .before .before .before .before .before .before .before .before .before .before .before .before .before .before .before .before .before .before .before .before .before .before .before .before .before .before .before .before .before .before .before .before .before .before .before .before .before .before .before .before .before .before .before .before .before .before .before .before .before .before .before .before .before .before .before .before .before .before .before .before .before .pre) f (c .before .before .before .before .before .before .before .before .before .before .before .before .before .before .before .before .before .before .before .before .before .before .before .before .before .before .before .before .before .before .before .before .before .before .before .before .before .before .before .before .before .before .before .before .before .before .slot-count .ensures)) (c .before .before .before .before .before .before .before .before .before .before .before .before .before .before .before .before .before .before .before .before .before .before .before .before .before .before .before .before .before .before .before .before .before .before .before .before .before .before .before .before .before .before .before .before .counts-hold .ensures) (c .before .before .before .before .before .before .before .before .before .before .before .before .before .before .before .before .before .before .before .before .before .before .before .before .before .before .before .before .before .before .before .before .before .before .before .before .before .edges-hold .ensures) (c .before .before .before .before .before .before .before .before .before .before .before .before .before .before .before .before .flags-hold .ensures)
 

@@ -4,18 +4,13 @@ use borrow.Author.Tests.{eq-eqb, ne-eqb}
 use borrow.Author.Needs.{needs}
 use Rattle.consistency.proofs.worked.slot_count.Statement.{statement}
 use Rattle.consistency.proofs.worked.slot_count.Tie as tie
-use Rattle.consistency.proofs.worked.slot_count.Reads as reads
-use Rattle.consistency.proofs.worked.slot_count.Lts as lts
 
--- src/worked.rt:17:9
 returns : tie.Need-returns
 returns c = rw (eq-eqb _ _ (c .if1 .taken)) refl
 
--- src/worked.rt:19:5
 add-result : tie.Need-add-result
 add-result c = search needs
 
--- src/worked.rt:12:1
 returns-2 : tie.Need-returns-2
 returns-2 c = rw (ne-eqb _ _ (c .if1 .left)) refl
 
