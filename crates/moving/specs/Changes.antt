@@ -1,27 +1,26 @@
 -- An area that holds a state holds the next one after each step's writing: the counter, the marks, an accepted move. Assumes nothing.
 use mathlib.Core.Path.{_≡_, refl, sym, ap, subst, _∙_}
-use mathlib.Core.Bool.{Bool, true, false, not, cond, true≢false}
-use mathlib.Core.List.{List, [], _∷_}
+use mathlib.Core.Bool.{Bool, true, false, cond, true≢false}
+use mathlib.Core.List.{List}
 use Prim.Native.Nat.{ℕ, _+_, _*_, _≤_, _<_}
 use native.Mathlib.Omega.{arith}
-use lib.ListN.{length, getD, set, replicate, length-set, length-replicate, getD-replicate}
+use lib.ListN.{length, set, replicate, length-set, length-replicate, getD-replicate}
 use Rattle.graphs.specs.Bools.{fails, and-left}
 use Rattle.graphs.specs.Count.{ind}
-use Rattle.graphs.specs.Lists.{has, below, has-below, any-give}
-use Rattle.graphs.specs.Tab.{tab, tab-length, tab-at, is-tab}
+use Rattle.graphs.specs.Lists.{below, has-below, any-give}
+use Rattle.graphs.specs.Tab.{tab, tab-length, is-tab}
 use Rattle.graphs.specs.Walk.{via, cyclic, only}
-use Rattle.graphs.specs.Slots.{flat}
 use Rattle.layout.specs.Patch.{patch, part, is-part, patch-same, patch-cell}
 use Rattle.node_edges.specs.Matrix.{matrix, matrix-long}
 use Rattle.ledger.specs.Graph.{Load, at}
-use Rattle.ledger.specs.Nodes.{Placing, sources, targets}
+use Rattle.ledger.specs.Nodes.{sources, targets}
 use Rattle.ledger.specs.NodeMoves.{placing-set}
 use Rattle.move_area.specs.Bodies.{laneAt, atomAt, Bodies, header, write, Sized}
 use Rattle.move_area.specs.BodyLaws.{write-long, read-header, read-nodes, renew-edges, renew-counts, renew-marks, renew-component, renew-nodes, renew-header}
 use Rattle.move_area.specs.Calls.{last, next}
 use Rattle.move_area.specs.NodeBodies.{Nodes, nodeEdge, tally, nodeBodies}
-use Rattle.moving.specs.Stands.{Stands, stands-sized, stands-long, counter-at}
-use Rattle.moving.specs.Areas.{counterIn, raised, committed}
+use Rattle.moving.specs.Stands.{Stands, stands-sized, counter-at}
+use Rattle.moving.specs.Areas.{raised, committed}
 
 -- one number of a list that stands there is set
 set-field : (at : ℕ) (v l : List ℕ) (i x : ℕ) → part at (length v) l ≡ v → i < length v → at + length v ≤ length l → set l (at + i) x ≡ patch at (set v i x) l

@@ -1,12 +1,12 @@
 -- What an accepted move's writing asks. Assumes nothing.
-use mathlib.Core.Path.{_≡_, refl, sym, ap, _∙_}
+use mathlib.Core.Path.{_≡_, sym, ap, _∙_}
 use mathlib.Core.List.{List}
 use Prim.Native.Nat.{ℕ, _+_, _-_, _*_, _≤_, _<_}
 use native.Mathlib.Omega.{arith}
 use native.Mathlib.Nat.{zero-add}
-use lib.ListN.{length, getD, set, length-set, replicate}
+use lib.ListN.{length, set, length-set, replicate}
 use borrow.Rule.Slice.PartMut.{midOf, putMid}
-use Rattle.layout.specs.Patch.{patch, part, part-long, part-at, patch-long, patch-all, is-patch}
+use Rattle.layout.specs.Patch.{patch, part, part-long, part-at, patch-long, patch-all}
 use Rattle.layout.specs.Lent.{mid-part, put-patch}
 use Rattle.node_edges.specs.Matrix.{Holds, matrix, matrix-long}
 use Rattle.node_edges.specs.Steps.{Both, CanUpdate}

@@ -1,8 +1,8 @@
 -- Step 1, the target's node and row 13, by the area's numbers. Assumes nothing.
 use mathlib.Core.Path.{_≡_, refl, sym, ap, ap₂, subst, _∙_}
-use mathlib.Core.Bool.{Bool, true, false, not, cond, _&&_, true≢false}
-use mathlib.Core.List.{List, [], _∷_, _++_}
-use Prim.Native.Nat.{ℕ, _+_, _*_, _^_, _≤_, _<_}
+use mathlib.Core.Bool.{Bool, true, false, not, _&&_}
+use mathlib.Core.List.{List}
+use Prim.Native.Nat.{ℕ, _+_, _*_, _<_}
 use native.Mathlib.Omega.{arith}
 use native.Mathlib.Decide.{decLt}
 use lib.Dec.{eqb, leb}
@@ -16,13 +16,13 @@ use Rattle.entry_set.specs.Lanes.{lanes}
 use Rattle.ledger.specs.Graph.{Load, at}
 use Rattle.ledger.specs.Ledger.{register, step1, full}
 use Rattle.ledger.specs.MoveLaws.{register-old, register-new}
-use Rattle.ledger.specs.Nodes.{placed, node-edge}
+use Rattle.ledger.specs.Nodes.{placed}
 use Rattle.ledger.specs.NodeMoves.{step1-nodes}
 use Rattle.ledger.specs.Sound.{snoc-new, snoc-length}
 use Rattle.set_order.specs.Order.{laneSet, First}
 use Rattle.move_area.specs.Bodies.{laneAt, atomAt}
 use Rattle.move_area.specs.NodeBodies.{Nodes, nodeEdge}
-use Rattle.moving.specs.Stands.{Stands, registered-at, acyclic-at, component-at, node-at, set-at}
+use Rattle.moving.specs.Stands.{Stands, acyclic-at, component-at, node-at, set-at}
 use Rattle.moving.specs.Settle.{flag-tells}
 
 flag-none : (t : Bool) → eqb (ind t) 0 ≡ not t

@@ -1,11 +1,11 @@
 -- An area whose fields are written anew, where the lanes of words may be longer than before. Assumes nothing.
-use mathlib.Core.Path.{_≡_, refl, sym, ap, _∙_}
+use mathlib.Core.Path.{_≡_, refl, sym, _∙_}
 use mathlib.Core.List.{List, [], _∷_}
 use Prim.Native.Nat.{ℕ, zero, suc, _+_, _*_, _≤_, _<_}
 use native.Mathlib.Omega.{arith}
 use lib.ListN.{length, getD}
 use Rattle.layout.specs.Patch.{part}
-use Rattle.layout.specs.Fields.{Field, field, In, here, there, lay-long}
+use Rattle.layout.specs.Fields.{Field, field, In, here, there}
 use Rattle.layout.specs.Change.{Clear, lay-agree, lay-clear, lay-over}
 use Rattle.move_area.specs.Bodies.{laneAt, atomAt, Bodies, header, fieldsOf, write, Sized}
 use Rattle.move_area.specs.BodyLaws.{write-same}

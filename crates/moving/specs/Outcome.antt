@@ -1,8 +1,8 @@
 -- A move in node numbers is the ledger's, and leaves the state that `after` says. Assumes nothing.
-use mathlib.Core.Path.{_≡_, refl, sym, ap, ap₂, subst, _∙_}
-use mathlib.Core.Bool.{Bool, true, false, not, cond, _&&_, true≢false}
-use mathlib.Core.List.{List, [], _∷_, _++_}
-use Prim.Native.Nat.{ℕ, _+_, _*_, _^_, _≤_, _<_}
+use mathlib.Core.Path.{_≡_, refl, sym, ap, ap₂, _∙_}
+use mathlib.Core.Bool.{Bool, true, false, cond, _&&_}
+use mathlib.Core.List.{List}
+use Prim.Native.Nat.{ℕ, _^_, _≤_, _<_}
 use native.Mathlib.Omega.{arith}
 use native.Mathlib.Decide.{decLt}
 use lib.Dec.{eqb, ltb, leb}
@@ -17,7 +17,7 @@ use Rattle.walks.specs.Marks.{marking, marked}
 use Rattle.entry_set.specs.Sets.{value, legal}
 use Rattle.ledger.specs.Graph.{Load, none, at, edge}
 use Rattle.ledger.specs.Answer.{refused, accepted, rejected}
-use Rattle.ledger.specs.Ledger.{Ledger, Answered, gives, register, step1, step2, step3, full, move}
+use Rattle.ledger.specs.Ledger.{Ledger, gives, register, step1, step2, step3, full, move}
 use Rattle.ledger.specs.MoveLaws.{register-old, register-new}
 use Rattle.ledger.specs.LoadLaws.{InOrder}
 use Rattle.ledger.specs.Nodes.{placed, Placing}
@@ -28,8 +28,8 @@ use Rattle.move_area.specs.Area.{State}
 use Rattle.move_area.specs.Calls.{tried, last, next, marks-for, walked, after}
 use Rattle.move_area.specs.NodeBodies.{Nodes, nodeEdge, stateOf, tab-alike}
 use Rattle.moving.specs.Stands.{Stands}
-use Rattle.moving.specs.Changes.{with-counter, with-marks, with-node, with-raised}
-use Rattle.moving.specs.Registering.{with-set, stands-registered}
+use Rattle.moving.specs.Changes.{with-node, with-raised}
+use Rattle.moving.specs.Registering.{stands-registered}
 use Rattle.moving.specs.Areas.{registered}
 
 -- the state with the target registered if unseen

@@ -1,11 +1,10 @@
 -- Registering a set: an area that holds a state holds it with one registered set more. Assumes nothing.
-use mathlib.Core.Path.{_≡_, refl, sym, ap, ap₂, subst, _∙_}
-use mathlib.Core.Bool.{Bool, true, false, not, cond, _&&_, true≢false}
+use mathlib.Core.Path.{_≡_, refl, sym, ap, subst, _∙_}
+use mathlib.Core.Bool.{Bool, true, false, cond, _&&_}
 use mathlib.Core.List.{List, [], _∷_, _++_}
 use Prim.Native.Nat.{ℕ, zero, suc, _+_, _-_, _*_, _^_, _≤_, _<_}
 use native.Mathlib.Omega.{arith}
 use native.Mathlib.Nat.{zero-add, mul-le-mul-right, suc-mul}
-use native.Mathlib.Numerals.{add-one}
 use native.Mathlib.Decide.{ℕ-discrete, decLt}
 use lib.Dec.{eqb, ltb}
 use lib.ListN.{length, getD, set, length-set}
@@ -14,7 +13,7 @@ use borrow.Author.Tests.{ne-eqb}
 use Rattle.graphs.specs.Count.{count-all-no}
 use Rattle.graphs.specs.Lists.{has}
 use Rattle.graphs.specs.Tab.{tab, tab-length, tab-at, is-tab}
-use Rattle.layout.specs.Patch.{part, part-long, part-at, is-part}
+use Rattle.layout.specs.Patch.{part, part-long, part-at}
 use Rattle.entry_set.specs.Joined.{parts}
 use Rattle.entry_set.specs.JoinedLaws.{length-parts}
 use Rattle.entry_set.specs.Lanes.{setLanes}
@@ -27,8 +26,8 @@ use Rattle.ledger.specs.NodeLaws.{highest-more}
 use Rattle.ledger.specs.NodeMoves.{placing-register}
 use Rattle.ledger.specs.Sound.{snoc-old, snoc-new, snoc-length}
 use Rattle.move_area.specs.Bodies.{laneAt, atomAt, Bodies, write, Sized}
-use Rattle.move_area.specs.NodeBodies.{Nodes, nodeEdge, tally, nodeBodies, tab-alike}
-use Rattle.moving.specs.Stands.{Stands, nodes-sized, stands-sized, stands-long, registered-at, counter-at, acyclic-at, edge-at, word-at, count-at, mark-at, component-at, node-at}
+use Rattle.move_area.specs.NodeBodies.{Nodes, nodeBodies, tab-alike}
+use Rattle.moving.specs.Stands.{Stands, nodes-sized, stands-sized, stands-long, counter-at, acyclic-at, edge-at, word-at, count-at, mark-at, component-at, node-at}
 use Rattle.moving.specs.Areas.{registered}
 use Rattle.moving.specs.Grown.{Free, is-write}
 

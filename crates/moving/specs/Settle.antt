@@ -1,22 +1,20 @@
 -- Steps 2 and 3 with the target registered: what is asked, and that the area holds the next state. Assumes nothing.
-use mathlib.Core.Path.{_≡_, refl, sym, ap, ap₂, subst, _∙_}
+use mathlib.Core.Path.{_≡_, refl, sym, ap, _∙_}
 use mathlib.Core.Bool.{Bool, true, false, not, cond}
 use mathlib.Core.List.{List}
-use Prim.Native.Nat.{ℕ, _+_, _*_, _^_, _≤_, _<_}
+use Prim.Native.Nat.{ℕ, _+_, _*_, _≤_, _<_}
 use native.Mathlib.Omega.{arith}
 use native.Mathlib.Nat.{zero-add}
 use lib.Dec.{eqb}
-use lib.ListN.{length, getD, set, length-set}
-use borrow.Author.Tests.{eq-eqb, ne-eqb}
+use lib.ListN.{length, getD, set}
 use Rattle.graphs.specs.Count.{ind, count-ext}
 use Rattle.graphs.specs.Lists.{below, has-at}
-use Rattle.graphs.specs.Tab.{tab, tab-length, tab-at, is-tab}
+use Rattle.graphs.specs.Tab.{tab, tab-at, is-tab}
 use Rattle.graphs.specs.Walk.{via, cyclic}
 use Rattle.graphs.specs.Slots.{flat, slotEdge, Ends}
-use Rattle.walks.specs.Marks.{marking, marked}
-use Rattle.layout.specs.Patch.{patch, part, part-long, part-at}
-use Rattle.node_edges.specs.Matrix.{Holds, matrix}
-use Rattle.node_edges.specs.Steps.{Both}
+use Rattle.walks.specs.Marks.{marking}
+use Rattle.layout.specs.Patch.{part, part-long, part-at}
+use Rattle.node_edges.specs.Matrix.{matrix}
 use Rattle.ledger.specs.Graph.{Load, at}
 use Rattle.ledger.specs.Ledger.{register}
 use Rattle.ledger.specs.LoadLaws.{Loadable}
@@ -25,18 +23,18 @@ use Rattle.ledger.specs.Nodes.{Placing, sources, targets}
 use Rattle.ledger.specs.NodeMoves.{placing-set}
 use Rattle.placement.specs.SlotLaws.{Slotted, slotted-edge, slotted-ends}
 use Rattle.ledger.specs.NodeWalks.{ends-nodes}
-use Rattle.move_area.specs.Bodies.{laneAt, atomAt, write}
+use Rattle.move_area.specs.Bodies.{atomAt}
 use Rattle.move_area.specs.Area.{setsIn}
 use Rattle.move_area.specs.Checked.{nodesIn, nodesState}
 use Rattle.move_area.specs.NodeBodies.{Nodes, nodeEdge, tally, tab-alike}
 use Rattle.move_area.specs.Calls.{next}
 use Rattle.consistency.specs.Filled.{Filled}
-use Rattle.moving.specs.Stands.{Stands, stands-long, registered-at, counter-at, acyclic-at, edge-at, mark-at, marks-part, nodes-part}
+use Rattle.moving.specs.Stands.{Stands, stands-long, registered-at, counter-at, acyclic-at, edge-at, mark-at, marks-part}
 use Rattle.moving.specs.Areas.{counterIn, raised, committed}
 use Rattle.moving.specs.Changes.{with-marks, with-node, with-raised, stands-marks, stands-raised, raised-fresh, stands-committed}
 use Rattle.moving.specs.Outcome.{Trial, with-test, walk-marks, test-walk}
-use Rattle.moving.specs.Test.{CanAsk, CanTest, walk-area, closes, tested, marked-long}
-use Rattle.moving.specs.Commit.{CanFollow, CanCommit}
+use Rattle.moving.specs.Test.{CanTest, walk-area, closes, tested, marked-long}
+use Rattle.moving.specs.Commit.{CanCommit}
 use Rattle.moving.specs.Trial.{CanTrial}
 
 -- the flag tells whether the graph has a cycle

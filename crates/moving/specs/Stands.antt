@@ -1,6 +1,6 @@
 -- An area that holds a state by nodes, and what stands in its cells. Assumes nothing.
-use mathlib.Core.Path.{_≡_, refl, sym, ap, subst, _∙_}
-use mathlib.Core.Bool.{Bool, true, false, not}
+use mathlib.Core.Path.{_≡_, sym, ap, _∙_}
+use mathlib.Core.Bool.{true, not}
 use mathlib.Core.List.{List}
 use Prim.Native.Nat.{ℕ, _+_, _*_, _^_, _≤_, _<_}
 use native.Mathlib.Omega.{arith}
@@ -8,7 +8,7 @@ use native.Mathlib.Nat.{zero-add, pow-le-pow-right}
 use lib.ListN.{length, getD}
 use Rattle.graphs.specs.Count.{ind}
 use Rattle.graphs.specs.Lists.{below}
-use Rattle.graphs.specs.Tab.{tab, tab-length, tab-at, is-tab}
+use Rattle.graphs.specs.Tab.{tab-length, tab-at, is-tab}
 use Rattle.graphs.specs.Walk.{cyclic, only}
 use Rattle.graphs.specs.Slots.{flat}
 use Rattle.layout.specs.Patch.{part, part-at}
@@ -20,7 +20,7 @@ use Rattle.ledger.specs.LoadLaws.{InOrder}
 use Rattle.ledger.specs.Nodes.{Placing, sources, targets}
 use Rattle.move_area.specs.Bodies.{laneAt, atomAt, write, Sized}
 use Rattle.move_area.specs.BodyLaws.{write-long, read-edges, read-registered, read-counter, read-acyclic, read-words, read-counts, read-marks, read-component, read-nodes}
-use Rattle.move_area.specs.Area.{State, setsIn, decode, encode, consistent}
+use Rattle.move_area.specs.Area.{setsIn, decode, encode, consistent}
 use Rattle.move_area.specs.Held.{Held, consistent-held, consistent-whole}
 use Rattle.move_area.specs.NodeBodies.{Nodes, nodeEdge, tally, nodeBodies, stateOf, encode-nodes}
 use Rattle.move_area.specs.Checked.{nodesState, Ranged, sets-length, ranged-placing, consistent-ranged}
@@ -121,7 +121,7 @@ module _ {load : Load} {N : ℕ} {s : Nodes} {l₀ l : List ℕ} (v : Stands loa
   pub stands-encode : l ≡ encode load N (stateOf s) l₀
   stands-encode = v .is ∙ sym (encode-nodes load N s (v .order) (v .placing) (v .few) l₀)
 
-higher : (x e k : ℕ) → x < 2 ^ e → e ≤ k → x < 2 ^ k
+pub higher : (x e k : ℕ) → x < 2 ^ e → e ≤ k → x < 2 ^ k
 higher x e k h b = omega (arith, pow-le-pow-right {n = 2} (omega arith) {i = e} {j = k} b)
 
 -- a consistent area holds the state that it names

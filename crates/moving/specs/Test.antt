@@ -1,15 +1,15 @@
 -- Step 3's test: what is asked for it, its answer, and the marks that it leaves. Assumes nothing.
-use mathlib.Core.Path.{_≡_, refl, sym, ap, ap₂, _∙_}
+use mathlib.Core.Path.{_≡_, refl, ap, ap₂, _∙_}
 use mathlib.Core.Bool.{Bool, true, false, cond}
 use mathlib.Core.List.{List}
-use Prim.Native.Nat.{ℕ, _+_, _-_, _*_, _^_, _≤_, _<_}
+use Prim.Native.Nat.{ℕ, _+_, _-_, _*_, _≤_, _<_}
 use native.Mathlib.Omega.{arith}
 use lib.Dec.{eqb}
 use borrow.Author.Tests.{eq-eqb, ne-eqb}
 use lib.ListN.{length, getD, set, replicate, length-set, length-replicate, getD-replicate}
 use lib.Seq.{getD-set-other}
 use Rattle.graphs.specs.Lists.{below}
-use Rattle.graphs.specs.Tab.{tab, tab-length, tab-at}
+use Rattle.graphs.specs.Tab.{tab-length, tab-at}
 use Rattle.graphs.specs.Walk.{via, cyclic}
 use Rattle.graphs.specs.Slots.{slotEdge, Ends}
 use Rattle.neighbours.specs.Lists.{Graph}

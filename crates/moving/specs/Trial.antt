@@ -6,7 +6,7 @@ use Prim.Native.Nat.{ℕ, _+_, _-_, _*_, _≤_, _<_}
 use native.Mathlib.Omega.{arith}
 use native.Mathlib.Nat.{zero-add}
 use native.Mathlib.Decide.{ℕ-discrete}
-use lib.ListN.{length, getD, set, length-set, take, drop}
+use lib.ListN.{length, getD, set, length-set, take}
 use lib.Seq.{getD-set-same, getD-set-other, ext-getD}
 use Rattle.layout.specs.Patch.{patch, part, part-long, part-at, patch-long, patch-in}
 use Rattle.layout.specs.Lent.{mid-part}

@@ -1,42 +1,38 @@
 -- The answers of a move on a checked area, and that they are the ledger's. Assumes nothing.
-use mathlib.Core.Path.{_≡_, refl, sym, ap, ap₂, subst, _∙_}
+use mathlib.Core.Path.{_≡_, refl, sym, ap, subst, _∙_}
 use mathlib.Core.Bool.{Bool, true, false, not, cond, _&&_, true≢false}
 use mathlib.Core.List.{List}
 use Prim.Native.Nat.{ℕ, _+_, _*_, _^_, _≤_, _<_}
 use native.Mathlib.Omega.{arith}
-use native.Mathlib.Nat.{pow-le-pow-right}
 use lib.Dec.{eqb}
 use lib.ListN.{length, getD, set}
 use borrow.Author.Tests.{eqb-false, eq-eqb}
-use Rattle.graphs.specs.Bools.{fails}
 use Rattle.graphs.specs.Lists.{has, below}
 use Rattle.graphs.specs.Walk.{cyclic}
-use Rattle.graphs.specs.Slots.{slotEdge}
 use Rattle.entry_set.specs.Sets.{value, legal}
 use Rattle.ledger.specs.Graph.{Load, at}
 use Rattle.ledger.specs.Answer.{Answer, refused, accepted, rejected}
 use Rattle.ledger.specs.Ledger.{register, step1, full, move}
 use Rattle.ledger.specs.LoadLaws.{Loadable}
-use Rattle.ledger.specs.Nodes.{Placing, placed, sources, targets}
-use Rattle.ledger.specs.NodeMoves.{register-grows}
+use Rattle.ledger.specs.Nodes.{placed}
 use Rattle.placement.specs.SlotLaws.{Slotted}
 use Rattle.set_order.specs.Order.{laneSet, First}
 use Rattle.set_order.specs.Steps.{CanFind}
-use Rattle.move_area.specs.Bodies.{laneAt, atomAt, write, Sized}
+use Rattle.move_area.specs.Bodies.{laneAt, atomAt, write}
 use Rattle.move_area.specs.BodyLaws.{write-again}
-use Rattle.move_area.specs.Area.{State, setsIn, decode, encode, consistent}
+use Rattle.move_area.specs.Area.{setsIn, decode, encode, consistent}
 use Rattle.move_area.specs.Held.{consistent-whole}
 use Rattle.move_area.specs.Checked.{nodesIn, nodesState}
-use Rattle.move_area.specs.NodeBodies.{Nodes, nodeEdge, nodeBodies, stateOf}
+use Rattle.move_area.specs.NodeBodies.{Nodes, nodeEdge, nodeBodies}
 use Rattle.move_area.specs.Calls.{after}
 use Rattle.moving.specs.declared.Tried.{Tried}
 use Rattle.moving.specs.declared.Tried.the-variants.{Accepted, Rejected, Full}
-use Rattle.moving.specs.Stands.{Stands, stands-sized, stands-long, registered-at, counter-at, sets-in, node-at, marks-part, nodes-part, stands-encode, consistent-stands}
+use Rattle.moving.specs.Stands.{Stands, stands-sized, stands-long, registered-at, counter-at, sets-in, node-at, marks-part, nodes-part, stands-encode, higher, consistent-stands}
 use Rattle.moving.specs.Areas.{registered, CanRegister}
 use Rattle.moving.specs.Changes.{with-node}
 use Rattle.moving.specs.Grown.{write-over}
 use Rattle.moving.specs.Registering.{sources-register, targets-register}
-use Rattle.moving.specs.Outcome.{Trial, with-target, with-test, target-area, stands-target, trial-rejected, trial-accepted, early-rejected, early-full}
+use Rattle.moving.specs.Outcome.{Trial, with-target, with-test, stands-target, trial-rejected, trial-accepted, early-rejected, early-full}
 use Rattle.moving.specs.Early.{outside-step1, target-new, target-node, room-full}
 use Rattle.moving.specs.Settle.{CanSettle, Settled}
 
@@ -98,9 +94,6 @@ module _ {load : Load} {N : ℕ} {s : Nodes} {l₀ l : List ℕ} (v : Stands loa
         marks = v′ .marks;
         is = v′ .is ∙ ap (write N (nodeBodies load N s′)) (v .is) ∙ write-over N (load .A) (nodeBodies load N s) (nodeBodies load N s′) (stands-sized v) (stands-sized v′) more l₀;
       }
-
-higher : (x e k : ℕ) → x < 2 ^ e → e ≤ k → x < 2 ^ k
-higher x e k h b = omega (arith, pow-le-pow-right {n = 2} (omega arith) {i = e} {j = k} b)
 
 module _ {load : Load} {n : ℕ} {area : List ℕ} {atom T : ℕ} {s t : List ℕ} (can : CanTry load n area atom T s t) where
   abbrev st : Nodes

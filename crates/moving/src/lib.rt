@@ -1,5 +1,4 @@
 // A move on a consistent area, after the checks up to row 12: steps 1 to 3 and row 13.
-ghost use mathlib.Core.Path.{_≡_};
 ghost use Rattle.placement.specs.Slots.{lent};
 ghost use Rattle.entry_set.specs.Sets.{number};
 ghost use Rattle.moving.specs.Settle.{CanSettle, Settled};

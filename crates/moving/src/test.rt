@@ -1,7 +1,5 @@
 // Step 3's test: whether the graph of the moved placement has a cycle.
 ghost use mathlib.Core.Path.{_≡_};
-ghost use Prim.Native.Nat.{_+_, _*_, _≤_, _<_};
-ghost use lib.ListN.{length, getD};
 ghost use Rattle.graphs.specs.Lists.{below};
 ghost use Rattle.graphs.specs.Walk.{via, cyclic};
 ghost use Rattle.graphs.specs.Slots.{slotEdge};

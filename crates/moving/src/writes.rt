@@ -1,9 +1,9 @@
 // What the steps of a move write into the area.
 ghost use mathlib.Core.Path.{_≡_};
 ghost use mathlib.Core.Bool.{cond};
-ghost use Prim.Native.Nat.{_+_, _*_, _^_, _≤_, _<_};
+ghost use Prim.Native.Nat.{_+_, _*_, _≤_};
 ghost use lib.Dec.{eqb};
-ghost use lib.ListN.{length, getD};
+ghost use lib.ListN.{length};
 ghost use Rattle.entry_set.specs.Sets.{number};
 ghost use Rattle.move_area.specs.Calls.{next};
 ghost use Rattle.layout.specs.Patch.{patch, part};

@@ -1,14 +1,11 @@
+-- `no_room` meets its contract. Assumes nothing.
 use borrow.Author.Tests.{eq-eqb, ne-eqb}
 use Rattle.moving.proofs.early.no_room.Statement.{statement}
 use Rattle.moving.proofs.early.no_room.Tie as tie
-use Rattle.moving.proofs.early.no_room.Reads as reads
-use Rattle.moving.proofs.early.no_room.Lts as lts
 
--- src/early.rt:53:9
 returns : tie.Need-returns
 returns c = rw (ne-eqb _ _ (c .if1 .taken))
 
--- src/early.rt:49:1
 returns-2 : tie.Need-returns-2
 returns-2 c = rw (eq-eqb _ _ (c .if1 .left))
 

@@ -1,55 +1,42 @@
+-- `outside` meets its contract. Assumes nothing.
 use borrow.Author.Tests.{eq-eqb, ne-eqb}
 use borrow.Author.Needs.{needs}
 use Rattle.moving.proofs.early.outside.Statement.{statement}
 use Rattle.moving.proofs.early.outside.Tie as tie
-use Rattle.moving.proofs.early.outside.Reads as reads
-use Rattle.moving.proofs.early.outside.Lts as lts
 
--- src/early.rt:17:18
 mul-square : tie.Need-mul-square
 mul-square c = search needs
 
--- src/early.rt:18:13
 add-if1 : tie.Need-add-if1
 add-if1 c = search needs
 
--- src/early.rt:18:8
 mul-if1 : tie.Need-mul-if1
 mul-if1 c = search needs
 
--- src/early.rt:18:8
 shared-slice-read-if1 : tie.Need-shared-slice-read-if1
 shared-slice-read-if1 c = search needs
 
--- src/early.rt:19:9
 returns : tie.Need-returns
 returns c = rw (ne-eqb _ _ (c .if1 .taken))
 
--- src/early.rt:21:10
 add-result : tie.Need-add-result
 add-result c = search needs
 
--- src/early.rt:21:24
 mul-result : tie.Need-mul-result
 mul-result c = search needs
 
--- src/early.rt:21:10
 add-result-2 : tie.Need-add-result-2
 add-result-2 c = search needs
 
--- src/early.rt:21:10
 add-result-3 : tie.Need-add-result-3
 add-result-3 c = search needs
 
--- src/early.rt:21:5
 mul-result-2 : tie.Need-mul-result-2
 mul-result-2 c = search needs
 
--- src/early.rt:21:5
 shared-slice-read-result : tie.Need-shared-slice-read-result
 shared-slice-read-result c = search needs
 
--- src/early.rt:13:1
 returns-2 : tie.Need-returns-2
 returns-2 c = rw (eq-eqb _ _ (c .before .if1 .left))
 

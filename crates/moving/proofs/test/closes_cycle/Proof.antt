@@ -1,51 +1,37 @@
+-- `closes_cycle` meets its contract: a full search where the graph had a cycle, else the walk from the target. Assumes nothing.
 use Rattle.graphs.specs.Slots.{slotEdge}
 use Rattle.moving.specs.Test.{search-done, walk-can, walk-done}
 use borrow.Author.Needs.{needs}
 use Rattle.moving.proofs.test.closes_cycle.Statement.{statement}
 use Rattle.moving.proofs.test.closes_cycle.Tie as tie
-use Rattle.moving.proofs.test.closes_cycle.Reads as reads
-use Rattle.moving.proofs.test.closes_cycle.Lts as lts
-use Rattle.moving.proofs.test.has_cycle.Reads as has-cycle-reads
-use Rattle.moving.proofs.test.reaches_itself.Reads as reaches-itself-reads
-use Rattle.moving.proofs.writes.raise.Reads as raise-reads
 
--- src/test.rt:94:13
 mul-if1 : tie.Need-mul-if1
 mul-if1 c = search needs
 
--- src/test.rt:94:13
 add-if1 : tie.Need-add-if1
 add-if1 c = search needs
 
--- src/test.rt:94:8
 mul-if1-2 : tie.Need-mul-if1-2
 mul-if1-2 c = search needs
 
--- src/test.rt:94:8
 slice-read-if1 : tie.Need-slice-read-if1
 slice-read-if1 c = search needs
 
--- src/test.rt:95:9
 has-cycle-requires : tie.Need-has-cycle-requires
 has-cycle-requires c κs = search needs
 
--- src/test.rt:95:9
 returns : tie.Need-returns
 returns c = search-done (slotEdge (c .before .before .before .before .before .before .args .sources .now) (c .before .before .before .before .before .before .args .targets .now) (c .before .before .before .before .before .before .args .m)) (c .before .before .before .before .before .before .args .n) (c .before .before .before .before .before .before .args .to) (c .before .before .before .before .before .before .args .area .now) (c .before .if1 .taken) (c .has-cycle .ensures)
 
--- src/test.rt:97:9
 raise-requires : tie.Need-raise-requires
 raise-requires c κs = search needs
 
--- src/test.rt:98:5
 reaches-itself-requires : tie.Need-reaches-itself-requires
 reaches-itself-requires c κs = walk-can (c .before .before .before .before .before .before .before .before .before .before .pre) (c .before .before .before .raise .ensures .0) (c .before .before .before .raise .ensures .1)
 
--- src/test.rt:82:1
 same-length : tie.Need-same-length
 same-length c = search needs
 
--- src/test.rt:82:1
 returns-2 : tie.Need-returns-2
 returns-2 c = walk-done (slotEdge (c .before .before .before .before .before .before .before .before .before .before .before .before .before .args .sources .now) (c .before .before .before .before .before .before .before .before .before .before .before .before .before .args .targets .now) (c .before .before .before .before .before .before .before .before .before .before .before .before .before .args .m)) (c .before .before .before .before .before .before .before .before .before .before .before .before .before .args .n) (c .before .before .before .before .before .before .before .before .before .before .before .before .before .args .to) (c .before .before .before .before .before .before .before .before .before .before .before .before .before .args .area .now) (c .before .before .before .before .before .before .before .before .if1 .left) (c .before .before .before .before .before .before .raise .ensures .0) (c .before .before .before .before .before .before .raise .ensures .1) (c .before .before .reaches-itself .ensures)
 

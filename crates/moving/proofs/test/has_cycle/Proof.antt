@@ -1,3 +1,4 @@
+-- `has_cycle` meets its contract: the grouped slots are the neighbour lists of their graph. Assumes nothing.
 use mathlib.Core.Path.{ap, _∙_}
 use mathlib.Core.Bool.{Bool}
 use Prim.Native.Nat.{ℕ}
@@ -5,61 +6,44 @@ use native.Mathlib.Omega.{arith}
 use Rattle.graphs.specs.Lists.{below}
 use Rattle.graphs.specs.Walk.{cyclic}
 use Rattle.neighbours.specs.Grouped.{group-edges}
-use Rattle.depth_first.specs.Steps.{CanWalk}
 use Rattle.moving.specs.Test.{group-can, ask-graph}
 use borrow.Author.Needs.{needs}
 use Rattle.moving.proofs.test.has_cycle.Statement.{statement}
 use Rattle.moving.proofs.test.has_cycle.Tie as tie
-use Rattle.moving.proofs.test.has_cycle.Reads as reads
-use Rattle.moving.proofs.test.has_cycle.Lts as lts
-use Rattle.depth_first.proofs.has_cycle.Reads as has-cycle-reads
-use Rattle.neighbours.proofs.group.Reads as group-reads
 
--- src/test.rt:24:47
 slice-aggregate-group : tie.Need-slice-aggregate-group
 slice-aggregate-group c = search needs
 
--- src/test.rt:24:60
 slice-aggregate-group-2 : tie.Need-slice-aggregate-group-2
 slice-aggregate-group-2 c = search needs
 
--- src/test.rt:24:5
 group-requires : tie.Need-group-requires
 group-requires c κs = group-can (c .before .before .before .before .pre) (omega arith) (omega arith)
 
--- src/test.rt:27:9
 slice-aggregate-has-cycle : tie.Need-slice-aggregate-has-cycle
 slice-aggregate-has-cycle c = search needs
 
--- src/test.rt:28:9
 slice-aggregate-has-cycle-2 : tie.Need-slice-aggregate-has-cycle-2
 slice-aggregate-has-cycle-2 c = search needs
 
--- src/test.rt:29:9
 slice-aggregate-has-cycle-3 : tie.Need-slice-aggregate-has-cycle-3
 slice-aggregate-has-cycle-3 c = search needs
 
--- src/test.rt:31:9
 slice-aggregate-has-cycle-4 : tie.Need-slice-aggregate-has-cycle-4
 slice-aggregate-has-cycle-4 c = search needs
 
--- src/test.rt:32:9
 slice-aggregate-has-cycle-5 : tie.Need-slice-aggregate-has-cycle-5
 slice-aggregate-has-cycle-5 c = search needs
 
--- src/test.rt:33:9
 slice-aggregate-has-cycle-6 : tie.Need-slice-aggregate-has-cycle-6
 slice-aggregate-has-cycle-6 c = search needs
 
--- src/test.rt:34:9
 slice-aggregate-has-cycle-7 : tie.Need-slice-aggregate-has-cycle-7
 slice-aggregate-has-cycle-7 c = search needs
 
--- src/test.rt:35:9
 slice-aggregate-has-cycle-8 : tie.Need-slice-aggregate-has-cycle-8
 slice-aggregate-has-cycle-8 c = search needs
 
--- src/test.rt:25:5
 has-cycle-requires : tie.Need-has-cycle-requires
 has-cycle-requires c κs =
     let can = c .before .before .before .before .before .before .before .before .before .before .before .before .before .before .before .pre in
@@ -73,7 +57,6 @@ has-cycle-requires c κs =
       small = omega (arith, can .rows);
     }
 
--- src/test.rt:13:1
 returns : tie.Need-returns
 returns c = c .before .before .before .before .before .has-cycle .ensures ∙ ap (λ (f : ℕ → ℕ → Bool). cyclic f (below (c .before .before .before .before .before .before .before .before .before .before .before .before .before .before .before .before .before .before .before .before .before .args .n))) (group-edges (c .before .before .before .before .before .before .before .before .before .before .before .before .before .before .before .before .group .ensures) (c .before .before .before .before .before .before .before .before .before .before .before .before .before .before .before .before .before .before .before .before .before .pre .ends))
 

@@ -1,3 +1,4 @@
+-- `add_node` meets its contract. Assumes nothing.
 use Prim.Native.Nat.{_+_, _*_}
 use Rattle.entry_set.specs.Sets.{number}
 use Rattle.moving.specs.Areas.{written-long, registered-written}
@@ -6,71 +7,52 @@ use lib.ListN.{length-set}
 use borrow.Author.Needs.{needs}
 use Rattle.moving.proofs.writes.add_node.Statement.{statement}
 use Rattle.moving.proofs.writes.add_node.Tie as tie
-use Rattle.moving.proofs.writes.add_node.Reads as reads
-use Rattle.moving.proofs.writes.add_node.Lts as lts
-use Rattle.entry_set.proofs.write_lanes.Reads as write-lanes-reads
 
--- src/writes.rt:16:18
 mul-square : tie.Need-mul-square
 mul-square c = search needs
 
--- src/writes.rt:17:34
 add-write-lanes : tie.Need-add-write-lanes
 add-write-lanes c = search needs
 
--- src/writes.rt:17:34
 add-write-lanes-2 : tie.Need-add-write-lanes-2
 add-write-lanes-2 c = search needs
 
--- src/writes.rt:17:5
 write-lanes-requires : tie.Need-write-lanes-requires
 write-lanes-requires c κs = search needs
 
--- src/writes.rt:18:20
 cast-area : tie.Need-cast-area
 cast-area c = search needs
 
--- src/writes.rt:18:20
 add-area : tie.Need-add-area
 add-area c = search needs
 
--- src/writes.rt:18:5
 mul-area : tie.Need-mul-area
 mul-area c = search needs
 
--- src/writes.rt:18:5
 slice-write-area : tie.Need-slice-write-area
 slice-write-area c = search needs
 
--- src/writes.rt:19:10
 add-area-2 : tie.Need-add-area-2
 add-area-2 c = search needs
 
--- src/writes.rt:19:24
 mul-area-2 : tie.Need-mul-area-2
 mul-area-2 c = search needs
 
--- src/writes.rt:19:10
 add-area-3 : tie.Need-add-area-3
 add-area-3 c = search needs
 
--- src/writes.rt:19:10
 add-area-4 : tie.Need-add-area-4
 add-area-4 c = search needs
 
--- src/writes.rt:19:5
 mul-area-3 : tie.Need-mul-area-3
 mul-area-3 c = search needs
 
--- src/writes.rt:19:5
 slice-write-area-2 : tie.Need-slice-write-area-2
 slice-write-area-2 c = simp length-set (omega (arith, c .before .before .before .before .before .pre .free, c .before .before .before .before .before .pre .room, written-long (c .before .before .before .before .before .args .n) (c .before .before .before .before .before .args .n * c .before .before .before .before .before .args .n + 24 + c .before .before .before .before .before .args .r) (number (c .before .before .before .before .before .args .s)) (c .before .before .before .before .before .args .area .now) (c .before .before .write-lanes .ensures)))
 
--- src/writes.rt:12:1
 same-length : tie.Need-same-length
 same-length c = search needs
 
--- src/writes.rt:12:1
 returns : tie.Need-returns
 returns c = registered-written (c .before .before .before .before .before .args .n) (c .before .before .before .before .before .args .r) (number (c .before .before .before .before .before .args .s)) (c .before .before .before .before .before .args .area .now) (c .before .before .write-lanes .ensures)
 

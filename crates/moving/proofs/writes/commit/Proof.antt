@@ -1,3 +1,4 @@
+-- `commit` meets its contract. Assumes nothing.
 use native.Mathlib.Omega.{arith}
 use lib.ListN.{length-set}
 use Rattle.layout.specs.Patch.{part}
@@ -6,89 +7,64 @@ use Rattle.moving.specs.Commit.{commit-long, stored-long, commit-same, c
 use borrow.Author.Needs.{needs}
 use Rattle.moving.proofs.writes.commit.Statement.{statement}
 use Rattle.moving.proofs.writes.commit.Tie as tie
-use Rattle.moving.proofs.writes.commit.Reads as reads
-use Rattle.moving.proofs.writes.commit.Lts as lts
-use Rattle.layout.proofs.copy.Reads as copy-reads
-use Rattle.layout.proofs.fill_with.Reads as fill-with-reads
-use Rattle.moving.proofs.writes.follow.Reads as follow-reads
 
--- src/writes.rt:85:18
 mul-square : tie.Need-mul-square
 mul-square c = search needs
 
--- src/writes.rt:86:17
 add-lanes : tie.Need-add-lanes
 add-lanes c = search needs
 
--- src/writes.rt:87:5
 follow-requires : tie.Need-follow-requires
 follow-requires c κs = search needs
 
--- src/writes.rt:88:32
 mul-copy : tie.Need-mul-copy
 mul-copy c = search needs
 
--- src/writes.rt:88:24
 add-copy : tie.Need-add-copy
 add-copy c = search needs
 
--- src/writes.rt:88:5
 copy-requires : tie.Need-copy-requires
 copy-requires c κs = search needs
 
--- src/writes.rt:89:35
 cast-area : tie.Need-cast-area
 cast-area c = search needs
 
--- src/writes.rt:89:18
 mul-area : tie.Need-mul-area
 mul-area c = search needs
 
--- src/writes.rt:89:10
 add-area : tie.Need-add-area
 add-area c = search needs
 
--- src/writes.rt:89:10
 add-area-2 : tie.Need-add-area-2
 add-area-2 c = search needs
 
--- src/writes.rt:89:5
 mul-area-2 : tie.Need-mul-area-2
 mul-area-2 c = search needs
 
--- src/writes.rt:89:5
 slice-write-area : tie.Need-slice-write-area
 slice-write-area c = search needs
 
--- src/writes.rt:90:10
 add-area-3 : tie.Need-add-area-3
 add-area-3 c = search needs
 
--- src/writes.rt:90:5
 mul-area-3 : tie.Need-mul-area-3
 mul-area-3 c = search needs
 
--- src/writes.rt:90:5
 slice-write-area-2 : tie.Need-slice-write-area-2
 slice-write-area-2 c = simp length-set (omega (arith, commit-long (c .before .before .before .before .before .before .before .before .before .before .before .before .before .before .args .n) (c .before .before .before .before .before .before .before .before .before .before .before .before .before .before .args .atom) (c .before .before .before .before .before .before .before .before .before .before .before .before .before .before .args .to) (matrix (c .before .before .before .before .before .before .before .before .before .before .before .before .before .before .args .u .now) (c .before .before .before .before .before .before .before .before .before .before .before .before .before .before .args .v .now) (c .before .before .before .before .before .before .before .before .before .before .before .before .before .before .args .n) (c .before .before .before .before .before .before .before .before .before .before .before .before .before .before .args .m)) (part 0 (c .before .before .before .before .before .before .before .before .before .before .before .before .before .before .args .n) (c .before .before .before .before .before .before .before .before .before .before .before .before .before .before .args .counts .now)) (c .before .before .before .before .before .before .before .before .before .before .before .before .before .before .args .area .now) (c .before .before .before .before .before .before .follow .ensures) (c .before .before .copy .ensures), c .before .before .before .before .before .before .before .before .before .before .before .before .before .before .pre .follow .room))
 
--- src/writes.rt:91:37
 mul-fill-with : tie.Need-mul-fill-with
 mul-fill-with c = search needs
 
--- src/writes.rt:91:29
 add-fill-with : tie.Need-add-fill-with
 add-fill-with c = search needs
 
--- src/writes.rt:91:5
 fill-with-requires : tie.Need-fill-with-requires
 fill-with-requires c κs = omega (arith, stored-long (c .before .before .before .before .before .before .before .before .before .before .before .before .before .before .before .args .n) (c .before .before .before .before .before .before .before .before .before .before .before .before .before .before .before .args .atom) (c .before .before .before .before .before .before .before .before .before .before .before .before .before .before .before .args .to) (matrix (c .before .before .before .before .before .before .before .before .before .before .before .before .before .before .before .args .u .now) (c .before .before .before .before .before .before .before .before .before .before .before .before .before .before .before .args .v .now) (c .before .before .before .before .before .before .before .before .before .before .before .before .before .before .before .args .n) (c .before .before .before .before .before .before .before .before .before .before .before .before .before .before .before .args .m)) (part 0 (c .before .before .before .before .before .before .before .before .before .before .before .before .before .before .before .args .n) (c .before .before .before .before .before .before .before .before .before .before .before .before .before .before .before .args .counts .now)) (c .before .before .before .before .before .before .before .before .before .before .before .before .before .before .before .args .area .now) (c .before .before .before .before .before .before .before .follow .ensures) (c .before .before .before .copy .ensures), c .before .before .before .before .before .before .before .before .before .before .before .before .before .before .before .pre .follow .room)
 
--- src/writes.rt:70:1
 same-length : tie.Need-same-length
 same-length c = commit-same (c .before .before .before .before .before .before .before .before .before .before .before .before .before .before .before .before .before .before .args .n) (c .before .before .before .before .before .before .before .before .before .before .before .before .before .before .before .before .before .before .args .atom) (c .before .before .before .before .before .before .before .before .before .before .before .before .before .before .before .before .before .before .args .to) (matrix (c .before .before .before .before .before .before .before .before .before .before .before .before .before .before .before .before .before .before .args .u .now) (c .before .before .before .before .before .before .before .before .before .before .before .before .before .before .before .before .before .before .args .v .now) (c .before .before .before .before .before .before .before .before .before .before .before .before .before .before .before .before .before .before .args .n) (c .before .before .before .before .before .before .before .before .before .before .before .before .before .before .before .before .before .before .args .m)) (part 0 (c .before .before .before .before .before .before .before .before .before .before .before .before .before .before .before .before .before .before .args .n) (c .before .before .before .before .before .before .before .before .before .before .before .before .before .before .before .before .before .before .args .counts .now)) (c .before .before .before .before .before .before .before .before .before .before .before .before .before .before .before .before .before .before .args .area .now) (c .before .before .before .before .before .before .before .before .before .before .follow .ensures) (c .before .before .before .before .before .before .copy .ensures) (c .before .before .fill-with .ensures)
 
--- src/writes.rt:70:1
 returns : tie.Need-returns
 returns c = commit-done (c .before .before .before .before .before .before .before .before .before .before .before .before .before .before .before .before .before .before .args .n) (c .before .before .before .before .before .before .before .before .before .before .before .before .before .before .before .before .before .before .args .atom) (c .before .before .before .before .before .before .before .before .before .before .before .before .before .before .before .before .before .before .args .to) (matrix (c .before .before .before .before .before .before .before .before .before .before .before .before .before .before .before .before .before .before .args .u .now) (c .before .before .before .before .before .before .before .before .before .before .before .before .before .before .before .before .before .before .args .v .now) (c .before .before .before .before .before .before .before .before .before .before .before .before .before .before .before .before .before .before .args .n) (c .before .before .before .before .before .before .before .before .before .before .before .before .before .before .before .before .before .before .args .m)) (part 0 (c .before .before .before .before .before .before .before .before .before .before .before .before .before .before .before .before .before .before .args .n) (c .before .before .before .before .before .before .before .before .before .before .before .before .before .before .before .before .before .before .args .counts .now)) (c .before .before .before .before .before .before .before .before .before .before .before .before .before .before .before .before .before .before .args .area .now) (c .before .before .before .before .before .before .before .before .before .before .follow .ensures) (c .before .before .before .before .before .before .copy .ensures) (c .before .before .fill-with .ensures)
 

@@ -1,25 +1,19 @@
+-- `register` meets its contract. Assumes nothing.
 use mathlib.Core.Path.{refl}
 use borrow.Author.Tests.{eq-eqb, ne-eqb}
 use borrow.Author.Needs.{needs}
 use Rattle.moving.proofs.writes.register.Statement.{statement}
 use Rattle.moving.proofs.writes.register.Tie as tie
-use Rattle.moving.proofs.writes.register.Reads as reads
-use Rattle.moving.proofs.writes.register.Lts as lts
-use Rattle.moving.proofs.writes.add_node.Reads as add-node-reads
 
--- src/writes.rt:28:9
 add-node-requires : tie.Need-add-node-requires
 add-node-requires c κs = c .before .before .before .pre (c .before .if1 .taken)
 
--- src/writes.rt:23:1
 same-length : tie.Need-same-length
 same-length c = search needs
 
--- src/writes.rt:23:1
 returns : tie.Need-returns
 returns c = rw (eq-eqb _ _ (c .before .before .before .before .if1 .taken)) (c .before .before .add-node .ensures)
 
--- src/writes.rt:23:1
 returns-2 : tie.Need-returns-2
 returns-2 c = rw (ne-eqb _ _ (c .if1 .left)) refl
 
