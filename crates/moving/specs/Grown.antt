@@ -22,7 +22,7 @@ under-clear {fs} {gs} {k} u c = record { of = λ f i. go u (c .of) f i }
     go (next {f} {g} e h u) c _ (here) z = omega (arith, c g here (omega arith))
     go (next e h u) c f (there i) z = go u (λ g j. c g (there j)) f i z
 
--- where the words of node r stand
+-- the lane of word j
 pub in-words : (n : ℕ) (b : Bodies) (j : ℕ) → j < 8 → In (field (laneAt n j) (b .words j)) (fieldsOf n b)
 in-words n b zero h = there (there here)
 in-words n b (suc zero) h = there (there (there here))
@@ -34,7 +34,7 @@ in-words n b (suc (suc (suc (suc (suc (suc zero)))))) h = there (there (there (t
 in-words n b (suc (suc (suc (suc (suc (suc (suc zero))))))) h = there (there (there (there (there (there (there (there (there here))))))))
 in-words n b (suc (suc (suc (suc (suc (suc (suc (suc j)))))))) h = absurd (omega arith)
 
--- a place that no field has: none of these
+-- k is none of the places that registering node r writes
 pub record Free (n r k : ℕ) : Type 0 where
   pub header : k ≡ n * n → ⊥
   pub mark : k ≡ laneAt n 9 + r → ⊥

@@ -71,16 +71,12 @@ closes e n y l = cond (was-cyclic n l) (cyclic e (below n)) (via e (below n) y y
 unfoldable pub tested : (ℕ → ℕ → Bool) → ℕ → ℕ → List ℕ → List ℕ
 tested e n y l = cond (was-cyclic n l) l (walk-area e n (next (counterIn n l)) y (raised n l))
 
--- laws for the code
+-- the slots grouped by source are the graph's neighbour lists
 pub group-can : {s t : List ℕ} {m n : ℕ} {l out : List ℕ} → CanAsk s t m n → length l ≡ 1025 → length out ≡ 8448 → CanGroup s t m n l out
 group-can can a b = record { slots = can .slots; keys = can .sources; values = can .targets; rows = omega (arith, can .rows); within = can .ends .source; room = omega (arith, can .slots) }
 
 pub ask-graph : {s t : List ℕ} {m n : ℕ} {l l′ out out′ : List ℕ} → CanAsk s t m n → length l ≡ 1025 → length out ≡ 8448 → Grouped s t m n l l′ out out′ → Graph l′ out′ n
 ask-graph can a b g = group-graph g (can .ends) (omega (arith, can .rows)) (omega (arith, can .slots)) (omega arith)
-
-pub walk-long : (e : ℕ → ℕ → Bool) (n counter y : ℕ) (l : List ℕ) → length (walk-area e n counter y l) ≡ length l
-unfolding walk-area
-walk-long e n counter y l = patch-long (laneAt n 9) (marked e n counter y (part (laneAt n 9) n l)) l
 
 pub marked-long : (e : ℕ → ℕ → Bool) (n counter y : ℕ) (l : List ℕ) → length (marked e n counter y l) ≡ length l
 unfolding marking
