@@ -1,2 +1,3 @@
 -- The definitions that the contracts of `loading` cite. Assumes nothing.
 pub mod Start
+pub mod Steps

@@ -11,15 +11,12 @@ use Rattle.loading.proofs.start.lent_word.Lts as lts
 use Rattle.entry_set.proofs.set_at.Reads as set-at-reads
 use Rattle.entry_set.proofs.word.Reads as word-reads
 
--- src/start.rt:18:21
 set-at-requires : tie.Need-set-at-requires
 set-at-requires c κs = search needs
 
--- src/start.rt:18:5
 word-requires : tie.Need-word-requires
 word-requires c κs = search needs
 
--- src/start.rt:14:1
 returns : tie.Need-returns
 returns c = c .word .ensures ∙ ap (λ (X : ℕ). getD (parts 32 8 X) (c .before .before .before .args .j) 0) (c .before .set-at .ensures .value)
 

@@ -14,43 +14,33 @@ Inv-loop area₀ at k i₀ area i = Tabbing (λ (x : ℕ). x) area₀ at k i are
 abbrev μ-loop : tie.MeasureT-loop
 μ-loop area₀ at k i₀ area i = k - i
 
--- src/start.rt:55:5
 loop-holds : tie.Need-loop-holds Inv-loop μ-loop
 loop-holds c = tab-none
 
--- src/start.rt:56:24
 cast-area : tie.Need-cast-area Inv-loop μ-loop
 cast-area c = omega arith
 
--- src/start.rt:56:14
 add-area : tie.Need-add-area Inv-loop μ-loop
 add-area c = omega arith
 
--- src/start.rt:56:9
 mul-area : tie.Need-mul-area Inv-loop μ-loop
 mul-area c = omega arith
 
--- src/start.rt:56:9
 slice-write-area : tie.Need-slice-write-area Inv-loop μ-loop
 slice-write-area c = omega arith
 
--- src/start.rt:57:9
 add-i : tie.Need-add-i Inv-loop μ-loop
 add-i c = omega arith
 
--- src/start.rt:55:5
 loop-less : tie.Need-loop-less Inv-loop μ-loop
 loop-less c = omega arith
 
--- src/start.rt:55:5
 loop-again : tie.Need-loop-again Inv-loop μ-loop
 loop-again c = tab-more (c .before .loop .inv) _ refl (c .loop-test .taken) (c .before .before .pre .0)
 
--- src/start.rt:50:1
 same-length : tie.Need-same-length Inv-loop μ-loop
 same-length c = c .before .loop .inv .long
 
--- src/start.rt:50:1
 returns : tie.Need-returns Inv-loop μ-loop
 returns c = tab-done (c .before .loop .inv) (omega arith)
 

@@ -1,7 +1,5 @@
 -- `loading::start::write_start` meets its contract. Assumes nothing.
-use mathlib.Core.Path.{ap, _∙_}
 use native.Mathlib.Omega.{arith}
-use lib.ListN.{length}
 use Rattle.loading.proofs.Starting.{words-can, start-written}
 use borrow.Author.Needs.{needs}
 use Rattle.loading.proofs.start.write_start.Statement.{statement}
@@ -14,79 +12,60 @@ use Rattle.loading.proofs.start.write_header.Reads as write-header-read
 use Rattle.loading.proofs.start.write_numbers.Reads as write-numbers-reads
 use Rattle.loading.proofs.start.write_sets.Reads as write-sets-reads
 
--- src/start.rt:76:18
 mul-square : tie.Need-mul-square
 mul-square c = search needs
 
--- src/start.rt:77:5
 write-header-requires : tie.Need-write-header-requires
 write-header-requires c κs = search needs
 
--- src/start.rt:78:31
 set-width-requires : tie.Need-set-width-requires
 set-width-requires c κs = search needs
 
--- src/start.rt:78:5
 write-sets-requires : tie.Need-write-sets-requires
 write-sets-requires c κs = words-can (c .before .before .before .before .before .before .before .before .pre) (omega arith) (c .set-width .ensures)
 
--- src/start.rt:79:17
 add-lanes : tie.Need-add-lanes
 add-lanes c = search needs
 
--- src/start.rt:80:37
 mul-fill-with : tie.Need-mul-fill-with
 mul-fill-with c = search needs
 
--- src/start.rt:80:29
 add-fill-with : tie.Need-add-fill-with
 add-fill-with c = search needs
 
--- src/start.rt:80:5
 fill-with-requires : tie.Need-fill-with-requires
 fill-with-requires c κs = search needs
 
--- src/start.rt:81:37
 mul-fill-with-2 : tie.Need-mul-fill-with-2
 mul-fill-with-2 c = search needs
 
--- src/start.rt:81:29
 add-fill-with-2 : tie.Need-add-fill-with-2
 add-fill-with-2 c = search needs
 
--- src/start.rt:81:5
 fill-with-requires-2 : tie.Need-fill-with-requires-2
 fill-with-requires-2 c κs = search needs
 
--- src/start.rt:82:37
 mul-fill-with-3 : tie.Need-mul-fill-with-3
 mul-fill-with-3 c = search needs
 
--- src/start.rt:82:29
 add-fill-with-3 : tie.Need-add-fill-with-3
 add-fill-with-3 c = search needs
 
--- src/start.rt:82:5
 fill-with-requires-3 : tie.Need-fill-with-requires-3
 fill-with-requires-3 c κs = search needs
 
--- src/start.rt:83:33
 mul-write-numbers : tie.Need-mul-write-numbers
 mul-write-numbers c = search needs
 
--- src/start.rt:83:25
 add-write-numbers : tie.Need-add-write-numbers
 add-write-numbers c = search needs
 
--- src/start.rt:83:5
 write-numbers-requires : tie.Need-write-numbers-requires
 write-numbers-requires c κs = search needs
 
--- src/start.rt:72:1
 same-length : tie.Need-same-length
 same-length c = search needs
 
--- src/start.rt:72:1
 returns : tie.Need-returns
 returns c = start-written (c .before .before .before .before .before .before .before .before .before .before .before .before .before .before .before .before .before .before .before .before .before .before .before .before .before .before .before .args .a) (c .before .before .before .before .before .before .before .before .before .before .before .before .before .before .before .before .before .before .before .before .before .before .before .before .before .before .before .args .e) (c .before .before .before .before .before .before .before .before .before .before .before .before .before .before .before .before .before .before .before .before .before .before .before .before .before .before .before .args .n) (c .before .before .before .before .before .before .before .before .before .before .before .before .before .before .before .before .before .before .before .set-width .result) (c .before .before .before .before .before .before .before .before .before .before .before .before .before .before .before .before .before .before .before .before .before .before .before .before .before .before .before .args .sets .now) (c .before .before .before .before .before .before .before .before .before .before .before .before .before .before .before .before .before .before .before .before .before .before .before .before .before .before .before .args .area .now) (c .before .before .before .before .before .before .before .before .before .before .before .before .before .before .before .before .before .before .before .set-width .ensures) (c .before .before .before .before .before .before .before .before .before .before .before .before .before .before .before .before .before .before .before .before .before .before .before .write-header .ensures) (c .before .before .before .before .before .before .before .before .before .before .before .before .before .before .before .before .before .before .write-sets .ensures) (c .before .before .before .before .before .before .before .before .before .before .before .before .before .before .fill-with .ensures) (c .before .before .before .before .before .before .before .before .before .before .fill-with2 .ensures) (c .before .before .before .before .before .before .fill-with3 .ensures) (c .before .before .write-numbers .ensures)
 

@@ -1,4 +1,3 @@
-use mathlib.Core.Path.{refl, sym, ap, _∙_}
 -- `loading::start::write_words` meets its contract. Assumes nothing.
 use mathlib.Core.Path.{refl}
 use Prim.Native.Nat.{ℕ, _-_}
@@ -18,59 +17,45 @@ Inv-loop area₀ n sets w a j at i₀ area i = Tabbing (lentWord w sets j) area�
 abbrev μ-loop : tie.MeasureT-loop
 μ-loop area₀ n sets w a j at i₀ area i = a - i
 
--- src/start.rt:26:14
 mul-at : tie.Need-mul-at Inv-loop μ-loop
 mul-at c = omega arith
 
--- src/start.rt:26:14
 add-at : tie.Need-add-at Inv-loop μ-loop
 add-at c = omega arith
 
--- src/start.rt:26:27
 mul-at-2 : tie.Need-mul-at-2 Inv-loop μ-loop
 mul-at-2 c = omega (arith, lane-room (c .before .before .pre .0) (c .before .before .args .j) (c .before .before .pre .1))
 
--- src/start.rt:26:14
 add-at-2 : tie.Need-add-at-2 Inv-loop μ-loop
 add-at-2 c = omega (arith, lane-room (c .before .before .pre .0) (c .before .before .args .j) (c .before .before .pre .1))
 
--- src/start.rt:28:5
 loop-holds : tie.Need-loop-holds Inv-loop μ-loop
 loop-holds c = tab-none
 
--- src/start.rt:29:24
 lent-word-requires : tie.Need-lent-word-requires Inv-loop μ-loop
 lent-word-requires c κs = (c .before .before .before .before .pre .0 .narrow, set-room (c .before .before .before .before .pre .0) _ (c .loop-test .taken), c .before .before .before .before .pre .1)
 
--- src/start.rt:29:14
 add-area : tie.Need-add-area Inv-loop μ-loop
 add-area c = omega (arith, lane-room (c .before .before .before .before .before .pre .0) (c .before .before .before .before .before .args .j) (c .before .before .before .before .before .pre .1))
 
--- src/start.rt:29:9
 mul-area : tie.Need-mul-area Inv-loop μ-loop
 mul-area c = omega (arith, lane-room (c .before .before .before .before .before .pre .0) (c .before .before .before .before .before .args .j) (c .before .before .before .before .before .pre .1))
 
--- src/start.rt:29:9
 slice-write-area : tie.Need-slice-write-area Inv-loop μ-loop
 slice-write-area c = omega (arith, lane-room (c .before .before .before .before .before .pre .0) (c .before .before .before .before .before .args .j) (c .before .before .before .before .before .pre .1))
 
--- src/start.rt:30:9
 add-i : tie.Need-add-i Inv-loop μ-loop
 add-i c = omega arith
 
--- src/start.rt:28:5
 loop-less : tie.Need-loop-less Inv-loop μ-loop
 loop-less c = omega arith
 
--- src/start.rt:28:5
 loop-again : tie.Need-loop-again Inv-loop μ-loop
 loop-again c = tab-more (c .before .before .loop .inv) _ (c .lent-word .ensures) (c .before .loop-test .taken) (lane-room (c .before .before .before .before .before .pre .0) (c .before .before .before .before .before .args .j) (c .before .before .before .before .before .pre .1))
 
--- src/start.rt:22:1
 same-length : tie.Need-same-length Inv-loop μ-loop
 same-length c = c .before .loop .inv .long
 
--- src/start.rt:22:1
 returns : tie.Need-returns Inv-loop μ-loop
 returns c = tab-done (c .before .loop .inv) (omega arith)
 
