@@ -19,7 +19,7 @@ use Rattle.merge_state.specs.Loading.{twice}
 use Rattle.merge_state.specs.Table.{first-fitting}
 use Rattle.merge_area.specs.Calls.{standing}
 use Rattle.merge_area.specs.Layout.{cell, head, set-place}
-use Rattle.merge_area.specs.Consistent.{over, short, misfit, faults, head-fault, row-fault, flags-fault, index-faults, out-of-range, sets-fault, inconsistent}
+use Rattle.merge_area.specs.Consistent.{over, short, faults, head-fault, row-fault, flags-fault, index-faults, out-of-range, sets-fault, inconsistent}
 
 -- counting on by one
 pub counted : (p : ℕ → Bool) (i : ℕ) {b m : ℕ} → b ≡ count p i → m ≡ ind (p i) → b + m ≡ count p (i + 1)

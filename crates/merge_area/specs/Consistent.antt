@@ -9,7 +9,7 @@ use Rattle.graphs.specs.Count.{count}
 use Rattle.graphs.specs.Lists.{some-below}
 use Rattle.entry_set.specs.Lanes.{lanes}
 use Rattle.merge_state.specs.declared.Sizes.{Sizes}
-use Rattle.merge_state.specs.State.{None}
+use Rattle.merge_state.specs.State.{misfit}
 use Rattle.merge_state.specs.Loading.{twice}
 use Rattle.merge_area.specs.Layout.{room, cell, head, set-place, set-chunk, need, key, home, entry-chunk, entry-module}
 
@@ -20,10 +20,6 @@ over z = eqb (z .chunks) 0 || (ltb 1024 (z .chunks) || (ltb 4096 (z .modules) ||
 -- row 15: "area below C×C + 32×(C + M + L + 1)"
 unfoldable pub short : Sizes → List ℕ → Bool
 short z a = ltb (length a) (room z)
-
--- v isn't below top, nor None where that is allowed
-unfoldable pub misfit : ℕ → Bool → ℕ → Bool
-misfit top free v = leb top v && not (free && eqb v None)
 
 -- how many of the n numbers from `at` on misfit
 unfoldable pub faults : List ℕ → ℕ → ℕ → ℕ → Bool → ℕ

@@ -10,11 +10,11 @@ ghost use Rattle.graphs.specs.Count.{ind};
 ghost use Rattle.graphs.specs.Lists.{some-below};
 ghost use Rattle.entry_set.specs.Sets.{number, Holds};
 ghost use Rattle.entry_set.specs.Lanes.{lanes};
-ghost use Rattle.merge_state.specs.State.{chunk-of};
+ghost use Rattle.merge_state.specs.State.{chunk-of, misfit};
 ghost use Rattle.merge_state.specs.Loading.{came-before, twice};
 ghost use Rattle.merge_area.specs.Layout.{room, cell, head, set-place};
 ghost use Rattle.merge_area.specs.Read.{named-set, pairs};
-ghost use Rattle.merge_area.specs.Consistent.{over, short, misfit, Faults, row-fault, flags-fault, head-fault, index-faults, out-of-range, sets-fault, inconsistent};
+ghost use Rattle.merge_area.specs.Consistent.{over, short, Faults, row-fault, flags-fault, head-fault, index-faults, out-of-range, sets-fault, inconsistent};
 ghost use Rattle.merge_area.specs.Calls.{standing};
 ghost use Rattle.merge_area.specs.Within.{Within, Headed, Tabled};
 

@@ -9,15 +9,15 @@ use mathlib.Core.Bool.{Bool, true, false, not, cond, _&&_, _||_}
 use mathlib.Core.List.{List, [], _∷_, _++_}
 use lib.ListN.{getD, length}
 use lib.Dec.{eqb, leb, ltb}
-use borrow.Author.Tests.{eqb-true, eqb-false, leb-false, ltb-true, ltb-false, not-true, not-false}
+use borrow.Author.Tests.{eqb-true, eqb-false, ne-eqb, leb-false, ltb-true, ltb-false, not-true, not-false}
 use Rattle.graphs.specs.Bools.{and-left, and-right, and-both, or-false-left, or-false-right, fails}
 use Rattle.graphs.specs.Count.{count, count-yes, count-mono}
 use Rattle.graphs.specs.Lists.{some-below, some-none}
 use Rattle.entry_set.specs.Sets.{value, width, legal}
 use Rattle.merge_state.specs.declared.Sizes.{Sizes}
-use Rattle.merge_state.specs.State.{None, Graph, chunk-of}
+use Rattle.merge_state.specs.State.{None, Graph, chunk-of, misfit}
 use Rattle.merge_state.specs.Methods.{Passed, merged, created-chunk, warn, merges, candidate, passed}
-use Rattle.merge_state.specs.Table.{Call, init-module-assignment, add-module-to-chunk, register-chunk-graph-index, to-temp-idx, calc-chunk-dependencies, would-create-circular-dependency, is-reachable, merge-chunk-dependencies, pass, first-fitting, unfair, later, acted}
+use Rattle.merge_state.specs.Table.{Call, init-module-assignment, add-module-to-chunk, register-chunk-graph-index, to-temp-idx, calc-chunk-dependencies, would-create-circular-dependency, is-reachable, merge-chunk-dependencies, pass, first-fitting, stray, later, acted}
 use Rattle.merge_state.specs.Ordered.{Ordered, never, appended-kept, registered-kept, created-chunk-kept, merged-kept, calculated-kept, assigned-kept}
 
 -- no row fits: the first doesn't, nor a later one
@@ -36,19 +36,23 @@ default-out [] i d h = refl
 default-out (a ∷ l) zero d h = absurd (h (omega arith))
 default-out (a ∷ l) (suc i) d h = default-out l i d (λ b. h (omega arith))
 
+-- no number of a list strays
+module _ (top : ℕ) (l : List ℕ) where
+  pub no-stray : stray top false l ≡ false → (i : ℕ) → i < length l → getD l i 0 < top
+  unfolding stray misfit
+  no-stray h i b = leb-false top (getD l i 0) (fails _ (λ q. never _ (and-both _ _ q refl) (some-none (λ i. misfit top false (getD l i 0)) (length l) h i b)))
+
+  pub no-stray-but : stray top true l ≡ false → (i : ℕ) → i < length l → (getD l i 0 ≡ None → ⊥) → getD l i 0 < top
+  unfolding stray misfit
+  no-stray-but h i b n =
+      leb-false top (getD l i 0) (fails _ (λ q. never _ (and-both _ _ q (ap not (ne-eqb (getD l i 0) None n))) (some-none (λ i. misfit top true (getD l i 0)) (length l) h i b)))
+
 -- a proposal is None or initial
-pub proposal : (g : Graph) (l : List ℕ) → unfair g l ≡ false → (i : ℕ) → (getD l i None ≡ None → ⊥) → getD l i None < g .initial
-unfolding unfair
+pub proposal : (g : Graph) (l : List ℕ) → stray (g .initial) true l ≡ false → (i : ℕ) → (getD l i None ≡ None → ⊥) → getD l i None < g .initial
 proposal g l h i n = elim (decLt i (length l)) [
-  | yes b ↦
-      let e = default-in l i None b in
-      let t = some-none (λ i. not (eqb (getD l i 0) None) && leb (g .initial) (getD l i 0)) (length l) h i b in
-      rw e (leb-false (g .initial) (getD l i 0) (fails _ (λ q. never _ (and-both (not (eqb (getD l i 0) None)) _ (ap not (proposed (rw e at n))) q) t)))
+  | yes b ↦ let e = default-in l i None b in rw e (no-stray-but (g .initial) l h i b (rw e at n))
   | no b ↦ absurd (n (default-out l i None b))
 ]
-  where
-    proposed : (getD l i 0 ≡ None → ⊥) → eqb (getD l i 0) None ≡ false
-    proposed k = fails _ (λ q. k (eqb-true (getD l i 0) None q))
 
 -- after the chunks below k
 pub record Passing (z : Sizes) (g : Graph) (k : ℕ) (r : Passed) : Type 0 where
@@ -88,7 +92,7 @@ module _ {z : Sizes} {g : Graph} (room : g .initial + g .created + count (g .nee
             created = omega (arith, next, v .created);
           }
 
-  pub passed-kept : Ordered z g → (props bars : List ℕ) → unfair g props ≡ false → (k : ℕ) → k ≤ g .made → Passing z g k (passed g props bars k)
+  pub passed-kept : Ordered z g → (props bars : List ℕ) → stray (g .initial) true props ≡ false → (k : ℕ) → k ≤ g .made → Passing z g k (passed g props bars k)
   unfolding passed
   passed-kept o props bars f zero h = record { ordered = o; initial = refl; made = refl; created = omega arith }
   passed-kept o props bars f (suc k) h = go (g .needs k) refl (passed-kept o props bars f k (omega arith))

@@ -16,10 +16,10 @@ use Rattle.entry_set.specs.Sets.{value, width, legal}
 use Rattle.merge_state.specs.declared.Sizes.{Sizes}
 use Rattle.merge_state.specs.State.{None, Graph, at}
 use Rattle.merge_state.specs.Methods.{appended}
-use Rattle.merge_state.specs.Table.{first-fitting, bad-starts, reaches}
+use Rattle.merge_state.specs.Table.{first-fitting, falling, bad-starts, stray}
 use Rattle.merge_state.specs.Loading.{Lent, lister, set-at, pairs-of, pairs, loaded, came-before, twice, over-load, bad-load, later-load, load}
 use Rattle.merge_state.specs.Ordered.{Ordered, one-longer, at-old, at-new, each-more, appended-kept}
-use Rattle.merge_state.specs.Kept.{none-fits}
+use Rattle.merge_state.specs.Kept.{none-fits, no-stray}
 
 pub pairs-length : (w : ℕ) (flat homes : List ℕ) (k : ℕ) → length (pairs-of w flat homes k) ≡ k
 unfolding pairs-of
@@ -69,12 +69,8 @@ pub record Allowed (z : Sizes) (n : Lent) : Type 0 where
   pub distinct : (i j : ℕ) → i < j → j < length (n .chunks) → value (set-at (width (z .bits)) (n .flat) i) ≡ value (set-at (width (z .bits)) (n .flat) j) → ⊥
   pub room : length (n .modules) ≤ z .entries
 
-none-reaches : (l : List ℕ) (v : ℕ) → reaches l v ≡ false → (i : ℕ) → i < length l → getD l i 0 < v
-unfolding reaches
-none-reaches l v h i b = leb-false v (getD l i 0) (some-none (λ i. leb v (getD l i 0)) (length l) h i b)
-
 pub allowed : (z : Sizes) (n : Lent) → over-load z n ≡ false → bad-load z n ≡ false → first-fitting (later-load z n) ≡ 0 → Allowed z n
-unfolding over-load bad-load bad-starts later-load twice came-before
+unfolding over-load bad-load bad-starts falling later-load twice came-before
 allowed z n a b c =
     let w = width (z .bits) in
     let p = length (n .chunks) in
@@ -86,7 +82,7 @@ allowed z n a b c =
     let st₁ = or-false-right (not (eqb (length (n .starts)) (n .initial + 1))) _ st in
     let st₂ = or-false-right (not (eqb (getD (n .starts) 0 0) 0)) _ st₁ in
     let st₃ = or-false-right (not (eqb (getD (n .starts) (n .initial) 0) (length (n .modules)))) _ st₂ in
-    let indices = or-false-right (reaches (n .modules) (z .modules)) _ (h₁ .0) in
+    let indices = or-false-right (stray (z .modules) false (n .modules)) _ (h₁ .0) in
     record {
       few = ltb-false _ _ (or-false-left (ltb (z .chunks) (n .initial)) _ a);
       few-pairs = ltb-false _ _ (or-false-right (ltb (z .chunks) (n .initial)) _ a);
@@ -96,9 +92,9 @@ allowed z n a b c =
       rising = λ i h. ltb-false _ _ (some-none (λ i. ltb (getD (n .starts) (i + 1) 0) (getD (n .starts) i 0)) (n .initial) st₃ i h);
       flat = eqb-true _ _ (not-false _ (or-false-left (not (eqb (length (n .flat)) (p * w))) _ rest));
       effects = eqb-true _ _ (not-false _ (or-false-right (not (eqb (length (n .flat)) (p * w))) _ rest));
-      modules = none-reaches (n .modules) (z .modules) (or-false-left (reaches (n .modules) (z .modules)) _ (h₁ .0));
+      modules = no-stray (z .modules) (n .modules) (or-false-left (stray (z .modules) false (n .modules)) _ (h₁ .0));
       sets = λ i h. ltb-true _ _ (and-right (eqb (length (set-at w (n .flat) i)) w) _ (not-false _ (some-none (λ i. not (legal (z .bits) (set-at w (n .flat) i))) p (or-false-left (some-below (λ i. not (legal (z .bits) (set-at w (n .flat) i))) p) _ indices) i h)));
-      chunks = none-reaches (n .chunks) (n .initial) (or-false-right (some-below (λ i. not (legal (z .bits) (set-at w (n .flat) i))) p) _ indices);
+      chunks = no-stray (n .initial) (n .chunks) (or-false-right (some-below (λ i. not (legal (z .bits) (set-at w (n .flat) i))) p) _ indices);
       distinct = λ i j l h. eqb-false _ _ (some-none (λ i. eqb (value (set-at w (n .flat) i)) (value (set-at w (n .flat) j))) j (some-none (came-before (λ i. value (set-at w (n .flat) i))) p (h₂ .0) j h) i l);
       room = ltb-false _ _ (h₃ .0);
     }

@@ -10,7 +10,7 @@ use Rattle.entry_set.specs.Sets.{value, legal, width}
 use Rattle.merge_state.specs.declared.Sizes.{Sizes}
 use Rattle.merge_state.specs.State.{None, Graph, at}
 use Rattle.merge_state.specs.Methods.{appended}
-use Rattle.merge_state.specs.Table.{first-fitting, bad-starts, other-length, reaches}
+use Rattle.merge_state.specs.Table.{first-fitting, bad-starts, other-length, stray}
 
 -- What `new` is lent: how many chunks are initial, their modules by starts, the sets of the pairs one after the other, the pairs' chunks,
 -- and the modules' side effects
@@ -72,7 +72,7 @@ unfoldable pub later-load : Sizes → Lent → List (Bool × ℕ)
 later-load z n =
     let w = width (z .bits) in
     let p = length (n .chunks) in
-    (reaches (n .modules) (z .modules) || (some-below (λ i. not (legal (z .bits) (set-at w (n .flat) i))) p || reaches (n .chunks) (n .initial)), 16)
+    (stray (z .modules) false (n .modules) || (some-below (λ i. not (legal (z .bits) (set-at w (n .flat) i))) p || stray (n .initial) false (n .chunks)), 16)
     ∷ (twice (λ i. value (set-at w (n .flat) i)) p, 17) ∷ (ltb (z .entries) (length (n .modules)), 19) ∷ []
 
 -- the first fitting row, 0 where none fits, and the graph then

@@ -1,10 +1,10 @@
 -- The merge graph's state. Sentences quoted are document 01's. Assumes nothing.
 use Prim.Native.Nat.{ℕ}
 use mathlib.Core.Path.{_≡_, refl, ap}
-use mathlib.Core.Bool.{Bool, not, cond}
+use mathlib.Core.Bool.{Bool, not, cond, _&&_}
 use mathlib.Core.List.{List, [], _∷_}
 use lib.ListN.{getD}
-use lib.Dec.{eqb}
+use lib.Dec.{leb, eqb}
 use borrow.Author.Tests.{eq-eqb, ne-eqb}
 
 -- "None" is 4,294,967,295
@@ -58,3 +58,7 @@ flag l i = yes (getD l i 0)
 -- an entry of a list of pairs
 abbrev pub at : List (ℕ × ℕ) → ℕ → ℕ × ℕ
 at l i = getD l i (0, 0)
+
+-- v isn't below top, nor None where that is allowed
+unfoldable pub misfit : ℕ → Bool → ℕ → Bool
+misfit top free v = leb top v && not (free && eqb v None)

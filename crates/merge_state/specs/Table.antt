@@ -8,7 +8,7 @@ use Rattle.graphs.specs.Count.{count}
 use Rattle.graphs.specs.Lists.{some-below}
 use Rattle.entry_set.specs.Sets.{value, legal}
 use Rattle.merge_state.specs.declared.Sizes.{Sizes}
-use Rattle.merge_state.specs.State.{None, Graph, chunk-of}
+use Rattle.merge_state.specs.State.{None, Graph, chunk-of, misfit}
 use Rattle.merge_state.specs.Methods.{appended, assigned-to, registered, calculated, reachable, warn, merged, passed}
 
 -- What a call answers
@@ -37,10 +37,14 @@ unfoldable pub first-fitting : List (Bool × ℕ) → ℕ
 first-fitting [] = 0
 first-fitting (r ∷ l) = cond (r .0) (r .1) (first-fitting l)
 
+-- one of the first n numbers is above the next
+unfoldable pub falling : ℕ → List ℕ → Bool
+falling n l = some-below (λ i. ltb (getD l (i + 1) 0) (getD l i 0)) n
+
 -- row 4's fault: "not from 0, falling, or not ending at D", of n + 1 starts
 unfoldable pub bad-starts : ℕ → List ℕ → ℕ → Bool
 bad-starts n starts d =
-    not (eqb (length starts) (n + 1)) || (not (eqb (getD starts 0 0) 0) || (not (eqb (getD starts n 0) d) || some-below (λ i. ltb (getD starts (i + 1) 0) (getD starts i 0)) n))
+    not (eqb (length starts) (n + 1)) || (not (eqb (getD starts 0 0) 0) || (not (eqb (getD starts n 0) d) || falling n starts))
 
 -- "chunk .. not yet made"
 abbrev pub unmade : Graph → ℕ → Bool
@@ -56,13 +60,9 @@ full z g = leb (z .entries) (length (g .log))
 abbrev pub other-length : List ℕ → ℕ → Bool
 other-length l n = not (eqb (length l) n)
 
--- some number of a list is v or more
-unfoldable pub reaches : List ℕ → ℕ → Bool
-reaches l v = some-below (λ i. leb v (getD l i 0)) (length l)
-
--- "chunk not initial .. in a proposal"
-unfoldable pub unfair : Graph → List ℕ → Bool
-unfair g l = some-below (λ i. not (eqb (getD l i 0) None) && leb (g .initial) (getD l i 0)) (length l)
+-- some number of a list isn't below top, nor None where that is allowed
+unfoldable pub stray : ℕ → Bool → List ℕ → Bool
+stray top free l = some-below (λ i. misfit top free (getD l i 0)) (length l)
 
 -- Row 14 by the call's own lists: "over 8,192 module dependencies"
 unfoldable pub over-lists : Call → Bool
@@ -88,20 +88,20 @@ bad-lists z (is-reachable x y) = false
 bad-lists z (merge-chunk-dependencies t s) = false
 bad-lists z (pass props bars kinds numbers) = false
 
--- The rows after 21: "the pass's own four lists by 15, then 16, 20, 18, 19"
+-- The rows after 21: "the pass's own four lists by 15, then 16, 20, 18, 19"; in a proposal "chunk not initial"
 unfoldable pub later : Sizes → Graph → Call → List (Bool × ℕ)
 later z g (init-module-assignment m set effs) =
     (no-module z m || not (legal (z .bits) set), 16) ∷ (eqb (chunk-of (value set) (g .sets)) None && leb (z .chunks) (g .made), 18) ∷ (full z g, 19) ∷ []
 later z g (add-module-to-chunk m x effs) = (no-module z m || unmade g x, 16) ∷ (full z g, 19) ∷ []
 later z g (register-chunk-graph-index k x) = (leb (z .chunks) k || unmade g x, 16) ∷ []
 later z g (to-temp-idx k) = []
-later z g (calc-chunk-dependencies starts deps) = (reaches deps (z .modules), 16) ∷ []
+later z g (calc-chunk-dependencies starts deps) = (stray (z .modules) false deps, 16) ∷ []
 later z g (would-create-circular-dependency s t) = (unmade g s || unmade g t, 16) ∷ (eqb s t, 20) ∷ []
 later z g (is-reachable x y) = (unmade g x || unmade g y, 16) ∷ []
 later z g (merge-chunk-dependencies t s) = (unmade g t || unmade g s, 16) ∷ (eqb t s, 20) ∷ []
 later z g (pass props bars kinds numbers) =
     let n = count (g .needs) (g .made) in
-    (other-length props n || (other-length bars n || (other-length kinds n || other-length numbers n)), 15) ∷ (unfair g props, 16) ∷ (ltb (z .chunks) (g .initial + g .created + n), 18) ∷ []
+    (other-length props n || (other-length bars n || (other-length kinds n || other-length numbers n)), 15) ∷ (stray (g .initial) true props, 16) ∷ (ltb (z .chunks) (g .initial + g .created + n), 18) ∷ []
 
 -- What a call that isn't refused answers, and the graph that it leaves
 unfoldable pub acted : Sizes → Graph → Call → Answer × Graph

@@ -1,6 +1,7 @@
 use borrow.Author.Needs.{needs}
 use Rattle.merge_area.proofs.Laws.{counted, counted-le}
-use Rattle.merge_area.specs.Consistent.{misfit, faults}
+use Rattle.merge_state.specs.State.{misfit}
+use Rattle.merge_area.specs.Consistent.{faults}
 use Rattle.graphs.specs.Count.{count, count-none, count-more, count-le, ind-le}
 use lib.ListN.{getD}
 use mathlib.Core.Path.{_≡_, refl, sym, ap, _∙_}

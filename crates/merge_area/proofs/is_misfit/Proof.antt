@@ -1,4 +1,4 @@
-use Rattle.merge_area.specs.Consistent.{misfit}
+use Rattle.merge_state.specs.State.{misfit}
 use borrow.Author.Tests.{eq-eqb, ne-eqb, lt-leb, le-leb}
 use Rattle.merge_area.proofs.is_misfit.Statement.{statement}
 use Rattle.merge_area.proofs.is_misfit.Tie as tie

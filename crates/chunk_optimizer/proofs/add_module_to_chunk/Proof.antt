@@ -1,0 +1,64 @@
+use Rattle.merge_laws.specs.May.{may-add, may-init, may-calc, may-ask, may-reach, pair-merge, may-merge, warn-is, reach-is, temp-stands, temp-past, temp-none, temp-some}
+use Rattle.merge_laws.specs.Rows.{refused-called, acted-called, stood, may-register}
+use Rattle.merge_area.specs.Writes.{write}
+use Rattle.merge_state.specs.Table.{acted}
+use mathlib.Core.Path.{_≡_, sym, refl, ap, _∙_}
+use native.Mathlib.Omega.{arith}
+use borrow.Author.Needs.{needs}
+use Rattle.chunk_optimizer.proofs.add_module_to_chunk.Statement.{statement}
+use Rattle.chunk_optimizer.proofs.add_module_to_chunk.Tie as tie
+use Rattle.chunk_optimizer.proofs.add_module_to_chunk.Reads as reads
+use Rattle.chunk_optimizer.proofs.add_module_to_chunk.Lts as lts
+use Rattle.merge_rows.proofs.rows.add_row.Reads as add-row-reads
+use Rattle.merge_writes.proofs.append.Reads as append-reads
+
+-- src/lib.rt:64:9
+add-row-requires : tie.Need-add-row-requires
+add-row-requires c κs = search needs
+
+-- src/lib.rt:66:9
+same-length : tie.Need-same-length
+same-length c = search needs
+
+-- src/lib.rt:66:9
+returns : tie.Need-returns
+returns c = refused-called _ _ _ (c .before .add-row .ensures) (c .if1 .taken) refl refl
+
+-- src/lib.rt:68:13
+cast-m : tie.Need-cast-m
+cast-m c = search needs
+
+-- src/lib.rt:69:58
+mul-append : tie.Need-mul-append
+mul-append c = search needs
+
+-- src/lib.rt:69:58
+shared-slice-read-append : tie.Need-shared-slice-read-append
+shared-slice-read-append c = may-add _ _ _ _ _ (c .before .before .before .before .add-row .ensures) (c .before .before .before .if1 .left) .1
+
+-- src/lib.rt:69:5
+append-requires : tie.Need-append-requires
+append-requires c κs = may-add _ _ _ _ _ (c .before .before .before .before .add-row .ensures) (c .before .before .before .if1 .left) .0
+
+-- src/lib.rt:55:1
+same-length-2 : tie.Need-same-length-2
+same-length-2 c = search needs
+
+-- src/lib.rt:55:1
+returns-2 : tie.Need-returns-2
+unfolding acted write
+returns-2 c = acted-called _ _ _ (c .before .before .before .before .before .before .before .add-row .ensures) (c .before .before .before .before .before .before .if1 .left) refl (c .before .before .append .ensures)
+
+pub add-module-to-chunk-spec : {M : Type 1} → statement M
+add-module-to-chunk-spec =
+    tie.close
+    (tie.spec
+    add-row-requires
+    same-length
+    returns
+    cast-m
+    mul-append
+    shared-slice-read-append
+    append-requires
+    same-length-2
+    returns-2)

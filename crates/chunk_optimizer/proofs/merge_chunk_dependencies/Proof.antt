@@ -1,0 +1,59 @@
+use Rattle.merge_laws.specs.May.{may-add, may-init, may-calc, may-ask, may-reach, pair-merge, may-merge, warn-is, reach-is, temp-stands, temp-past, temp-none, temp-some}
+use Rattle.merge_laws.specs.Rows.{refused-called, acted-called, stood, may-register}
+use Rattle.merge_area.specs.Writes.{write}
+use Rattle.merge_state.specs.Table.{acted}
+use mathlib.Core.Path.{_≡_, sym, refl, ap, _∙_}
+use native.Mathlib.Omega.{arith}
+use borrow.Author.Needs.{needs}
+use Rattle.chunk_optimizer.proofs.merge_chunk_dependencies.Statement.{statement}
+use Rattle.chunk_optimizer.proofs.merge_chunk_dependencies.Tie as tie
+use Rattle.chunk_optimizer.proofs.merge_chunk_dependencies.Reads as reads
+use Rattle.chunk_optimizer.proofs.merge_chunk_dependencies.Lts as lts
+use Rattle.merge_rows.proofs.rows.pair_row.Reads as pair-row-reads
+use Rattle.merge_writes.proofs.merge.Reads as merge-reads
+
+-- src/lib.rt:146:9
+pair-row-requires : tie.Need-pair-row-requires
+pair-row-requires c κs = search needs
+
+-- src/lib.rt:148:9
+same-length : tie.Need-same-length
+same-length c = search needs
+
+-- src/lib.rt:148:9
+returns : tie.Need-returns
+returns c = refused-called _ _ _ (pair-merge _ _ _ _ (c .before .pair-row .ensures)) (c .if1 .taken) refl refl
+
+-- src/lib.rt:150:38
+cast-merge : tie.Need-cast-merge
+cast-merge c = search needs
+
+-- src/lib.rt:150:57
+cast-merge-2 : tie.Need-cast-merge-2
+cast-merge-2 c = search needs
+
+-- src/lib.rt:150:5
+merge-requires : tie.Need-merge-requires
+merge-requires c κs = may-merge _ _ _ _ (pair-merge _ _ _ _ (c .before .before .before .before .pair-row .ensures)) (c .before .before .before .if1 .left)
+
+-- src/lib.rt:143:1
+same-length-2 : tie.Need-same-length-2
+same-length-2 c = search needs
+
+-- src/lib.rt:143:1
+returns-2 : tie.Need-returns-2
+unfolding acted write
+returns-2 c = acted-called _ _ _ (pair-merge _ _ _ _ (c .before .before .before .before .before .before .before .pair-row .ensures)) (c .before .before .before .before .before .before .if1 .left) refl (c .before .before .merge .ensures)
+
+pub merge-chunk-dependencies-spec : {M : Type 1} → statement M
+merge-chunk-dependencies-spec =
+    tie.close
+    (tie.spec
+    pair-row-requires
+    same-length
+    returns
+    cast-merge
+    cast-merge-2
+    merge-requires
+    same-length-2
+    returns-2)

@@ -1,0 +1,24 @@
+-- What each answer says, in document 01's terms. Assumes nothing.
+use Prim.Native.Nat.{ℕ}
+use mathlib.Core.Bool.{Bool}
+use Rattle.merge_state.specs.Table.{Answer, done, refused, says, chunk, nothing}
+use Rattle.chunk_optimizer.specs.declared.Done as d
+use Rattle.chunk_optimizer.specs.declared.TempIdx as t
+use Rattle.chunk_optimizer.specs.declared.OptionChunkIdx as o
+use Rattle.chunk_optimizer.specs.declared.Said as s
+
+abbrev pub done-told : d.Done → Answer
+done-told d.the-variants.Done = done
+done-told (d.the-variants.Refused n) = refused n
+
+abbrev option-told : o.OptionChunkIdx → Answer
+option-told (o.the-variants.Some x) = chunk (x .0)
+option-told o.the-variants.None = nothing
+
+abbrev pub temp-told : t.TempIdx → Answer
+temp-told (t.the-variants.Is x) = option-told x
+temp-told (t.the-variants.Refused n) = refused n
+
+abbrev pub said-told : s.Said → Answer
+said-told (s.the-variants.Is b) = says b
+said-told (s.the-variants.Refused n) = refused n

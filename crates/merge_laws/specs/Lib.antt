@@ -1,0 +1,6 @@
+pub mod Rows
+pub mod Can
+pub mod Merging
+pub mod Keeps
+pub mod Ordering
+pub mod May

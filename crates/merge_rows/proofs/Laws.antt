@@ -1,0 +1,91 @@
+-- Laws that several proofs of this crate cite. Assumes nothing.
+use Prim.Native.Nat.{ℕ, suc, _+_, _-_, _*_, _≤_, _<_}
+use native.Mathlib.Omega.{arith}
+use mathlib.Core.Path.{_≡_, refl, sym, ap, _∙_}
+use mathlib.Core.Bool.{Bool, true, false, not, cond, _&&_, _||_}
+use mathlib.Core.List.{List, [], _∷_}
+use lib.ListN.{length, getD}
+use lib.Dec.{ltb, leb, eqb}
+use borrow.Author.Tests.{eq-eqb, ne-eqb, eqb-true, lt-ltb, le-ltb, ltb-true, not-false}
+use Rattle.graphs.specs.Bools.{alike, and-left, or-false}
+use Rattle.graphs.specs.Count.{count, count-pos, count-found}
+use Rattle.graphs.specs.Lists.{some-below, some-give, some-take, some-zero, some-suc}
+use Rattle.entry_set.specs.declared.EntrySet.{EntrySet}
+use Rattle.entry_set.specs.Sets.{value, number, Holds, legal, width}
+use Rattle.merge_state.specs.declared.Sizes.{Sizes}
+use Rattle.merge_state.specs.State.{None, chunk-of, misfit}
+use Rattle.merge_state.specs.Table.{stray, falling, bad-starts, over-lists, bad-lists, calc-chunk-dependencies, init-module-assignment, later, first-fitting, other-length, no-module, full}
+use Rattle.merge_area.specs.Layout.{cell, head}
+use Rattle.merge_area.specs.Read.{read, pairs, named-set, sets-in}
+use Rattle.merge_area.specs.Calls.{standing, refusal}
+use Rattle.merge_laws.specs.Rows.{late, fits-here, fits-next}
+use Rattle.merge_area.specs.Consistent.{faults}
+
+-- a search over the numbers below n: nothing found so far, one more passed, found, the end
+pub none-more : (p : ℕ → Bool) (x : ℕ) → some-below p x ≡ false → p x ≡ false → some-below p (x + 1) ≡ false
+none-more p x a b = ap (some-below p) (native.Mathlib.Numerals.add-one x) ∙ some-suc p x ∙ (rw b a)
+
+pub some-found : (p : ℕ → Bool) (n x : ℕ) → x < n → p x ≡ true → true ≡ some-below p n
+some-found p n x b h = sym (some-give p n x b h)
+
+pub none-left : (p : ℕ → Bool) (n x : ℕ) → some-below p x ≡ false → x ≡ n → false ≡ some-below p n
+none-left p n x h e = sym (ap (some-below p) (sym e) ∙ h)
+
+-- a list strays where it has faults
+pub stray-is : (l : List ℕ) (top : ℕ) (free : Bool) {r : ℕ} → r ≡ faults l 0 (length l) top free → ltb 0 r ≡ stray top free l
+unfolding faults stray
+stray-is l top free {r} e =
+    alike _ _
+    (λ h.
+    let f = count-found (λ i. misfit top free (getD l (0 + i) 0)) (length l) (rw e at (ltb-true 0 r h)) in
+    some-give (λ i. misfit top free (getD l i 0)) (length l) (f .0) (f .1) (ap (λ i. misfit top free (getD l i 0)) {x = f .0} {y = 0 + f .0} (omega arith) ∙ f .2))
+    (λ h.
+    let s = some-take (λ i. misfit top free (getD l i 0)) (length l) h in
+    lt-ltb 0 r (rw e (count-pos (λ i. misfit top free (getD l (0 + i) 0)) (length l) (s .0) (s .1) (ap (λ i. misfit top free (getD l i 0)) {x = 0 + s .0} {y = s .0} (omega arith) ∙ s .2))))
+
+-- the tests of `bad-starts`, in order
+module _ (n : ℕ) (l : List ℕ) (d : ℕ) where
+  pub bad-count : (length l ≡ n + 1 → ⊥) → true ≡ bad-starts n l d
+  unfolding bad-starts
+  bad-count h = rw (ne-eqb (length l) (n + 1) h)
+
+  pub bad-begin : length l ≡ n + 1 → (getD l 0 0 ≡ 0 → ⊥) → true ≡ bad-starts n l d
+  unfolding bad-starts
+  bad-begin e h = rw (eq-eqb (length l) (n + 1) e, ne-eqb (getD l 0 0) 0 h)
+
+  pub bad-end : length l ≡ n + 1 → getD l 0 0 ≡ 0 → (getD l n 0 ≡ d → ⊥) → true ≡ bad-starts n l d
+  unfolding bad-starts
+  bad-end e f h = rw (eq-eqb (length l) (n + 1) e, eq-eqb (getD l 0 0) 0 f, ne-eqb (getD l n 0) d h)
+
+  pub bad-fall : {r : Bool} → length l ≡ n + 1 → getD l 0 0 ≡ 0 → getD l n 0 ≡ d → r ≡ falling n l → r ≡ bad-starts n l d
+  unfolding bad-starts
+  bad-fall e f g h = h ∙ (rw (eq-eqb (length l) (n + 1) e, eq-eqb (getD l 0 0) 0 f, eq-eqb (getD l n 0) d g))
+
+-- the rows of `calc_chunk_dependencies` before 21
+pub calc-stand : (z : Sizes) (starts deps a : List ℕ) {b : Bool} {q : ℕ} → b ≡ bad-starts (z .modules) starts (length deps) → q ≡ standing z (ltb 8192 (length deps)) b a
+    → q ≡ standing z (over-lists (calc-chunk-dependencies starts deps)) (bad-lists z (calc-chunk-dependencies starts deps)) a
+unfolding over-lists bad-lists
+calc-stand z starts deps a e h = h ∙ ap (λ b. standing z (ltb 8192 (length deps)) b a) e
+
+-- a legal set has four numbers at most
+pub legal-short : (e : ℕ) (l : List ℕ) {r : Bool} → e ≤ 256 → r ≡ legal e l → not r ≡ false → length l ≤ 4
+legal-short e l b h k =
+    let w = eqb-true (length l) (width e) (and-left (eqb (length l) (width e)) _ (sym h ∙ not-false _ k)) in
+    omega (arith, w)
+
+pub found-chunk : (z : Sizes) (a : List ℕ) {n v r : ℕ} {s : EntrySet} → n ≡ cell a (head z 3) → Holds v s → r ≡ chunk-of (number s) (pairs (named-set z a) n) → r ≡ chunk-of v (sets-in z a)
+found-chunk z a e h q = rw (← e, ← h .value) q
+
+-- the later rows of `init_module_assignment`, from 18 on
+module _ (z : Sizes) (a : List ℕ) (m : ℕ) (set effs : List ℕ) (q x : ℕ) {r : Bool} (e : q ≡ standing z false (other-length effs (z .modules)) a) (h : q ≡ 0)
+    (f : x ≡ chunk-of (value set) (sets-in z a)) (t : no-module z m ≡ false) (l : not (legal (z .bits) set) ≡ false) (k : r ≡ (eqb x None && leb (z .chunks) (cell a (head z 1)))) where
+  lacks : r ≡ (eqb (chunk-of (value set) (sets-in z a)) None && leb (z .chunks) (cell a (head z 1)))
+  lacks = rw (← f) k
+
+  pub init-lacks : r ≡ true → 18 ≡ refusal z a (init-module-assignment m set effs)
+  unfolding over-lists bad-lists later
+  init-lacks w = late z a (init-module-assignment m set effs) q 18 e h (fits-next _ 16 18 _ (or-false _ _ t l) (fits-here _ 18 _ (sym lacks ∙ w)))
+
+  pub init-rest : (v : ℕ) → r ≡ false → v ≡ first-fitting ((full z (read z a), 19) ∷ []) → v ≡ refusal z a (init-module-assignment m set effs)
+  unfolding over-lists bad-lists later
+  init-rest v w y = late z a (init-module-assignment m set effs) q v e h (fits-next _ 16 v _ (or-false _ _ t l) (fits-next _ 18 v _ (sym lacks ∙ w) y))

@@ -1,0 +1,55 @@
+use Rattle.merge_rows.proofs.Laws.{calc-stand}
+use Rattle.merge_laws.specs.Rows.{fits-here, fits-next, fits-none, early, late, stood}
+use Rattle.merge_area.specs.Read.{read}
+use Rattle.merge_state.specs.Table.{over-lists, bad-lists, later, unmade}
+use Rattle.graphs.specs.Bools.{or-left, or-right, or-false}
+use borrow.Author.Tests.{le-leb, lt-leb, eq-eqb, ne-eqb}
+use lib.Dec.{leb}
+use mathlib.Core.Bool.{not}
+use mathlib.Core.List.{[]}
+use mathlib.Core.Path.{_≡_, sym, refl, ap, _∙_}
+use borrow.Author.Needs.{needs}
+use Rattle.merge_rows.proofs.rows.calc_row.Statement.{statement}
+use Rattle.merge_rows.proofs.rows.calc_row.Tie as tie
+use Rattle.merge_rows.proofs.rows.calc_row.Reads as reads
+use Rattle.merge_rows.proofs.rows.calc_row.Lts as lts
+use Rattle.merge_rows.proofs.tests.are_bad_starts.Reads as are-bad-starts-reads
+use Rattle.merge_rows.proofs.tests.has_stray.Reads as has-stray-reads
+use Rattle.merge_area.proofs.standing_row.Reads as standing-row-reads
+
+-- src/rows.rt:100:9
+are-bad-starts-requires : tie.Need-are-bad-starts-requires
+are-bad-starts-requires c κs = search needs
+
+-- src/rows.rt:101:9
+standing-row-requires : tie.Need-standing-row-requires
+standing-row-requires c κs = search needs
+
+-- src/rows.rt:103:9
+returns : tie.Need-returns
+returns c = early _ _ _ (calc-stand _ _ _ _ (c .before .before .are-bad-starts .ensures) (c .before .standing-row .ensures)) (c .if1 .taken)
+
+-- src/rows.rt:105:8
+has-stray-requires : tie.Need-has-stray-requires
+has-stray-requires c κs = search needs
+
+-- src/rows.rt:106:9
+returns-2 : tie.Need-returns-2
+unfolding later
+returns-2 c = late _ _ _ _ _ (calc-stand _ _ _ _ (c .before .before .before .before .are-bad-starts .ensures) (c .before .before .before .standing-row .ensures)) (c .before .before .if1 .left) (fits-here _ _ [] (sym (c .before .has-stray .ensures) ∙ c .if2 .taken))
+
+-- src/rows.rt:96:1
+returns-3 : tie.Need-returns-3
+unfolding later
+returns-3 c = late _ _ _ _ _ (calc-stand _ _ _ _ (c .before .before .before .before .are-bad-starts .ensures) (c .before .before .before .standing-row .ensures)) (c .before .before .if1 .left) (fits-next _ _ _ [] (sym (c .before .has-stray .ensures) ∙ c .if2 .left) fits-none)
+
+pub calc-row-spec : {M : Type 1} → statement M
+calc-row-spec =
+    tie.close
+    (tie.spec
+    are-bad-starts-requires
+    standing-row-requires
+    returns
+    has-stray-requires
+    returns-2
+    returns-3)

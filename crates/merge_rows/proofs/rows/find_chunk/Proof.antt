@@ -1,0 +1,34 @@
+use Rattle.merge_rows.proofs.Laws.{found-chunk}
+use mathlib.Core.Path.{_≡_, sym, refl, ap, _∙_}
+use borrow.Author.Needs.{needs}
+use Rattle.merge_rows.proofs.rows.find_chunk.Statement.{statement}
+use Rattle.merge_rows.proofs.rows.find_chunk.Tie as tie
+use Rattle.merge_rows.proofs.rows.find_chunk.Reads as reads
+use Rattle.merge_rows.proofs.rows.find_chunk.Lts as lts
+use Rattle.entry_set.proofs.from_list.Reads as from-list-reads
+use Rattle.merge_area.proofs.chunk_of_set.Reads as chunk-of-set-reads
+use Rattle.merge_area.proofs.header.Reads as header-reads
+
+-- src/rows.rt:24:16
+header-requires : tie.Need-header-requires
+header-requires c κs = search needs
+
+-- src/rows.rt:24:16
+cast-sets : tie.Need-cast-sets
+cast-sets c = search needs
+
+-- src/rows.rt:25:49
+from-list-requires : tie.Need-from-list-requires
+from-list-requires c κs = search needs
+
+-- src/rows.rt:25:5
+chunk-of-set-requires : tie.Need-chunk-of-set-requires
+chunk-of-set-requires c κs = search needs
+
+-- src/rows.rt:20:1
+returns : tie.Need-returns
+returns c = found-chunk (c .before .before .before .before .before .args .sizes) _ (c .before .before .header .ensures) (c .before .from-list .ensures) (c .chunk-of-set .ensures)
+
+pub find-chunk-spec : {M : Type 1} → statement M
+find-chunk-spec =
+    tie.close (tie.spec header-requires cast-sets from-list-requires chunk-of-set-requires returns)

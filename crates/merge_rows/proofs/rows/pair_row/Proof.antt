@@ -1,0 +1,66 @@
+use Rattle.merge_laws.specs.Rows.{fits-here, fits-next, fits-none, early, late, stood}
+use Rattle.merge_area.specs.Read.{read}
+use Rattle.merge_state.specs.Table.{over-lists, bad-lists, later, unmade}
+use Rattle.graphs.specs.Bools.{or-left, or-right, or-false}
+use borrow.Author.Tests.{le-leb, lt-leb, eq-eqb, ne-eqb}
+use lib.Dec.{leb}
+use mathlib.Core.Bool.{not}
+use mathlib.Core.List.{[]}
+use mathlib.Core.Path.{_≡_, sym, refl, ap, _∙_}
+use borrow.Author.Needs.{needs}
+use Rattle.merge_rows.proofs.rows.pair_row.Statement.{statement}
+use Rattle.merge_rows.proofs.rows.pair_row.Tie as tie
+use Rattle.merge_rows.proofs.rows.pair_row.Reads as reads
+use Rattle.merge_rows.proofs.rows.pair_row.Lts as lts
+use Rattle.merge_rows.proofs.tests.is_unmade.Reads as is-unmade-reads
+use Rattle.merge_area.proofs.standing_row.Reads as standing-row-reads
+
+-- src/rows.rt:114:9
+standing-row-requires : tie.Need-standing-row-requires
+standing-row-requires c κs = search needs
+
+-- src/rows.rt:116:9
+returns : tie.Need-returns
+unfolding over-lists bad-lists
+returns c = early _ _ _ (c .before .standing-row .ensures) (c .if1 .taken)
+
+-- src/rows.rt:118:8
+is-unmade-requires : tie.Need-is-unmade-requires
+is-unmade-requires c κs = stood _ _ _ _ (c .before .standing-row .ensures) (c .if1 .left) .headed
+
+-- src/rows.rt:119:9
+returns-2 : tie.Need-returns-2
+unfolding over-lists bad-lists later
+returns-2 c = late _ _ _ _ _ (c .before .before .before .standing-row .ensures) (c .before .before .if1 .left) (fits-here _ _ _ (or-left _ _ (sym (c .before .is-unmade .ensures) ∙ c .if2 .taken)))
+
+-- src/rows.rt:121:8
+is-unmade-requires-2 : tie.Need-is-unmade-requires-2
+is-unmade-requires-2 c κs = stood _ _ _ _ (c .before .before .before .standing-row .ensures) (c .before .before .if1 .left) .headed
+
+-- src/rows.rt:122:9
+returns-3 : tie.Need-returns-3
+unfolding over-lists bad-lists later
+returns-3 c = late _ _ _ _ _ (c .before .before .before .before .before .standing-row .ensures) (c .before .before .before .before .if1 .left) (fits-here _ _ _ (or-right (unmade (read (c .before .before .before .before .before .before .before .args .sizes) (c .before .before .before .before .before .before .before .args .area .now)) (c .before .before .before .before .before .before .before .args .source)) _ (sym (c .before .is-unmade2 .ensures) ∙ c .if3 .taken)))
+
+-- src/rows.rt:125:9
+returns-4 : tie.Need-returns-4
+unfolding over-lists bad-lists later
+returns-4 c = late _ _ _ _ _ (c .before .before .before .before .before .before .standing-row .ensures) (c .before .before .before .before .before .if1 .left) (fits-next _ _ _ _ (or-false _ _ (sym (c .before .before .before .before .is-unmade .ensures) ∙ c .before .before .before .if2 .left) (sym (c .before .before .is-unmade2 .ensures) ∙ c .before .if3 .left)) (fits-here _ _ [] (eq-eqb _ _ (c .if4 .taken))))
+
+-- src/rows.rt:111:1
+returns-5 : tie.Need-returns-5
+unfolding over-lists bad-lists later
+returns-5 c = late _ _ _ _ _ (c .before .before .before .before .before .before .standing-row .ensures) (c .before .before .before .before .before .if1 .left) (fits-next _ _ _ _ (or-false _ _ (sym (c .before .before .before .before .is-unmade .ensures) ∙ c .before .before .before .if2 .left) (sym (c .before .before .is-unmade2 .ensures) ∙ c .before .if3 .left)) (fits-next _ _ _ [] (ne-eqb _ _ (c .if4 .left)) fits-none))
+
+pub pair-row-spec : {M : Type 1} → statement M
+pair-row-spec =
+    tie.close
+    (tie.spec
+    standing-row-requires
+    returns
+    is-unmade-requires
+    returns-2
+    is-unmade-requires-2
+    returns-3
+    returns-4
+    returns-5)

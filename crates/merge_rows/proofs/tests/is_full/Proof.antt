@@ -1,0 +1,23 @@
+use mathlib.Core.Path.{sym, refl, _∙_}
+use Rattle.merge_area.specs.PairLaws.{pairs-length}
+use borrow.Author.Needs.{needs}
+use Rattle.merge_rows.proofs.tests.is_full.Statement.{statement}
+use Rattle.merge_rows.proofs.tests.is_full.Tie as tie
+use Rattle.merge_rows.proofs.tests.is_full.Reads as reads
+use Rattle.merge_rows.proofs.tests.is_full.Lts as lts
+use Rattle.merge_area.proofs.header.Reads as header-reads
+
+-- src/tests.rt:24:22
+header-requires : tie.Need-header-requires
+header-requires c κs = search needs
+
+-- src/tests.rt:24:22
+cast-result : tie.Need-cast-result
+cast-result c = search needs
+
+-- src/tests.rt:20:1
+returns : tie.Need-returns
+returns c = rw (pairs-length, c .before .header .ensures) refl
+
+pub is-full-spec : {M : Type 1} → statement M
+is-full-spec = tie.close (tie.spec header-requires cast-result returns)

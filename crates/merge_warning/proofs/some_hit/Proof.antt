@@ -1,0 +1,59 @@
+use native.Mathlib.Omega.{arith}
+use Rattle.merge_warning.specs.Hits.{hit-at, row-in, none-more, some-found, none-left}
+use Rattle.graphs.specs.Lists.{some-below, some-zero}
+use mathlib.Core.Bool.{false}
+use mathlib.Core.Path.{_≡_, sym, ap, _∙_}
+use Prim.Native.Nat.{_-_, _≤_}
+use Rattle.merge_warning.proofs.some_hit.Statement.{statement}
+use Rattle.merge_warning.proofs.some_hit.Tie as tie
+use Rattle.merge_warning.proofs.some_hit.Reads as reads
+use Rattle.merge_warning.proofs.some_hit.Lts as lts
+use Rattle.merge_warning.proofs.hits.Reads as hits-reads
+
+abbrev Inv-loop : tie.InvT-loop
+Inv-loop flags c n source marks x₀ x = (x ≤ n) × (some-below (hit-at flags c n source marks) x ≡ false)
+
+abbrev μ-loop : tie.MeasureT-loop
+μ-loop flags c n source marks x₀ x = n - x
+
+-- src/lib.rt:28:5
+loop-holds : tie.Need-loop-holds Inv-loop μ-loop
+loop-holds c = (omega arith, some-zero _)
+
+-- src/lib.rt:29:12
+hits-requires : tie.Need-hits-requires Inv-loop μ-loop
+hits-requires c κs = let p = c .before .before .before .before .pre in let l = c .loop-test .taken in (omega (arith, row-in (c .before .before .before .before .args .n) (c .before .before .before .before .args .c) (c .before .loop .x) l, p .0, p .1, p .3), omega (arith, l, p .2), l, p .3)
+
+-- src/lib.rt:30:13
+returns : tie.Need-returns Inv-loop μ-loop
+returns c = some-found _ _ _ (c .before .before .loop-test .taken) (sym (c .before .hits .ensures) ∙ c .if1 .taken)
+
+-- src/lib.rt:32:9
+add-x : tie.Need-add-x Inv-loop μ-loop
+add-x c = omega arith
+
+-- src/lib.rt:28:5
+loop-less : tie.Need-loop-less Inv-loop μ-loop
+loop-less c = omega arith
+
+-- src/lib.rt:28:5
+loop-again : tie.Need-loop-again Inv-loop μ-loop
+loop-again c = (omega arith, none-more _ _ (c .before .before .before .loop .inv .1) (sym (c .before .hits .ensures) ∙ c .if1 .left))
+
+-- src/lib.rt:23:1
+returns-2 : tie.Need-returns-2 Inv-loop μ-loop
+returns-2 c = none-left _ _ _ (c .before .loop .inv .1) (omega arith)
+
+pub some-hit-spec : {M : Type 1} → statement M
+some-hit-spec =
+    tie.close
+    (tie.spec
+    Inv-loop
+    μ-loop
+    loop-holds
+    hits-requires
+    returns
+    add-x
+    loop-less
+    loop-again
+    returns-2)
