@@ -10,7 +10,10 @@ ghost use Rattle.loading.specs.Steps.{CanLoad};
 
 mod flags;
 mod graph;
+mod local;
 mod start;
+
+pub use local::load;
 
 // The load and the sets passed the rows 1 to 8. Writes the first state, each atom in a node of its own, and tells whether it is cyclic. All lists
 // from `counts` on are scratch.

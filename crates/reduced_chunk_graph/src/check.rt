@@ -5,10 +5,10 @@ ghost use lib.ListN.{length};
 ghost use Rattle.placement.specs.Slots.{lent};
 ghost use Rattle.ledger.specs.Loading.{refusal};
 ghost use Rattle.move_area.specs.Area.{consistent};
-ghost use Rattle.reduced_chunk_graph.specs.Later.{later};
+ghost use Rattle.reduced_chunk_graph.specs.Later.{later, CanSlot, Sane};
 
-// Row 9 for a load of any size within the limits.
-fn is_consistent_large(
+// Row 9 for a load of any size within the limits. Where the area is consistent, `sources` and `targets` then have its slots.
+pub fn check_large(
     a: usize,
     d: usize,
     e: usize,
@@ -17,14 +17,14 @@ fn is_consistent_large(
     dependencies: &[u32],
     hosts: &[u32],
     area: &[u32],
+    sources: &mut [u32],
+    targets: &mut [u32],
 ) -> bool
-    requires { ⌜ refusal (lent a d e (now starts) (now dependencies) (now hosts)) n (length (now area)) ≡ 0 ⌝ }
-    ensures { λ r. ⌜ r ≡ consistent (lent a d e (now (starts .entry)) (now (dependencies .entry)) (now (hosts .entry))) n (now (area .entry)) ⌝ }
+    requires { ⌜ CanSlot (lent a d e (now starts) (now dependencies) (now hosts)) n (now area) (now sources) (now targets) ⌝ }
+    ensures { λ r. ⌜ Sane (lent a d e (now (starts .entry)) (now (dependencies .entry)) (now (hosts .entry))) n (now (area .entry)) (now (sources .exit)) (now (targets .exit)) r ⌝ }
 {
     let mut counts = [0u32; 1024];
     let mut facade = [0u32; 256];
-    let mut sources = [0u32; 8448];
-    let mut targets = [0u32; 8448];
     let mut heads = [0u32; 1025];
     let mut list = [0u32; 8448];
     let mut row = [0u32; 1024];
@@ -49,8 +49,8 @@ fn is_consistent_large(
         area,
         &mut counts,
         &mut facade,
-        &mut sources,
-        &mut targets,
+        sources,
+        targets,
         &mut heads,
         &mut list,
         &mut row,
@@ -68,7 +68,7 @@ fn is_consistent_large(
 }
 
 // Row 9 for a small load: shorter lists, which are sooner cleared.
-fn is_consistent_small(
+pub fn check_small(
     a: usize,
     d: usize,
     e: usize,
@@ -77,14 +77,14 @@ fn is_consistent_small(
     dependencies: &[u32],
     hosts: &[u32],
     area: &[u32],
+    sources: &mut [u32],
+    targets: &mut [u32],
 ) -> bool
-    requires { ⌜ (refusal (lent a d e (now starts) (now dependencies) (now hosts)) n (length (now area)) ≡ 0) × (n ≤ 128) × (d ≤ 768) ⌝ }
-    ensures { λ r. ⌜ r ≡ consistent (lent a d e (now (starts .entry)) (now (dependencies .entry)) (now (hosts .entry))) n (now (area .entry)) ⌝ }
+    requires { ⌜ CanSlot (lent a d e (now starts) (now dependencies) (now hosts)) n (now area) (now sources) (now targets) × (n ≤ 128) × (d ≤ 768) ⌝ }
+    ensures { λ r. ⌜ Sane (lent a d e (now (starts .entry)) (now (dependencies .entry)) (now (hosts .entry))) n (now (area .entry)) (now (sources .exit)) (now (targets .exit)) r ⌝ }
 {
     let mut counts = [0u32; 128];
     let mut facade = [0u32; 256];
-    let mut sources = [0u32; 1024];
-    let mut targets = [0u32; 1024];
     let mut heads = [0u32; 129];
     let mut list = [0u32; 1024];
     let mut row = [0u32; 128];
@@ -109,8 +109,8 @@ fn is_consistent_small(
         area,
         &mut counts,
         &mut facade,
-        &mut sources,
-        &mut targets,
+        sources,
+        targets,
         &mut heads,
         &mut list,
         &mut row,
@@ -124,6 +124,66 @@ fn is_consistent_small(
         &mut finish,
         &mut flags,
         &mut order,
+    )
+}
+
+// Row 9, without the slots.
+fn is_consistent_large(
+    a: usize,
+    d: usize,
+    e: usize,
+    n: usize,
+    starts: &[u32],
+    dependencies: &[u32],
+    hosts: &[u32],
+    area: &[u32],
+) -> bool
+    requires { ⌜ refusal (lent a d e (now starts) (now dependencies) (now hosts)) n (length (now area)) ≡ 0 ⌝ }
+    ensures { λ r. ⌜ r ≡ consistent (lent a d e (now (starts .entry)) (now (dependencies .entry)) (now (hosts .entry))) n (now (area .entry)) ⌝ }
+{
+    let mut sources = [0u32; 8448];
+    let mut targets = [0u32; 8448];
+    check_large(
+        a,
+        d,
+        e,
+        n,
+        starts,
+        dependencies,
+        hosts,
+        area,
+        &mut sources,
+        &mut targets,
+    )
+}
+
+// Row 9 for a small load, without the slots.
+fn is_consistent_small(
+    a: usize,
+    d: usize,
+    e: usize,
+    n: usize,
+    starts: &[u32],
+    dependencies: &[u32],
+    hosts: &[u32],
+    area: &[u32],
+) -> bool
+    requires { ⌜ (refusal (lent a d e (now starts) (now dependencies) (now hosts)) n (length (now area)) ≡ 0) × (n ≤ 128) × (d ≤ 768) ⌝ }
+    ensures { λ r. ⌜ r ≡ consistent (lent a d e (now (starts .entry)) (now (dependencies .entry)) (now (hosts .entry))) n (now (area .entry)) ⌝ }
+{
+    let mut sources = [0u32; 1024];
+    let mut targets = [0u32; 1024];
+    check_small(
+        a,
+        d,
+        e,
+        n,
+        starts,
+        dependencies,
+        hosts,
+        area,
+        &mut sources,
+        &mut targets,
     )
 }
 

@@ -1,5 +1,17 @@
 // `ReducedChunkGraph`: trial moves of atoms between chunks, accepted exactly when no cycle arises.
 mod check;
+mod listed;
+mod load;
+mod moves;
+mod questions;
+
+pub use load::new;
+pub use moves::try_move;
+pub use questions::atom_count;
+pub use questions::atom_set;
+pub use questions::edge_at;
+pub use questions::edge_count;
+pub use questions::multiplicity;
 
 // What `new` answers. `Refused` names a row of the table of refusals, here and below.
 pub enum LoadAnswer {

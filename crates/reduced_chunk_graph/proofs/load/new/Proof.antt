@@ -1,0 +1,47 @@
+-- `reduced_chunk_graph::load::new` meets its contract. Assumes nothing.
+use mathlib.Core.Bool.{true, false}
+use mathlib.Core.Path.{sym, _∙_}
+use lib.ListN.{length}
+use Rattle.ledger.specs.LoadLaws.{loading-row-none}
+use Rattle.placement.specs.Slots.{lent}
+use Rattle.loading.specs.New.{new-refused, new-answer, new-area}
+use borrow.Author.Needs.{needs}
+use Rattle.reduced_chunk_graph.proofs.load.new.Statement.{statement}
+use Rattle.reduced_chunk_graph.proofs.load.new.Tie as tie
+use Rattle.reduced_chunk_graph.proofs.load.new.Reads as reads
+use Rattle.reduced_chunk_graph.proofs.load.new.Lts as lts
+use Rattle.load_checks.proofs.loading_refusal.Reads as loading-refusal-reads
+use Rattle.loading.proofs.load.Reads as load-reads
+
+loading-refusal-requires : tie.Need-loading-refusal-requires
+loading-refusal-requires c κs = search needs
+
+returns : tie.Need-returns
+returns c = new-refused (lent (c .before .before .before .before .before .before .before .args .a) (c .before .before .before .before .before .before .before .args .d) (c .before .before .before .before .before .before .before .args .e) (c .before .before .before .before .before .before .before .args .starts .now) (c .before .before .before .before .before .before .before .args .dependencies .now) (c .before .before .before .before .before .before .before .args .hosts .now)) (c .before .before .before .before .before .before .before .args .n) (c .before .before .before .before .before .before .before .args .sets .now) (c .before .before .before .before .before .before .before .args .area .now) (c .before .loading-refusal .ensures) (c .if1 .taken)
+
+load-requires : tie.Need-load-requires
+load-requires c κs = loading-row-none (lent (c .before .before .before .before .before .before .before .before .args .a) (c .before .before .before .before .before .before .before .before .args .d) (c .before .before .before .before .before .before .before .before .args .e) (c .before .before .before .before .before .before .before .before .args .starts .now) (c .before .before .before .before .before .before .before .before .args .dependencies .now) (c .before .before .before .before .before .before .before .before .args .hosts .now)) (c .before .before .before .before .before .before .before .before .args .n) (c .before .before .before .before .before .before .before .before .args .sets .now) (length (c .before .before .before .before .before .before .before .before .args .area .now)) (sym (c .before .before .loading-refusal .ensures) ∙ c .before .if1 .left)
+
+same-length : tie.Need-same-length
+same-length c = search needs
+
+returns-2 : tie.Need-returns-2
+returns-2 c = (new-answer (lent (c .before .before .before .before .before .before .before .before .before .before .before .before .args .a) (c .before .before .before .before .before .before .before .before .before .before .before .before .args .d) (c .before .before .before .before .before .before .before .before .before .before .before .before .args .e) (c .before .before .before .before .before .before .before .before .before .before .before .before .args .starts .now) (c .before .before .before .before .before .before .before .before .before .before .before .before .args .dependencies .now) (c .before .before .before .before .before .before .before .before .before .before .before .before .args .hosts .now)) (c .before .before .before .before .before .before .before .before .before .before .before .before .args .n) (c .before .before .before .before .before .before .before .before .before .before .before .before .args .sets .now) (c .before .before .before .before .before .before .before .before .before .before .before .before .args .area .now) (sym (c .before .before .before .before .before .before .loading-refusal .ensures) ∙ c .before .before .before .before .before .if1 .left) {c = true} (sym (c .if2 .taken) ∙ c .before .before .before .load .ensures .0), new-area (lent (c .before .before .before .before .before .before .before .before .before .before .before .before .args .a) (c .before .before .before .before .before .before .before .before .before .before .before .before .args .d) (c .before .before .before .before .before .before .before .before .before .before .before .before .args .e) (c .before .before .before .before .before .before .before .before .before .before .before .before .args .starts .now) (c .before .before .before .before .before .before .before .before .before .before .before .before .args .dependencies .now) (c .before .before .before .before .before .before .before .before .before .before .before .before .args .hosts .now)) (c .before .before .before .before .before .before .before .before .before .before .before .before .args .n) (c .before .before .before .before .before .before .before .before .before .before .before .before .args .sets .now) (c .before .before .before .before .before .before .before .before .before .before .before .before .args .area .now) (sym (c .before .before .before .before .before .before .loading-refusal .ensures) ∙ c .before .before .before .before .before .if1 .left) {c = true} (sym (c .if2 .taken) ∙ c .before .before .before .load .ensures .0) (c .before .before .before .load .ensures .1))
+
+same-length-2 : tie.Need-same-length-2
+same-length-2 c = search needs
+
+returns-3 : tie.Need-returns-3
+returns-3 c = (new-answer (lent (c .before .before .before .before .before .before .before .before .before .before .before .before .args .a) (c .before .before .before .before .before .before .before .before .before .before .before .before .args .d) (c .before .before .before .before .before .before .before .before .before .before .before .before .args .e) (c .before .before .before .before .before .before .before .before .before .before .before .before .args .starts .now) (c .before .before .before .before .before .before .before .before .before .before .before .before .args .dependencies .now) (c .before .before .before .before .before .before .before .before .before .before .before .before .args .hosts .now)) (c .before .before .before .before .before .before .before .before .before .before .before .before .args .n) (c .before .before .before .before .before .before .before .before .before .before .before .before .args .sets .now) (c .before .before .before .before .before .before .before .before .before .before .before .before .args .area .now) (sym (c .before .before .before .before .before .before .loading-refusal .ensures) ∙ c .before .before .before .before .before .if1 .left) {c = false} (sym (c .if2 .left) ∙ c .before .before .before .load .ensures .0), new-area (lent (c .before .before .before .before .before .before .before .before .before .before .before .before .args .a) (c .before .before .before .before .before .before .before .before .before .before .before .before .args .d) (c .before .before .before .before .before .before .before .before .before .before .before .before .args .e) (c .before .before .before .before .before .before .before .before .before .before .before .before .args .starts .now) (c .before .before .before .before .before .before .before .before .before .before .before .before .args .dependencies .now) (c .before .before .before .before .before .before .before .before .before .before .before .before .args .hosts .now)) (c .before .before .before .before .before .before .before .before .before .before .before .before .args .n) (c .before .before .before .before .before .before .before .before .before .before .before .before .args .sets .now) (c .before .before .before .before .before .before .before .before .before .before .before .before .args .area .now) (sym (c .before .before .before .before .before .before .loading-refusal .ensures) ∙ c .before .before .before .before .before .if1 .left) {c = false} (sym (c .if2 .left) ∙ c .before .before .before .load .ensures .0) (c .before .before .before .load .ensures .1))
+
+pub new-spec : {M : Type 1} → statement M
+new-spec =
+    tie.close
+    (tie.spec
+    loading-refusal-requires
+    returns
+    load-requires
+    same-length
+    returns-2
+    same-length-2
+    returns-3)

@@ -1,0 +1,144 @@
+-- The rows 10 to 12 of a move, and what comes after them. Assumes nothing.
+use Prim.Native.Nat.{ℕ, _+_, _*_, _^_, _≤_, _<_}
+use native.Mathlib.Omega.{arith}
+use mathlib.Core.Path.{_≡_, refl, sym, ap, subst, _∙_}
+use mathlib.Core.Bool.{Bool, true, false, not, cond, _&&_, true≢false}
+use mathlib.Core.List.{List}
+use lib.Dec.{leb, ltb, eqb}
+use lib.ListN.{length, getD}
+use borrow.Author.Tests.{le-leb, lt-leb, le-ltb, leb-true, eqb-true, eqb-false, eq-eqb, ne-eqb}
+use Rattle.graphs.specs.Walk.{cyclic}
+use Rattle.layout.specs.Patch.{part-at, part-long}
+use Rattle.entry_set.specs.Sets.{value, legal, width}
+use Rattle.entry_set.specs.SetLaws.{legal-length, legal-below}
+use Rattle.entry_set.specs.Lanes.{lanes}
+use Rattle.ledger.specs.Graph.{Load, at, edge}
+use Rattle.ledger.specs.Answer.{Answer, refused, is-refused}
+use Rattle.ledger.specs.Ledger.{Ledger, step1, step2, step3, full, move}
+use Rattle.ledger.specs.MoveLaws.{steps}
+use Rattle.ledger.specs.Loading.{refusal}
+use Rattle.ledger.specs.LoadLaws.{Loadable}
+use Rattle.ledger.specs.Nodes.{placed}
+use Rattle.ledger.specs.NodeLaws.{placed-at}
+use Rattle.move_area.specs.Bodies.{laneAt, atomAt}
+use Rattle.move_area.specs.Area.{State, encode, decode, consistent, setsIn}
+use Rattle.move_area.specs.Held.{consistent-whole}
+use Rattle.move_area.specs.Checked.{nodesIn, Ranged, consistent-ranged, ranged-placing, sets-at, sets-length}
+use Rattle.move_area.specs.Calls.{tried, after, checked}
+use Rattle.move_area.specs.Calls as calls
+use Rattle.moving.specs.Tried.{CanTry, Answers}
+use Rattle.reduced_chunk_graph.specs.Moves.{CanGoOn, GoesOn, FromNine}
+
+-- a refused move isn't tried
+module _ (load : Load) (N : ℕ) (st : State) (a : ℕ) (s : List ℕ) where
+  refused-untried : is-refused (move load N (st .ledger) a s .answer) ≡ true → tried load N (st .ledger) a s ≡ false
+  unfolding tried move steps
+  refused-untried h =
+      go (leb (load .A) a) (ltb a (load .A)) (legal (load .E) s) (eqb (value s) (at (st .ledger .place) a)) (step1 load (st .ledger .place) a) (full N (st .ledger .registered) (value s))
+      (cyclic (edge load (step3 (st .ledger) a (value s) .place)) (step3 (st .ledger) a (value s) .place)) (λ e. lt-not e) h
+    where
+      lt-not : leb (load .A) a ≡ true → ltb a (load .A) ≡ false
+      lt-not e = le-ltb a (load .A) (leb-true (load .A) a e)
+
+      go : (r10 b ok r12 s1 r13 s3 : Bool) → (r10 ≡ true → b ≡ false)
+          → is-refused (steps r10 (not ok) r12 s1 r13 s3 (st .ledger) (step2 (st .ledger) (value s)) (step3 (st .ledger) a (value s)) .answer) ≡ true
+          → (b && (ok && (not r12 && (not s1 && not r13)))) ≡ false
+      go true b ok r12 s1 r13 s3 e q = rw (e refl) refl
+      go false false ok r12 s1 r13 s3 e q = refl
+      go false true false r12 s1 r13 s3 e q = refl
+      go false true true true s1 r13 s3 e q = refl
+      go false true true false true r13 s3 e q = refl
+      go false true true false false true s3 e q = refl
+      go false true true false false false true e q = absurd (true≢false (sym q))
+      go false true true false false false false e q = absurd (true≢false (sym q))
+
+  refused-stays : is-refused (move load N (st .ledger) a s .answer) ≡ true → after load N st a s ≡ st
+  unfolding after
+  refused-stays h = rw (refused-untried h) refl
+
+module _ {load : Load} {n : ℕ} {area s t : List ℕ} (can : CanGoOn load n area s t) (atom : ℕ) (bits : List ℕ) where
+  -- the three rows
+  pub goes-ten : load .A ≤ atom → GoesOn load n area atom bits (refused 10) area
+  unfolding move
+  goes-ten h = record { answer = rw (le-leb (load .A) atom h) refl; area-after = refl }
+
+  pub goes-eleven : atom < load .A → legal (load .E) bits ≡ false → GoesOn load n area atom bits (refused 11) area
+  unfolding move
+  goes-eleven h q = record { answer = rw (lt-leb (load .A) atom h, q) refl; area-after = refl }
+
+  pub goes-twelve : atom < load .A → legal (load .E) bits ≡ true → eqb (value bits) (at (decode load n area .ledger .place) atom) ≡ true → GoesOn load n area atom bits (refused 12) area
+  unfolding move
+  goes-twelve h q e = record { answer = rw (lt-leb (load .A) atom h, q, e) refl; area-after = refl }
+
+  -- and the move
+  pub goes-tried : (T : ℕ) (r : Answer) (l : List ℕ) → value bits ≡ T → legal (load .E) bits ≡ true → Answers load n area atom T r l → GoesOn load n area atom bits r l
+  goes-tried T r l e q a =
+      let z = a .of bits e q in
+      record { answer = z .0; area-after = go (is-refused r) refl (z .0) (z .1) }
+    where
+      go : (b : Bool) → is-refused r ≡ b → r ≡ move load n (decode load n area .ledger) atom bits .answer → l ≡ encode load n (after load n (decode load n area) atom bits) area
+          → l ≡ cond b area (encode load n (after load n (decode load n area) atom bits) area)
+      go true b x y =
+          y ∙ ap (λ (u : State). encode load n u area) (refused-stays load n (decode load n area) atom bits (sym (ap is-refused x) ∙ b)) ∙ consistent-whole load n area (can .sane)
+      go false b x y = y
+
+  -- the atom's node and its set
+  pub go-ranged : Ranged load n area
+  go-ranged = let z = can .loadable .sizes in consistent-ranged load n area (can .loadable .order) (z .sets) (omega (arith, z .area)) (can .sane)
+
+  pub go-node : atom < load .A → getD area (n * n + 24 + 24 * n + atom) 0 < n
+  go-node h = omega (arith, go-ranged .nodes atom h, go-ranged .few)
+
+  pub go-set : atom < load .A → (x : ℕ) → x ≡ getD area (n * n + 24 + 24 * n + atom) 0 → lanes area (n * n + 24 + x) n ≡ at (decode load n area .ledger .place) atom
+  unfolding decode
+  go-set h x e =
+      let p = ranged-placing (can .loadable .sizes .sets) go-ranged in
+      let i : n * n + 24 + x ≡ laneAt n 0 + x = omega arith in
+      ap (λ k. lanes area k n) i
+      ∙ sym (sets-at n area x (omega (arith, go-ranged .nodes atom h)))
+      ∙ ap (at (setsIn n area)) (e ∙ sym (part-at (atomAt n) (load .A) area atom h))
+      ∙ sym (placed-at (nodesIn load n area) (setsIn n area) atom (omega (arith, p .atoms)))
+
+-- a lent set that is legal has four numbers at most
+pub legal-short : (e : ℕ) (bits : List ℕ) → e ≤ 256 → legal e bits ≡ true → length bits ≤ 4
+legal-short e bits b h = omega (arith, legal-length e bits h)
+
+-- row 9 comes before
+module _ {load : Load} {n : ℕ} {area : List ℕ} {atom : ℕ} {bits : List ℕ} where
+  pub nine-refused : consistent load n area ≡ false → FromNine load n area atom bits (refused 9) area
+  nine-refused h = record { answer = rw h refl; area-after = refl }
+
+  pub nine-passed : {r : Answer} {l : List ℕ} → consistent load n area ≡ true → GoesOn load n area atom bits r l → FromNine load n area atom bits r l
+  nine-passed h g = record { answer = g .answer ∙ rw h refl; area-after = g .area-after }
+
+-- the whole call
+module _ (load : Load) (n : ℕ) (area : List ℕ) (atom : ℕ) (bits : List ℕ) where
+  pub call-refused : (q : ℕ) → q ≡ refusal load n (length area) → (q ≡ 0 → ⊥) → (refused q ≡ calls.try-move load n area atom bits .answer) × (area ≡ calls.try-move load n area atom bits .area)
+  unfolding calls.try-move checked
+  call-refused q e h = rw (← e, ne-eqb q 0 h) (refl, refl)
+
+  pub call-answer : refusal load n (length area) ≡ 0 → {r : Answer} {l : List ℕ} → FromNine load n area atom bits r l → (r ≡ calls.try-move load n area atom bits .answer) × (l ≡ calls.try-move load n area atom bits .area)
+  unfolding calls.try-move checked
+  call-answer e {r} {l} f = rw e (f .answer, f .area-after ∙ ap (λ (x : Answer). cond (is-refused x) area (encode load n (after load n (decode load n area) atom bits) area)) (f .answer))
+
+-- rows 12 and what the move asks, with the present set and the target by value
+module _ {load : Load} {n : ℕ} {area s t : List ℕ} (can : CanGoOn load n area s t) (atom : ℕ) (bits : List ℕ) (here : atom < load .A) (ok : legal (load .E) bits ≡ true)
+    (present target x : ℕ) (node : x ≡ getD area (n * n + 24 + 24 * n + atom) 0) (there : present ≡ lanes area (n * n + 24 + x) n) (is : target ≡ value bits) where
+  pub twelve-fits : eqb present target ≡ true → GoesOn load n area atom bits (refused 12) area
+  twelve-fits h = goes-twelve can atom bits here ok (eq-eqb _ _ (sym is ∙ sym (eqb-true _ _ h) ∙ there ∙ go-set can atom bits here x node))
+
+  pub can-try : eqb present target ≡ false → CanTry load n area atom target s t
+  can-try h =
+      record {
+        loadable = can .loadable;
+        sane = can .sane;
+        there = here;
+        range = rw is (legal-below (load .E) bits ok);
+        other = ne-eqb _ _ (λ e. eqb-false _ _ h (there ∙ go-set can atom bits here x node ∙ sym e));
+        slots = can .slots;
+        sources-long = can .sources-long;
+        targets-long = can .targets-long;
+      }
+
+  pub tried-goes : (r : Answer) (l : List ℕ) → Answers load n area atom target r l → GoesOn load n area atom bits r l
+  tried-goes r l a = goes-tried can atom bits target r l (sym is) ok a

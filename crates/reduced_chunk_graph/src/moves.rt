@@ -1,0 +1,207 @@
+// Trial moves: `try_move`.
+use super::MoveAnswer;
+ghost use mathlib.Core.Path.{_≡_};
+ghost use Prim.Native.Nat.{_≤_};
+ghost use lib.ListN.{length};
+ghost use Rattle.ledger.specs.Loading.{refusal};
+ghost use Rattle.placement.specs.Slots.{lent};
+ghost use Rattle.move_area.specs.Calls as calls;
+ghost use Rattle.reduced_chunk_graph.specs.Answers.{ofMove};
+ghost use Rattle.reduced_chunk_graph.specs.Moves.{CanGoOn, GoesOn, FromNine};
+
+// The rows 10 to 12 and the move itself, on a consistent area whose slots are `sources` and `targets`.
+fn go_on(
+    a: usize,
+    d: usize,
+    e: usize,
+    n: usize,
+    starts: &[u32],
+    dependencies: &[u32],
+    hosts: &[u32],
+    area: &mut [u32],
+    atom: usize,
+    bits: &[u64],
+    sources: &[u32],
+    targets: &[u32],
+) -> MoveAnswer
+    requires { ⌜ CanGoOn (lent a d e (now starts) (now dependencies) (now hosts)) n (now area) (now sources) (now targets) ⌝ }
+    ensures { λ r. ⌜ GoesOn (lent a d e (now (starts .entry)) (now (dependencies .entry)) (now (hosts .entry))) n (now (area .entry)) atom (now (bits .entry)) (ofMove r) (now (area .exit)) ⌝ }
+{
+    if a <= atom {
+        return MoveAnswer::Refused(10);
+    }
+    if !entry_set::is_legal(bits, e) {
+        return MoveAnswer::Refused(11);
+    }
+    let target = entry_set::from_list(bits);
+    let lanes = n * n + 24;
+    let node = area[lanes + 24 * n + atom] as usize;
+    if entry_set::equal(entry_set::read_lanes(area, lanes + node, n), target) {
+        return MoveAnswer::Refused(12);
+    }
+    let tried = moving::try_checked(
+        a,
+        d,
+        e,
+        n,
+        starts,
+        dependencies,
+        hosts,
+        area,
+        atom,
+        target,
+        sources,
+        targets,
+    );
+    match tried {
+        moving::Tried::Accepted => MoveAnswer::Accepted,
+        moving::Tried::Rejected => MoveAnswer::Rejected,
+        moving::Tried::Full => MoveAnswer::Refused(13),
+    }
+}
+
+// The rows from 9 on.
+fn try_large(
+    a: usize,
+    d: usize,
+    e: usize,
+    n: usize,
+    starts: &[u32],
+    dependencies: &[u32],
+    hosts: &[u32],
+    area: &mut [u32],
+    atom: usize,
+    bits: &[u64],
+) -> MoveAnswer
+    requires { ⌜ refusal (lent a d e (now starts) (now dependencies) (now hosts)) n (length (now area)) ≡ 0 ⌝ }
+    ensures { λ r. ⌜ FromNine (lent a d e (now (starts .entry)) (now (dependencies .entry)) (now (hosts .entry))) n (now (area .entry)) atom (now (bits .entry)) (ofMove r) (now (area .exit)) ⌝ }
+{
+    let mut sources = [0u32; 8448];
+    let mut targets = [0u32; 8448];
+    if !super::check::check_large(
+        a,
+        d,
+        e,
+        n,
+        starts,
+        dependencies,
+        hosts,
+        area,
+        &mut sources,
+        &mut targets,
+    ) {
+        return MoveAnswer::Refused(9);
+    }
+    go_on(
+        a,
+        d,
+        e,
+        n,
+        starts,
+        dependencies,
+        hosts,
+        area,
+        atom,
+        bits,
+        &sources,
+        &targets,
+    )
+}
+
+// The rows from 9 on for a small load.
+fn try_small(
+    a: usize,
+    d: usize,
+    e: usize,
+    n: usize,
+    starts: &[u32],
+    dependencies: &[u32],
+    hosts: &[u32],
+    area: &mut [u32],
+    atom: usize,
+    bits: &[u64],
+) -> MoveAnswer
+    requires { ⌜ (refusal (lent a d e (now starts) (now dependencies) (now hosts)) n (length (now area)) ≡ 0) × (n ≤ 128) × (d ≤ 768) ⌝ }
+    ensures { λ r. ⌜ FromNine (lent a d e (now (starts .entry)) (now (dependencies .entry)) (now (hosts .entry))) n (now (area .entry)) atom (now (bits .entry)) (ofMove r) (now (area .exit)) ⌝ }
+{
+    let mut sources = [0u32; 1024];
+    let mut targets = [0u32; 1024];
+    if !super::check::check_small(
+        a,
+        d,
+        e,
+        n,
+        starts,
+        dependencies,
+        hosts,
+        area,
+        &mut sources,
+        &mut targets,
+    ) {
+        return MoveAnswer::Refused(9);
+    }
+    go_on(
+        a,
+        d,
+        e,
+        n,
+        starts,
+        dependencies,
+        hosts,
+        area,
+        atom,
+        bits,
+        &sources,
+        &targets,
+    )
+}
+
+// Moves the atom to the set if the chunk graph then has no cycle; else the atom stays where it is.
+pub fn try_move(
+    a: usize,
+    d: usize,
+    e: usize,
+    n: usize,
+    starts: &[u32],
+    dependencies: &[u32],
+    hosts: &[u32],
+    area: &mut [u32],
+    atom: u32,
+    bits: &[u64],
+) -> MoveAnswer
+    ensures { λ r. ⌜ ofMove r ≡ calls.try-move (lent a d e (now (starts .entry)) (now (dependencies .entry)) (now (hosts .entry))) n (now (area .entry)) atom (now (bits .entry)) .answer ⌝ }
+    ensures { λ _. ⌜ now (area .exit) ≡ calls.try-move (lent a d e (now (starts .entry)) (now (dependencies .entry)) (now (hosts .entry))) n (now (area .entry)) atom (now (bits .entry)) .area ⌝ }
+{
+    let q = load_checks::refusal(a, d, e, n, starts, dependencies, hosts, true, area.len());
+    if q != 0 {
+        return MoveAnswer::Refused(q);
+    }
+    if n <= 128 {
+        if d <= 768 {
+            return try_small(
+                a,
+                d,
+                e,
+                n,
+                starts,
+                dependencies,
+                hosts,
+                area,
+                atom as usize,
+                bits,
+            );
+        }
+    }
+    try_large(
+        a,
+        d,
+        e,
+        n,
+        starts,
+        dependencies,
+        hosts,
+        area,
+        atom as usize,
+        bits,
+    )
+}
