@@ -1,0 +1,5 @@
+-- The laws that the proofs of `moves_commands` cite. Assumes nothing.
+pub mod Sets
+pub mod Lines
+pub mod Turns
+pub mod Feeds

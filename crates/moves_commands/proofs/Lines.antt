@@ -1,0 +1,77 @@
+-- The lines of a listing, one after the other. Assumes nothing.
+use mathlib.Core.Path.{_≡_, subst}
+use mathlib.Core.Bool.{Bool, true, false, cond}
+use mathlib.Core.List.{List, _++_}
+use Prim.Native.Nat.{ℕ, zero, suc, _+_, _*_, _≤_, _<_}
+use native.Mathlib.Omega.{arith}
+use native.Mathlib.Numerals.{add-one}
+use lib.Dec.{eqb}
+use lib.ListN.{length, length-append}
+use Rattle.ledger.specs.Graph.{Load, edges}
+use Rattle.ledger.specs.Answer.{Answer, refused, number}
+use Rattle.ledger.specs.Ledger.{Question, edge-count, edge-at, ask}
+use Rattle.ledger.specs.Loading.{refusal}
+use Rattle.move_area.specs.Area.{decode, consistent}
+use Rattle.move_area.specs.Calls.{asked, checked}
+use Rattle.replies.specs.Words.{reply}
+use Rattle.replies.specs.Room.{Put, put-then, put-none, reply-long}
+use Rattle.load_commands.specs.declared.Machine.{Machine}
+use Rattle.moves_commands.specs.Program.{N, areas, lent, lines, lines-of, listing}
+use Rattle.moves_commands.specs.Few.{edges-few}
+
+pub lines-long : (asks : Question → Answer) (n : ℕ) → length (lines asks n) ≤ 64 * n
+unfolding lines
+lines-long asks zero = omega arith
+lines-long asks (suc n) = simp length-append (omega (arith, lines-long asks n, reply-long (asks (edge-at n))))
+
+-- the first k lines are written
+pub record Listing (asks : Question → Answer) (n : ℕ) (l₀ : List ℕ) (at k p : ℕ) (l : List ℕ) : Type 0 where
+  pub within : k ≤ n
+  pub put : Put (lines asks k) l₀ at l p
+
+pub listing-none : {asks : Question → Answer} {n : ℕ} {l : List ℕ} {at : ℕ} → at ≤ length l → Listing asks n l at 0 at l
+unfolding lines
+listing-none h = record { within = omega arith; put = put-none _ _ h }
+
+module _ {asks : Question → Answer} {n : ℕ} {l₀ : List ℕ} {at k p : ℕ} {l : List ℕ} (v : Listing asks n l₀ at k p l) where
+  pub listing-room : k < n → at + 64 * n ≤ length l₀ → p + 64 ≤ length l
+  listing-room h b = omega (arith, lines-long asks k, v .put .end, v .put .long)
+
+  pub listing-more : {q : ℕ} {l′ : List ℕ} → k < n → Put (reply (asks (edge-at k))) l p l′ q → Listing asks n l₀ at (k + 1) q l′
+  unfolding lines
+  listing-more h w =
+      record {
+        within = omega arith;
+        put = rw add-one (put-then (v .put) w);
+      }
+
+  pub listing-done : n ≤ k → Put (lines asks n) l₀ at l p
+  listing-done h = let e : k ≡ n = omega (arith, v .within) in subst (λ j. Put (lines asks j) l₀ at l p) e (v .put)
+
+-- of a graph of the program's size
+pub asked-few : (load : Load) (N : ℕ) (area : List ℕ) (n : ℕ) → number n ≡ asked load N area edge-count → n ≤ load .D + load .E
+unfolding asked checked ask
+asked-few load N area n = go (eqb (refusal load N (length area)) 0) (consistent load N area)
+  where
+    p : List ℕ
+    p = decode load N area .ledger .place
+
+    go : (t u : Bool) → number n ≡ cond t (cond u (number (length (edges load (decode load N area .ledger .place)))) (refused 9)) (refused (refusal load N (length area))) → n ≤ load .D + load .E
+    go true true e = let q : n ≡ length (edges load (decode load N area .ledger .place)) = cc in omega (arith, edges-few load (decode load N area .ledger .place))
+    go true false e = let z : _≡_ {A = ℕ} 0 1 = cc in absurd (omega arith)
+    go false u e = let z : _≡_ {A = ℕ} 0 1 = cc in absurd (omega arith)
+
+-- at most 144 edges
+pub program-few : (m : Machine) (dependencies starts hosts area : List ℕ) (n : ℕ) → m .entries ≤ 128 → number n ≡ areas .asks (lent m dependencies starts hosts) area edge-count → n ≤ 144
+program-few m dependencies starts hosts area n h e = omega (arith, asked-few (lent m dependencies starts hosts) N area n e)
+
+-- the lines, and then the count
+pub listing-steps : (asks : Question → Answer) (n : ℕ) {l l′ l″ : List ℕ} {at p q : ℕ} → number n ≡ asks edge-count
+    → Put (lines asks n) l at l′ p → Put (reply (number n)) l′ p l″ q → Put (listing asks) l at l″ q
+unfolding listing
+listing-steps asks n {l} {l′} {l″} {at} {p} {q} e v w =
+    subst (λ a. Put (lines-of asks a ++ reply a) l at l″ q) e (put-then v w)
+
+pub listing-refused : (asks : Question → Answer) (row : ℕ) {l l′ : List ℕ} {at q : ℕ} → refused row ≡ asks edge-count → Put (reply (refused row)) l at l′ q → Put (listing asks) l at l′ q
+unfolding listing
+listing-refused asks row {l} {l′} {at} {q} e w = subst (λ a. Put (lines-of asks a ++ reply a) l at l′ q) e w

@@ -1,0 +1,60 @@
+-- `moves_commands::answers::put_edge_answer` meets its contract. Assumes nothing.
+use Rattle.replies.specs.Room.{put-none, put-as}
+use Rattle.moves_commands.proofs.Sets.{edge-line}
+use native.Mathlib.Omega.{arith}
+use Rattle.replies.specs.Words.{reply}
+use Rattle.replies.specs.Room.{put-none}
+use borrow.Author.Needs.{needs}
+use Rattle.moves_commands.proofs.answers.put_edge_answer.Statement.{statement}
+use Rattle.moves_commands.proofs.answers.put_edge_answer.Tie as tie
+
+enum-known-r : tie.Need-enum-known-r
+enum-known-r c = search needs
+
+cast-put-edge : tie.Need-cast-put-edge
+cast-put-edge c = search needs
+
+put-edge-requires : tie.Need-put-edge-requires
+put-edge-requires c κs = search needs
+
+enum-told : tie.Need-enum-told
+enum-told c = search needs
+
+enum-known-r-2 : tie.Need-enum-known-r-2
+enum-known-r-2 c = search needs
+
+put-refused-requires : tie.Need-put-refused-requires
+put-refused-requires c κs = search needs
+
+same-length : tie.Need-same-length
+same-length c = search needs
+
+returns : tie.Need-returns
+unfolding reply
+returns c = let e = c .before .before .before .before .before .before .before .before .r .given .0 in rw (c .before .before .before .before .before .before .before .before .r .given .1) (put-as (edge-line (e .0 .from) (e .0 .to) (e .0 .multiplicity) (search needs) (search needs)) (c .before .before .put-edge .ensures))
+
+returns-2 : tie.Need-returns-2
+unfolding reply
+returns-2 c = rw (c .enum-told .given .1) (put-none _ _ (omega (arith, c .before .before .before .pre)))
+
+same-length-2 : tie.Need-same-length-2
+same-length-2 c = search needs
+
+returns-3 : tie.Need-returns-3
+returns-3 c = rw (c .before .before .before .before .before .r2 .given .1) (c .before .before .put-refused .ensures)
+
+pub put-edge-answer-spec : {M : Type 1} → statement M
+put-edge-answer-spec =
+    tie.close
+    (tie.spec
+    enum-known-r
+    cast-put-edge
+    put-edge-requires
+    enum-told
+    enum-known-r-2
+    put-refused-requires
+    same-length
+    returns
+    returns-2
+    same-length-2
+    returns-3)

@@ -1,0 +1,43 @@
+use mathlib.Core.Path.{sym}
+use native.Mathlib.Omega.{arith}
+use lib.Seq.{length-take-le}
+use borrow.Author.Needs.{needs}
+use Rattle.moves_commands.proofs.calls.try_move.Statement.{statement}
+use Rattle.moves_commands.proofs.calls.try_move.Tie as tie
+
+add-k : tie.Need-add-k
+add-k c = search needs
+
+cast-t10 : tie.Need-cast-t10
+cast-t10 c = search needs
+
+slice-aggregate-try-move : tie.Need-slice-aggregate-try-move
+slice-aggregate-try-move c = sym (length-take-le _ _ (omega arith))
+
+slice-aggregate-try-move-2 : tie.Need-slice-aggregate-try-move-2
+slice-aggregate-try-move-2 c = sym (length-take-le _ _ (omega arith))
+
+slice-aggregate-try-move-3 : tie.Need-slice-aggregate-try-move-3
+slice-aggregate-try-move-3 c = search needs
+
+try-move-requires : tie.Need-try-move-requires
+try-move-requires c κs = search needs
+
+same-length : tie.Need-same-length
+same-length c = search needs
+
+returns : tie.Need-returns
+returns c = search needs
+
+pub try-move-spec : {M : Type 1} → statement M
+try-move-spec =
+    tie.close
+    (tie.spec
+    add-k
+    cast-t10
+    slice-aggregate-try-move
+    slice-aggregate-try-move-2
+    slice-aggregate-try-move-3
+    try-move-requires
+    same-length
+    returns)

@@ -1,0 +1,142 @@
+// The calls of the move graph on the lists that the program holds: of each only the part in use is lent.
+ghost use mathlib.Core.Path.{_≡_};
+ghost use mathlib.Core.List.{[], _∷_};
+ghost use Prim.Native.Nat.{_+_, _≤_};
+ghost use lib.ListN.{length, take};
+ghost use Rattle.ledger.specs.Ledger.{atom-set, edge-count, edge-at};
+ghost use Rattle.reduced_chunk_graph.specs.Answers.{ofLoad, ofMove, ofSet, ofNumber, ofEdge};
+ghost use Rattle.moves_commands.specs.Program.{areas, lent};
+ghost use Rattle.moves_commands.specs.Steps.{CanLend};
+use load_commands::Machine;
+use reduced_chunk_graph::EdgeAnswer;
+use reduced_chunk_graph::LoadAnswer;
+use reduced_chunk_graph::MoveAnswer;
+use reduced_chunk_graph::NumberAnswer;
+use reduced_chunk_graph::SetAnswer;
+
+pub fn new(
+    m: Machine,
+    sets: &[u64],
+    dependencies: &[u32],
+    starts: &[u32],
+    hosts: &[u32],
+    area: &mut [u32],
+) -> LoadAnswer
+    requires { ⌜ CanLend m (now dependencies) (now starts) ⌝ }
+    requires { ⌜ m .atoms ≤ length (now sets) ⌝ }
+    ensures { λ r. ⌜ ofLoad r ≡ areas .new (lent m (now (dependencies .entry)) (now (starts .entry)) (now (hosts .entry))) (take (m .atoms) (now (sets .entry))) (now (area .entry)) .answer ⌝ }
+    ensures { λ r. ⌜ now (area .exit) ≡ areas .new (lent m (now (dependencies .entry)) (now (starts .entry)) (now (hosts .entry))) (take (m .atoms) (now (sets .entry))) (now (area .entry)) .graph ⌝ }
+{
+    let a = m.atoms;
+    let d = m.entries;
+    let k = a + 1;
+    reduced_chunk_graph::new(
+        a,
+        d,
+        16,
+        96,
+        &starts[..k],
+        &dependencies[..d],
+        hosts,
+        &sets[..a],
+        area,
+    )
+}
+
+pub fn try_move(
+    m: Machine,
+    dependencies: &[u32],
+    starts: &[u32],
+    hosts: &[u32],
+    area: &mut [u32],
+) -> MoveAnswer
+    requires { ⌜ CanLend m (now dependencies) (now starts) ⌝ }
+    ensures { λ r. ⌜ ofMove r ≡ areas .move (lent m (now (dependencies .entry)) (now (starts .entry)) (now (hosts .entry))) (now (area .entry)) (m .x) (m .y ∷ []) .answer ⌝ }
+    ensures { λ r. ⌜ now (area .exit) ≡ areas .move (lent m (now (dependencies .entry)) (now (starts .entry)) (now (hosts .entry))) (now (area .entry)) (m .x) (m .y ∷ []) .graph ⌝ }
+{
+    let a = m.atoms;
+    let d = m.entries;
+    let k = a + 1;
+    let bits = [m.y as u64];
+    reduced_chunk_graph::try_move(
+        a,
+        d,
+        16,
+        96,
+        &starts[..k],
+        &dependencies[..d],
+        hosts,
+        area,
+        m.x,
+        &bits,
+    )
+}
+
+pub fn atom_set(
+    m: Machine,
+    dependencies: &[u32],
+    starts: &[u32],
+    hosts: &[u32],
+    area: &[u32],
+) -> SetAnswer
+    requires { ⌜ CanLend m (now dependencies) (now starts) ⌝ }
+    ensures { λ r. ⌜ ofSet r ≡ areas .asks (lent m (now (dependencies .entry)) (now (starts .entry)) (now (hosts .entry))) (now (area .entry)) (atom-set (m .y)) ⌝ }
+{
+    let a = m.atoms;
+    let d = m.entries;
+    let k = a + 1;
+    reduced_chunk_graph::atom_set(
+        a,
+        d,
+        16,
+        96,
+        &starts[..k],
+        &dependencies[..d],
+        hosts,
+        area,
+        m.y,
+    )
+}
+
+pub fn edge_count(
+    m: Machine,
+    dependencies: &[u32],
+    starts: &[u32],
+    hosts: &[u32],
+    area: &[u32],
+) -> NumberAnswer
+    requires { ⌜ CanLend m (now dependencies) (now starts) ⌝ }
+    ensures { λ r. ⌜ ofNumber r ≡ areas .asks (lent m (now (dependencies .entry)) (now (starts .entry)) (now (hosts .entry))) (now (area .entry)) edge-count ⌝ }
+{
+    let a = m.atoms;
+    let d = m.entries;
+    let k = a + 1;
+    reduced_chunk_graph::edge_count(a, d, 16, 96, &starts[..k], &dependencies[..d], hosts, area)
+}
+
+pub fn edge_at(
+    m: Machine,
+    dependencies: &[u32],
+    starts: &[u32],
+    hosts: &[u32],
+    area: &[u32],
+    i: u64,
+) -> EdgeAnswer
+    requires { ⌜ CanLend m (now dependencies) (now starts) ⌝ }
+    ensures { λ r. ⌜ ofEdge r ≡ areas .asks (lent m (now (dependencies .entry)) (now (starts .entry)) (now (hosts .entry))) (now (area .entry)) (edge-at i) ⌝ }
+{
+    let a = m.atoms;
+    let d = m.entries;
+    let k = a + 1;
+    reduced_chunk_graph::edge_at(
+        a,
+        d,
+        16,
+        96,
+        &starts[..k],
+        &dependencies[..d],
+        hosts,
+        area,
+        i,
+    )
+}

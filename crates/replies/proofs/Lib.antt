@@ -1,0 +1,2 @@
+-- The laws that the proofs of `replies` cite. Assumes nothing.
+pub mod Writing
