@@ -167,6 +167,7 @@ pub fn feed(
     out: &mut [u8],
 ) -> Fed
     ensures { λ r. ⌜ FedAs (feed areas (held m (now (sets .entry)) (now (sources .entry)) (now (dependencies .entry)) (now (hosts .entry)) (now (starts .entry)) (now (area .entry))) (now (input .entry)) (length (now (out .entry)))) (held (r .machine) (now (sets .exit)) (now (sources .exit)) (now (dependencies .exit)) (now (hosts .exit)) (now (starts .exit)) (now (area .exit))) (r .used) (now (out .entry)) (now (out .exit)) (r .written) ⌝ }
+    ensures { λ r. ⌜ r .used ≤ length (now (input .entry)) ⌝ }
 {
     if !fits(m, sets, sources, dependencies, starts, hosts) {
         return Fed {

@@ -1,4 +1,8 @@
 -- `moves_commands::feed` meets its contract. Assumes nothing.
+use native.Mathlib.Omega.{arith}
+use lib.ListN.{length}
+use Rattle.moves_commands.specs.Program.{areas}
+use Rattle.moves_commands.specs.Feed.{feed-used}
 use mathlib.Core.Path.{sym, _∙_}
 use borrow.Author.Tests.{not-true, not-false}
 use Rattle.moves_commands.specs.Fits.{fits-true}
@@ -27,7 +31,8 @@ same-length-5 : tie.Need-same-length-5
 same-length-5 c = search needs
 
 returns : tie.Need-returns
-returns c = let a = c .before .before .before .before .before .before .before .before .before .before .before .before .before .before .before .args in fed-none (held (a .m) (a .sets .now) (a .sources .now) (a .dependencies .now) (a .hosts .now) (a .starts .now) (a .area .now)) (a .input .now) (sym (c .before .fits2 .ensures) ∙ not-true _ (c .if1 .taken))
+returns c = let a = c .before .before .before .before .before .before .before .before .before .before .before .before .before .before .before .args in
+    (fed-none (held (a .m) (a .sets .now) (a .sources .now) (a .dependencies .now) (a .hosts .now) (a .starts .now) (a .area .now)) (a .input .now) (sym (c .before .fits2 .ensures) ∙ not-true _ (c .if1 .taken)), omega arith)
 
 feed-on-requires : tie.Need-feed-on-requires
 feed-on-requires c κs = fits-true _ _ (sym (c .before .before .before .before .before .before .before .before .fits2 .ensures) ∙ not-false _ (c .before .before .before .before .before .before .before .if1 .left))
@@ -54,7 +59,10 @@ same-length-12 : tie.Need-same-length-12
 same-length-12 c = search needs
 
 returns-2 : tie.Need-returns-2
-returns-2 c = let a = c .before .before .before .before .before .before .before .before .before .before .before .before .before .before .before .before .before .before .before .before .before .before .before .before .before .before .before .before .before .before .before .before .before .before .before .before .before .args in fed-all (held (a .m) (a .sets .now) (a .sources .now) (a .dependencies .now) (a .hosts .now) (a .starts .now) (a .area .now)) (a .input .now) (sym (c .before .before .before .before .before .before .before .before .before .before .before .before .before .before .before .before .before .before .before .before .before .before .before .fits2 .ensures) ∙ not-false _ (c .before .before .before .before .before .before .before .before .before .before .before .before .before .before .before .before .before .before .before .before .before .before .if1 .left)) (c .before .before .before .before .before .before .before .before .before .before .before .before .before .before .feed-on .ensures)
+returns-2 c = let a = c .before .before .before .before .before .before .before .before .before .before .before .before .before .before .before .before .before .before .before .before .before .before .before .before .before .before .before .before .before .before .before .before .before .before .before .before .before .args in
+    let s = (held (a .m) (a .sets .now) (a .sources .now) (a .dependencies .now) (a .hosts .now) (a .starts .now) (a .area .now)) in
+    let v = fed-all s (a .input .now) (sym (c .before .before .before .before .before .before .before .before .before .before .before .before .before .before .before .before .before .before .before .before .before .before .before .fits2 .ensures) ∙ not-false _ (c .before .before .before .before .before .before .before .before .before .before .before .before .before .before .before .before .before .before .before .before .before .before .if1 .left)) (c .before .before .before .before .before .before .before .before .before .before .before .before .before .before .feed-on .ensures) in
+    (v, omega (arith, v .count, feed-used areas s (a .input .now) (length (a .out .now))))
 
 pub feed-spec : {M : Type 1} → statement M
 feed-spec =
