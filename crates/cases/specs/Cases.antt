@@ -1,6 +1,6 @@
 -- The table of bench cases, and the one test: what comes out of each case is what must. Assumes nothing.
 use mathlib.Core.Path.{_≡_, refl}
-use mathlib.Core.List.{List, map}
+use mathlib.Core.List.{List, map, _++_}
 use Rattle.graphs.specs.Lists.{any, all, has, below}
 use Rattle.graphs.specs.Count.{count}
 use Rattle.graphs.specs.Tab.{tab}
@@ -11,23 +11,34 @@ use Rattle.ledger.specs.Ledger.{register, move, kth, ask, call, answers, ledger
 use Rattle.ledger.specs.Loading.{row4, row5, row6, first-row, entry-sets, row7, row8, loading-row, loading}
 use Rattle.cases.specs.Run.{MoveCase, MoveOutcome, move-outcome, tries, every, shut}
 use Rattle.cases.specs.Moves.{move-cases}
+use Rattle.walks.specs.Closed.{closed}
+use Rattle.merge_state.specs.State.{put, misfit}
+use Rattle.merge_state.specs.Methods.{reachable, warns, absorbed, merged, created-chunk, candidate, passed}
+use Rattle.merge_state.specs.Methods as methods
+use Rattle.merge_state.specs.Table.{first-fitting, stray, later, acted, turned}
+use Rattle.cases.specs.MergeRun.{MergeCase, MergeOutcome, merge-outcome, among, turn, replies-to, left-by, needed-by, dependencies}
+use Rattle.cases.specs.Merges.{merge-cases}
 
 -- a case, and an outcome, of one of the graphs
 pub data Case : Type 0 where
   moves : MoveCase → Case
+  merges : MergeCase → Case
 
 pub data Outcome : Type 0 where
   moved : MoveOutcome → Outcome
+  fused : MergeOutcome → Outcome
 
 abbrev pub outcome : Case → Outcome
 outcome (moves c) = moved (move-outcome c)
+outcome (merges c) = fused (merge-outcome c)
 
 abbrev pub expected : Case → Outcome
 expected (moves c) = moved (c .expected)
+expected (merges c) = fused (c .expected)
 
 abbrev pub table : List Case
-table = map moves move-cases
+table = map moves move-cases ++ map merges merge-cases
 
 pub cases-right : map outcome table ≡ map expected table
-unfolding move-outcome tries every shut any all has below count tab via cyclic only joined parts owner lies members entry facade mult edge insert rising row rows edges register move kth ask call answers ledger row4 row5 row6 first-row entry-sets row7 row8 loading-row loading
+unfolding move-outcome tries every shut any all has below count tab via cyclic only joined parts owner lies members entry facade mult edge insert rising row rows edges register move kth ask call answers ledger row4 row5 row6 first-row entry-sets row7 row8 loading-row loading closed put misfit reachable warns absorbed merged created-chunk methods.merges candidate passed first-fitting stray later acted turned merge-outcome among turn replies-to left-by needed-by dependencies
 cases-right = refl

@@ -11,7 +11,7 @@ use Rattle.graphs.specs.Bools.{or-false-right, and-left, and-right}
 use Rattle.layout.specs.Patch.{patch-long}
 use Rattle.ledger.specs.Graph.{at, none}
 use Rattle.load_commands.specs.declared.Machine.{Machine}
-use Rattle.load_commands.specs.Machine.{belongs, operand, taken, inserted, unnamed, Reading, add-atom, depend, add-host, read, refuse, done, reading}
+use Rattle.load_commands.specs.Machine.{belongs, operand, taken, inserted, unnamed, Reading, add-atom, depend, add-host, read, reading}
 use Rattle.load_commands.specs.Lists.{Roomy}
 use Rattle.moves_commands.specs.Program.{Graphs, State, Turn, with-machine, load, move, edges, set-of, execute, step}
 
@@ -69,16 +69,14 @@ taken-same m b =
     either (Same m) (eqb (m .command) 0) _ _ (λ e. either (Same m) (belongs b (m .moving)) _ _ (λ e. (refl, refl)) (λ e. (refl, refl))) (λ e. operand-same m b)
 
 module _ {s : Reading} {starts : List ℕ} (f : Fits s starts) where
-  halt-fits : Fits (refuse s) starts
-  halt-fits = record { roomy = f .roomy; for-starts = f .for-starts; atoms = f .atoms; entries = f .entries }
-
-  done-fits : Fits (reading (done (s .machine)) (s .sets) (s .sources) (s .dependencies) (s .hosts)) starts
-  done-fits = record { roomy = f .roomy; for-starts = f .for-starts; atoms = f .atoms; entries = f .entries }
+  -- another machine with as much named
+  same-fits : (n : Machine) → Same (s .machine) n → Fits (reading n (s .sets) (s .sources) (s .dependencies) (s .hosts)) starts
+  same-fits n e = record { roomy = f .roomy; for-starts = f .for-starts; atoms = rw (e .0) (f .atoms); entries = rw (e .1) (f .entries) }
 
   add-atom-fits : Fits (add-atom s) starts
   unfolding add-atom
   add-atom-fits =
-      either (λ s. Fits s starts) (leb 48 (s .machine .atoms)) _ _ (λ e. halt-fits)
+      either (λ s. Fits s starts) (leb 48 (s .machine .atoms)) _ _ (λ e. same-fits _ (refl, refl))
       (λ e.
       record {
         roomy =
@@ -97,7 +95,7 @@ module _ {s : Reading} {starts : List ℕ} (f : Fits s starts) where
   unfolding depend inserted
   depend-fits =
       let m = s .machine in
-      either (λ s. Fits s starts) (unnamed m (m .x) || (unnamed m (m .y) || leb 128 (m .entries))) _ _ (λ e. halt-fits)
+      either (λ s. Fits s starts) (unnamed m (m .x) || (unnamed m (m .y) || leb 128 (m .entries))) _ _ (λ e. same-fits _ (refl, refl))
       (λ e.
       record {
         roomy =
@@ -116,7 +114,7 @@ module _ {s : Reading} {starts : List ℕ} (f : Fits s starts) where
   unfolding add-host
   add-host-fits =
       let m = s .machine in
-      either (λ s. Fits s starts) (leb 16 (m .x) || (unnamed m (m .y) || not (eqb (at (s .hosts) (m .x)) none))) _ _ (λ e. halt-fits)
+      either (λ s. Fits s starts) (leb 16 (m .x) || (unnamed m (m .y) || not (eqb (at (s .hosts) (m .x)) none))) _ _ (λ e. same-fits _ (refl, refl))
       (λ e.
       record {
         roomy =
@@ -145,7 +143,7 @@ Ready st = Fits (st .reading) (st .starts)
 pub taken-ready : {m n : Machine} (b : ℕ) {sets sources dependencies hosts starts : List ℕ}
     → Fits (reading m sets sources dependencies hosts) starts → n ≡ taken m b → Fits (reading n sets sources dependencies hosts) starts
 taken-ready {m} {n} b f e =
-    rw e (record { roomy = f .roomy; for-starts = f .for-starts; atoms = rw (taken-same m b .0) (f .atoms); entries = rw (taken-same m b .1) (f .entries) })
+    rw e (same-fits f (taken m b) (taken-same m b))
 
 module _ {G : Type 0} (graphs : Graphs G) where
   execute-fits : (st : State G) → Ready st → Ready (execute graphs st .after)
@@ -155,14 +153,13 @@ module _ {G : Type 0} (graphs : Graphs G) where
       let P : Turn G → Type 0 = λ t. Ready (t .after) in
       either P (leb c 18) _ _ (λ e. read-fits f)
       (λ e. either P (eqb c 19) _ _ (λ e. record { roomy = f .roomy; for-starts = simp patch-long (f .for-starts); atoms = f .atoms; entries = f .entries })
-      (λ e. either P (eqb c 32) _ _ (λ e. done-fits f) (λ e. either P (eqb c 33) _ _ (λ e. done-fits f) (λ e. done-fits f))))
+      (λ e. either P (eqb c 32) _ _ (λ e. same-fits f _ (refl, refl)) (λ e. either P (eqb c 33) _ _ (λ e. same-fits f _ (refl, refl)) (λ e. same-fits f _ (refl, refl)))))
 
   pub step-fits : (st : State G) (b : ℕ) → Ready st → Ready (step graphs st b .after)
   unfolding step
   step-fits st b f =
       let m = st .reading .machine in
       let P : Turn G → Type 0 = λ t. Ready (t .after) in
-      let t : Ready (with-machine st (taken m b)) =
-      record { roomy = f .roomy; for-starts = f .for-starts; atoms = rw (taken-same m b .0) (f .atoms); entries = rw (taken-same m b .1) (f .entries) } in
+      let t : Ready (with-machine st (taken m b)) = same-fits f (taken m b) (taken-same m b) in
       either P (m .stopped) _ _ (λ e. f)
       (λ e. either P ((taken m b) .stopped || not (eqb ((taken m b) .wanted) 0)) _ _ (λ e. t) (λ e. execute-fits _ t))

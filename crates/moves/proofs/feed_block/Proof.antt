@@ -1,16 +1,10 @@
 -- `moves::feed_block` meets its contract. Assumes nothing.
-use mathlib.Core.Path.{sym}
 use native.Mathlib.Omega.{arith}
 use Prim.Native.Nat.{_-_, _≤_}
 use lib.ListN.{length}
-use lib.Seq.{length-take-le}
 use Rattle.moves.proofs.Lengths.{Kept, kept-first, part-used}
 use Rattle.moves.proofs.feed_block.Statement.{statement}
 use Rattle.moves.proofs.feed_block.Tie as tie
-use Rattle.moves.proofs.feed_block.Reads as reads
-use Rattle.moves.proofs.feed_block.Lts as lts
-use Rattle.load_commands.proofs.halt.Reads as halt-reads
-use Rattle.moves.proofs.feed_once.Reads as feed-once-reads
 
 abbrev Inv-loop : tie.InvT-loop
 Inv-loop sets₀ sources₀ dependencies₀ starts₀ hosts₀ area₀ input machine₀ at₀ sets sources dependencies starts hosts area machine at =
@@ -20,95 +14,72 @@ abbrev μ-loop : tie.MeasureT-loop
 μ-loop sets₀ sources₀ dependencies₀ starts₀ hosts₀ area₀ input machine₀ at₀ sets sources dependencies starts hosts area machine at =
     length input - at
 
--- src/main.rt:63:5
 loop-holds : tie.Need-loop-holds Inv-loop μ-loop
 loop-holds c = (omega arith, kept-first)
 
--- src/main.rt:72:13
 sub-feed-once : tie.Need-sub-feed-once Inv-loop μ-loop
 sub-feed-once c = omega arith
 
--- src/main.rt:72:13
 part-feed-once-start : tie.Need-part-feed-once-start Inv-loop μ-loop
 part-feed-once-start c = omega arith
 
--- src/main.rt:72:13
 part-feed-once-end : tie.Need-part-feed-once-end Inv-loop μ-loop
 part-feed-once-end c = omega arith
 
--- src/main.rt:64:13
 feed-once-requires : tie.Need-feed-once-requires Inv-loop μ-loop
 feed-once-requires c κs = tt
 
--- src/main.rt:76:13
 halt-requires : tie.Need-halt-requires Inv-loop μ-loop
 halt-requires c κs = tt
 
--- src/main.rt:76:13
 same-length : tie.Need-same-length Inv-loop μ-loop
 same-length c = let k = c .before .before .before .before .before .before .before .before .before .before .before .before .before .before .before .before .before .before .before .before .before .before .before .before .before .loop .inv .1 in omega arith
 
--- src/main.rt:76:13
 same-length-2 : tie.Need-same-length-2 Inv-loop μ-loop
 same-length-2 c = let k = c .before .before .before .before .before .before .before .before .before .before .before .before .before .before .before .before .before .before .before .before .before .before .before .before .before .loop .inv .1 in omega arith
 
--- src/main.rt:76:13
 same-length-3 : tie.Need-same-length-3 Inv-loop μ-loop
 same-length-3 c = let k = c .before .before .before .before .before .before .before .before .before .before .before .before .before .before .before .before .before .before .before .before .before .before .before .before .before .loop .inv .1 in omega arith
 
--- src/main.rt:76:13
 same-length-4 : tie.Need-same-length-4 Inv-loop μ-loop
 same-length-4 c = let k = c .before .before .before .before .before .before .before .before .before .before .before .before .before .before .before .before .before .before .before .before .before .before .before .before .before .loop .inv .1 in omega arith
 
--- src/main.rt:76:13
 same-length-5 : tie.Need-same-length-5 Inv-loop μ-loop
 same-length-5 c = let k = c .before .before .before .before .before .before .before .before .before .before .before .before .before .before .before .before .before .before .before .before .before .before .before .before .before .loop .inv .1 in omega arith
 
--- src/main.rt:76:13
 same-length-6 : tie.Need-same-length-6 Inv-loop μ-loop
 same-length-6 c = let k = c .before .before .before .before .before .before .before .before .before .before .before .before .before .before .before .before .before .before .before .before .before .before .before .before .before .loop .inv .1 in omega arith
 
--- src/main.rt:76:13
 returns : tie.Need-returns Inv-loop μ-loop
 returns c = tt
 
--- src/main.rt:78:9
 add-at : tie.Need-add-at Inv-loop μ-loop
 add-at c = omega (arith, c .before .before .before .before .before .before .before .before .before .before .before .before .before .before .before .before .before .before .before .before .before .before .before .before .before .before .before .before .before .before .before .before .before .good, part-used (c .before .before .before .before .before .before .before .before .before .before .before .before .before .before .before .before .before .before .before .before .before .before .before .before .before .before .before .before .before .before .before .before .before .args .input .now) (c .before .before .before .before .before .before .before .before .before .before .before .before .before .before .before .before .before .before .before .before .before .before .before .before .before .loop .at) (c .before .before .before .before .before .before .before .before .before .before .before .before .before .before .before .before .feed-once .result .used) (c .before .before .before .before .before .before .before .before .before .before .before .before .before .before .before .before .before .before .before .before .before .before .before .before .before .loop .inv .0) (c .before .before .before .before .before .before .before .before .before .before .before .before .before .before .before .before .feed-once .ensures))
 
--- src/main.rt:63:5
 loop-less : tie.Need-loop-less Inv-loop μ-loop
 loop-less c = omega (arith, part-used (c .before .before .before .before .before .before .before .before .before .before .before .before .before .before .before .before .before .before .before .before .before .before .before .before .before .before .before .before .before .before .before .before .before .args .input .now) (c .before .before .before .before .before .before .before .before .before .before .before .before .before .before .before .before .before .before .before .before .before .before .before .before .before .loop .at) (c .before .before .before .before .before .before .before .before .before .before .before .before .before .before .before .before .feed-once .result .used) (c .before .before .before .before .before .before .before .before .before .before .before .before .before .before .before .before .before .before .before .before .before .before .before .before .before .loop .inv .0) (c .before .before .before .before .before .before .before .before .before .before .before .before .before .before .before .before .feed-once .ensures))
 
--- src/main.rt:63:5
 loop-again : tie.Need-loop-again Inv-loop μ-loop
 loop-again c = let k = c .before .before .before .before .before .before .before .before .before .before .before .before .before .before .before .before .before .before .before .before .before .before .before .before .before .loop .inv .1 in (part-used (c .before .before .before .before .before .before .before .before .before .before .before .before .before .before .before .before .before .before .before .before .before .before .before .before .before .before .before .before .before .before .before .before .before .args .input .now) (c .before .before .before .before .before .before .before .before .before .before .before .before .before .before .before .before .before .before .before .before .before .before .before .before .before .loop .at) (c .before .before .before .before .before .before .before .before .before .before .before .before .before .before .before .before .feed-once .result .used) (c .before .before .before .before .before .before .before .before .before .before .before .before .before .before .before .before .before .before .before .before .before .before .before .before .before .loop .inv .0) (c .before .before .before .before .before .before .before .before .before .before .before .before .before .before .before .before .feed-once .ensures), record { sets-long = omega arith; sources-long = omega arith; dependencies-long = omega arith; starts-long = omega arith; hosts-long = omega arith; area-long = omega arith })
 
--- src/main.rt:51:1
 same-length-7 : tie.Need-same-length-7 Inv-loop μ-loop
 same-length-7 c = c .before .loop .inv .1 .sets-long
 
--- src/main.rt:51:1
 same-length-8 : tie.Need-same-length-8 Inv-loop μ-loop
 same-length-8 c = c .before .loop .inv .1 .sources-long
 
--- src/main.rt:51:1
 same-length-9 : tie.Need-same-length-9 Inv-loop μ-loop
 same-length-9 c = c .before .loop .inv .1 .dependencies-long
 
--- src/main.rt:51:1
 same-length-10 : tie.Need-same-length-10 Inv-loop μ-loop
 same-length-10 c = c .before .loop .inv .1 .starts-long
 
--- src/main.rt:51:1
 same-length-11 : tie.Need-same-length-11 Inv-loop μ-loop
 same-length-11 c = c .before .loop .inv .1 .hosts-long
 
--- src/main.rt:51:1
 same-length-12 : tie.Need-same-length-12 Inv-loop μ-loop
 same-length-12 c = c .before .loop .inv .1 .area-long
 
--- src/main.rt:51:1
 returns-2 : tie.Need-returns-2 Inv-loop μ-loop
 returns-2 c = tt
 

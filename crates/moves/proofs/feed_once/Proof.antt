@@ -1,96 +1,69 @@
 -- `moves::feed_once` meets its contract. Assumes nothing.
 use mathlib.Core.Path.{sym}
 use native.Mathlib.Omega.{arith}
-use Prim.Native.Nat.{_-_, _≤_}
-use lib.ListN.{length}
+use Prim.Native.Nat.{_-_}
 use lib.Seq.{length-take-le}
-use Rattle.moves.proofs.Lengths.{Kept, kept-first, part-used}
 use borrow.Author.Needs.{needs}
 use Rattle.moves.proofs.feed_once.Statement.{statement}
 use Rattle.moves.proofs.feed_once.Tie as tie
-use Rattle.moves.proofs.feed_once.Reads as reads
-use Rattle.moves.proofs.feed_once.Lts as lts
-use Rattle.io.proofs.write_all.Reads as write-all-reads
-use Rattle.load_commands.proofs.halt.Reads as halt-reads
-use Rattle.moves_commands.proofs.feed.Reads as feed-reads
 
--- src/main.rt:36:9
 slice-aggregate-feed : tie.Need-slice-aggregate-feed
 slice-aggregate-feed c = search needs
 
--- src/main.rt:27:9
 feed-requires : tie.Need-feed-requires
 feed-requires c κs = search needs
 
--- src/main.rt:41:38
 array-share-prefix-out : tie.Need-array-share-prefix-out
 array-share-prefix-out c = search needs
 
--- src/main.rt:41:38
 slice-aggregate-write-all : tie.Need-slice-aggregate-write-all
 slice-aggregate-write-all c = sym (length-take-le _ _ (omega (arith, c .before .before .before .before .before .before .before .before .before .before .before .before .before .before .before .feed .ensures .0 .put .inside, c .before .before .before .before .before .before .before .before .before .before .before .before .before .before .before .feed .ensures .0 .put .long)))
 
--- src/main.rt:41:9
 write-all-requires : tie.Need-write-all-requires
 write-all-requires c κs = search needs
 
--- src/main.rt:43:22
 halt-requires : tie.Need-halt-requires
 halt-requires c κs = search needs
 
--- src/main.rt:42:9
 same-length : tie.Need-same-length
 same-length c = search needs
 
--- src/main.rt:42:9
 same-length-2 : tie.Need-same-length-2
 same-length-2 c = search needs
 
--- src/main.rt:42:9
 same-length-3 : tie.Need-same-length-3
 same-length-3 c = search needs
 
--- src/main.rt:42:9
 same-length-4 : tie.Need-same-length-4
 same-length-4 c = search needs
 
--- src/main.rt:42:9
 same-length-5 : tie.Need-same-length-5
 same-length-5 c = search needs
 
--- src/main.rt:42:9
 same-length-6 : tie.Need-same-length-6
 same-length-6 c = search needs
 
--- src/main.rt:42:9
 returns : tie.Need-returns
 returns c = c .before .before .before .before .before .before .before .before .before .before .before .before .before .before .before .before .before .before .feed .ensures .1
 
--- src/main.rt:14:1
 same-length-7 : tie.Need-same-length-7
 same-length-7 c = search needs
 
--- src/main.rt:14:1
 same-length-8 : tie.Need-same-length-8
 same-length-8 c = search needs
 
--- src/main.rt:14:1
 same-length-9 : tie.Need-same-length-9
 same-length-9 c = search needs
 
--- src/main.rt:14:1
 same-length-10 : tie.Need-same-length-10
 same-length-10 c = search needs
 
--- src/main.rt:14:1
 same-length-11 : tie.Need-same-length-11
 same-length-11 c = search needs
 
--- src/main.rt:14:1
 same-length-12 : tie.Need-same-length-12
 same-length-12 c = search needs
 
--- src/main.rt:14:1
 returns-2 : tie.Need-returns-2
 returns-2 c = c .before .before .before .before .before .before .before .before .before .before .before .before .before .before .before .before .before .feed .ensures .1
 

@@ -3,10 +3,6 @@ use native.Mathlib.Omega.{arith}
 use Rattle.moves.proofs.Lengths.{Kept, kept-first}
 use Rattle.moves.proofs.run.Statement.{statement}
 use Rattle.moves.proofs.run.Tie as tie
-use Rattle.moves.proofs.run.Reads as reads
-use Rattle.moves.proofs.run.Lts as lts
-use Rattle.load_commands.proofs.fresh.Reads as fresh-reads
-use Rattle.moves.proofs.read_block.Reads as read-block-reads
 
 abbrev Inv-loop : tie.InvT-loop
 Inv-loop sets₀ sources₀ dependencies₀ starts₀ hosts₀ area₀ machine₀ turns₀ sets sources dependencies starts hosts area machine turns =
@@ -16,83 +12,63 @@ abbrev μ-loop : tie.MeasureT-loop
 μ-loop sets₀ sources₀ dependencies₀ starts₀ hosts₀ area₀ machine₀ turns₀ sets sources dependencies starts hosts area machine turns =
     turns
 
--- src/main.rt:129:9
 fresh-requires : tie.Need-fresh-requires Inv-loop μ-loop
 fresh-requires c κs = tt
 
--- src/main.rt:131:5
 loop-holds : tie.Need-loop-holds Inv-loop μ-loop
 loop-holds c = kept-first
 
--- src/main.rt:132:9
 read-block-requires : tie.Need-read-block-requires Inv-loop μ-loop
 read-block-requires c κs = tt
 
--- src/main.rt:134:13
 same-length : tie.Need-same-length Inv-loop μ-loop
 same-length c = let k = c .before .before .before .before .before .before .before .before .before .before .before .before .before .before .before .before .before .before .before .before .before .loop .inv in omega arith
 
--- src/main.rt:134:13
 same-length-2 : tie.Need-same-length-2 Inv-loop μ-loop
 same-length-2 c = let k = c .before .before .before .before .before .before .before .before .before .before .before .before .before .before .before .before .before .before .before .before .before .loop .inv in omega arith
 
--- src/main.rt:134:13
 same-length-3 : tie.Need-same-length-3 Inv-loop μ-loop
 same-length-3 c = let k = c .before .before .before .before .before .before .before .before .before .before .before .before .before .before .before .before .before .before .before .before .before .loop .inv in omega arith
 
--- src/main.rt:134:13
 same-length-4 : tie.Need-same-length-4 Inv-loop μ-loop
 same-length-4 c = let k = c .before .before .before .before .before .before .before .before .before .before .before .before .before .before .before .before .before .before .before .before .before .loop .inv in omega arith
 
--- src/main.rt:134:13
 same-length-5 : tie.Need-same-length-5 Inv-loop μ-loop
 same-length-5 c = let k = c .before .before .before .before .before .before .before .before .before .before .before .before .before .before .before .before .before .before .before .before .before .loop .inv in omega arith
 
--- src/main.rt:134:13
 same-length-6 : tie.Need-same-length-6 Inv-loop μ-loop
 same-length-6 c = let k = c .before .before .before .before .before .before .before .before .before .before .before .before .before .before .before .before .before .before .before .before .before .loop .inv in omega arith
 
--- src/main.rt:134:13
 returns : tie.Need-returns Inv-loop μ-loop
 returns c = tt
 
--- src/main.rt:136:9
 sub-turns : tie.Need-sub-turns Inv-loop μ-loop
 sub-turns c = omega arith
 
--- src/main.rt:131:5
 loop-less : tie.Need-loop-less Inv-loop μ-loop
 loop-less c = omega arith
 
--- src/main.rt:131:5
 loop-again : tie.Need-loop-again Inv-loop μ-loop
 loop-again c = let k = c .before .before .before .before .before .before .before .before .before .before .before .before .before .before .before .before .before .before .before .before .before .loop .inv in record { sets-long = omega arith; sources-long = omega arith; dependencies-long = omega arith; starts-long = omega arith; hosts-long = omega arith; area-long = omega arith }
 
--- src/main.rt:121:1
 same-length-7 : tie.Need-same-length-7 Inv-loop μ-loop
 same-length-7 c = c .before .loop .inv .sets-long
 
--- src/main.rt:121:1
 same-length-8 : tie.Need-same-length-8 Inv-loop μ-loop
 same-length-8 c = c .before .loop .inv .sources-long
 
--- src/main.rt:121:1
 same-length-9 : tie.Need-same-length-9 Inv-loop μ-loop
 same-length-9 c = c .before .loop .inv .dependencies-long
 
--- src/main.rt:121:1
 same-length-10 : tie.Need-same-length-10 Inv-loop μ-loop
 same-length-10 c = c .before .loop .inv .starts-long
 
--- src/main.rt:121:1
 same-length-11 : tie.Need-same-length-11 Inv-loop μ-loop
 same-length-11 c = c .before .loop .inv .hosts-long
 
--- src/main.rt:121:1
 same-length-12 : tie.Need-same-length-12 Inv-loop μ-loop
 same-length-12 c = c .before .loop .inv .area-long
 
--- src/main.rt:121:1
 returns-2 : tie.Need-returns-2 Inv-loop μ-loop
 returns-2 c = tt
 

@@ -1,3 +1,4 @@
+-- `moves_commands::calls::try_move` meets its contract. Assumes nothing.
 use mathlib.Core.Path.{sym}
 use native.Mathlib.Omega.{arith}
 use lib.Seq.{length-take-le}
