@@ -5,12 +5,6 @@ pub mod Demand1
 pub mod Demand2
 pub mod Demand3
 pub mod MergeRefused
-pub mod MergeFields
-pub mod MergeOrder
-pub mod MergeCells
-pub mod MergeReads
-pub mod MergeCalc
-pub mod MergePass
 pub mod MergeKept
 pub mod MergeWarning
 pub mod MergeEither

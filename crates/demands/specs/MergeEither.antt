@@ -15,8 +15,8 @@ use Rattle.merge_state.specs.State as state
 use Rattle.merge_area.specs.Layout.{cell, side}
 use Rattle.merge_area.specs.Writes.{union-cell, merge-area}
 use Rattle.merge_laws.specs.Can.{CanMergeArea}
-use Rattle.demands.specs.MergeFields.{yes-ind}
-use Rattle.demands.specs.MergeCells.{area-length, area-target, area-source, area-other, area-side, area-rest}
+use Rattle.merge_reads.specs.Fields.{yes-ind}
+use Rattle.merge_reads.specs.Cells.{area-length, area-target, area-source, area-other, area-side, area-rest}
 
 or-swap : (a b c u : Bool) → ((((a || b) && u) || c) && u) ≡ ((((a || c) && u) || b) && u)
 or-swap a b c false = by-false ((a || b) && false || c) ∙ sym (by-false ((a || c) && false || b))

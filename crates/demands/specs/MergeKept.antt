@@ -25,11 +25,11 @@ use Rattle.merge_laws.specs.Rows.{free, may-register}
 use Rattle.merge_laws.specs.Ordering.{ordered}
 use Rattle.merge_laws.specs.May.{may-add, may-init, may-calc, may-merge}
 use Rattle.demands.specs.MergeRefused.{free-step, stuck-step}
-use Rattle.demands.specs.MergeOrder.{ordered-consistent}
-use Rattle.demands.specs.MergeCells.{area-length, read-merge}
-use Rattle.demands.specs.MergeReads.{register-length, read-register, append-length, read-append, init-length, read-init}
-use Rattle.demands.specs.MergeCalc.{calc-length, read-calc}
-use Rattle.demands.specs.MergePass.{Holds, pass-holds}
+use Rattle.merge_reads.specs.Order.{ordered-consistent}
+use Rattle.merge_reads.specs.Cells.{area-length, read-merge}
+use Rattle.merge_reads.specs.Reads.{register-length, read-register, append-length, read-append, init-length, read-init}
+use Rattle.merge_reads.specs.Calc.{calc-length, read-calc}
+use Rattle.merge_reads.specs.Pass.{Holds, pass-holds}
 
 below-power : (x e k : ℕ) → x < 2 ^ e → e ≤ k → x < 2 ^ k
 below-power x e k h b = omega (arith, pow-le-pow-right {n = 2} (omega arith) {i = e} {j = k} b)

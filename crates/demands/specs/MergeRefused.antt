@@ -10,7 +10,7 @@ use Rattle.merge_state.specs.Table.{Call, init-module-assignment, add-module-to
 use Rattle.merge_state.specs.Table.{Answer, done, refused, says, chunk, nothing, lists, acted, turned}
 use Rattle.merge_area.specs.Read.{read}
 use Rattle.merge_area.specs.Writes.{write}
-use Rattle.merge_area.specs.Calls.{refusal, step}
+use Rattle.merge_area.specs.Calls.{refusal, step, lists-after}
 
 unfoldable pub is-refused : Answer → Bool
 is-refused done = false
@@ -19,15 +19,6 @@ is-refused (says b) = false
 is-refused (chunk x) = false
 is-refused nothing = false
 is-refused (lists k n) = false
-
--- The two lists that the pass is lent for its answer, after it answered
-unfoldable pub lists-after : Answer → List ℕ × List ℕ → List ℕ × List ℕ
-lists-after done l = l
-lists-after (refused n) l = l
-lists-after (says b) l = l
-lists-after (chunk x) l = l
-lists-after nothing l = l
-lists-after (lists k n) l = (k, n)
 
 -- a call that acts doesn't answer with a refusal
 acts : (z : Sizes) (g : Graph) (c : Call) → is-refused (acted z g c .0) ≡ false

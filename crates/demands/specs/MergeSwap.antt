@@ -16,7 +16,7 @@ use Rattle.merge_laws.specs.Rows.{free}
 use Rattle.merge_laws.specs.May.{may-merge}
 use Rattle.demands.specs.MergeRefused.{free-step, stuck-step}
 use Rattle.demands.specs.MergeKept.{write-consistent}
-use Rattle.demands.specs.MergeCells.{area-length, area-rest}
+use Rattle.merge_reads.specs.Cells.{area-length, area-rest}
 use Rattle.demands.specs.MergeEither.{area-swap}
 
 abbrev merge : ℕ → ℕ → Call

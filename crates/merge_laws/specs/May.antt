@@ -114,24 +114,27 @@ module _ (z : Sizes) (a : List ℕ) where
       )
 
   -- two made chunks
-  pair : (s t : ℕ) → Stood z a → (leb (cell a (head z 1)) s || leb (cell a (head z 1)) t) ≡ false → CanAsk a (z .chunks) (cell a (head z 1)) s t
-  pair s t k h =
+  pub pair : (s t : ℕ) → Stood z a → s < cell a (head z 1) → t < cell a (head z 1) → CanAsk a (z .chunks) (cell a (head z 1)) s t
+  pair s t k b c =
       let H = k .headed in
       record {
         cells = omega (arith, native.Mathlib.Nat.mul-le-mul-right {m = cell a (head z 1)} {n = z .chunks} (z .chunks) (H .fits), H .long);
         narrow = H .fits;
         few = H .within .chunks;
-        first = leb-false _ _ (or-false-left (leb (cell a (head z 1)) s) _ h);
-        second = leb-false _ _ (or-false-right (leb (cell a (head z 1)) s) _ h);
+        first = b;
+        second = c;
       }
+
+  made-pair : (s t : ℕ) → Stood z a → (leb (cell a (head z 1)) s || leb (cell a (head z 1)) t) ≡ false → CanAsk a (z .chunks) (cell a (head z 1)) s t
+  made-pair s t k h = pair s t k (leb-false _ _ (or-false-left (leb (cell a (head z 1)) s) _ h)) (leb-false _ _ (or-false-right (leb (cell a (head z 1)) s) _ h))
 
   pub may-ask : (s t : ℕ) {q : ℕ} → q ≡ refusal z a (would-create-circular-dependency s t) → q ≡ 0 → CanAsk a (z .chunks) (cell a (head z 1)) s t × Stood z a
   unfolding later
-  may-ask s t e h = let f = free z a (would-create-circular-dependency s t) e h in (pair s t (f .stood) (none-fits _ 16 _ (omega arith) (f .later) .0), f .stood)
+  may-ask s t e h = let f = free z a (would-create-circular-dependency s t) e h in (made-pair s t (f .stood) (none-fits _ 16 _ (omega arith) (f .later) .0), f .stood)
 
   pub may-reach : (s t : ℕ) {q : ℕ} → q ≡ refusal z a (is-reachable s t) → q ≡ 0 → CanAsk a (z .chunks) (cell a (head z 1)) s t × Stood z a
   unfolding later
-  may-reach s t e h = let f = free z a (is-reachable s t) e h in (pair s t (f .stood) (none-fits _ 16 _ (omega arith) (f .later) .0), f .stood)
+  may-reach s t e h = let f = free z a (is-reachable s t) e h in (made-pair s t (f .stood) (none-fits _ 16 _ (omega arith) (f .later) .0), f .stood)
 
   -- a merge is refused by the rows that refuse the question
   pub pair-merge : (t s : ℕ) {q : ℕ} → q ≡ refusal z a (would-create-circular-dependency t s) → q ≡ refusal z a (merge-chunk-dependencies t s)
@@ -144,7 +147,7 @@ module _ (z : Sizes) (a : List ℕ) where
       let f = free z a (merge-chunk-dependencies t s) e h in
       let h₁ = none-fits _ 16 _ (omega arith) (f .later) in
       let h₂ = none-fits _ 20 _ (omega arith) (h₁ .1) in
-      let p = pair t s (f .stood) (h₁ .0) in
+      let p = made-pair t s (f .stood) (h₁ .0) in
       record {
         within = f .stood .headed .within;
         long = f .stood .headed .long;
@@ -154,9 +157,12 @@ module _ (z : Sizes) (a : List ℕ) where
       }
 
   -- the questions' answers, by the flags
+  pub warn-by-flags : (s t : ℕ) {r : Bool} {n : ℕ} → Stood z a → n ≡ cell a (head z 1) → r ≡ warns (flagEdge a (z .chunks) n) n s t → r ≡ warn (read z a) s t
+  warn-by-flags s t k e h = h ∙ (rw e (ap (λ d. warns d (cell a (head z 1)) s t) (sym (depends-flag z a (cell a (head z 1)) (k .headed .fits) (flags-clean z a k)))))
+
   pub warn-is : (s t : ℕ) {r : Bool} {n : ℕ} → Stood z a → n ≡ cell a (head z 1) → r ≡ warns (flagEdge a (z .chunks) n) n s t → says r ≡ acted z (read z a) (would-create-circular-dependency s t) .0
   unfolding acted
-  warn-is s t {r} k e h = ap says (h ∙ (rw e (ap (λ d. warns d (cell a (head z 1)) s t) (sym (depends-flag z a (cell a (head z 1)) (k .headed .fits) (flags-clean z a k))))))
+  warn-is s t k e h = ap says (warn-by-flags s t k e h)
 
   pub reach-is : (s t : ℕ) {r : Bool} {n : ℕ} → Stood z a → n ≡ cell a (head z 1) → r ≡ via (flagEdge a (z .chunks) n) (below n) s t → says r ≡ acted z (read z a) (is-reachable s t) .0
   unfolding acted reachable

@@ -73,30 +73,31 @@ clean a c n fits h =
     rest : faults a (n * c) ((c - n) * c) 1 false ≡ 0
     rest = omega (arith, ltb-false 0 (faults a (n * c) ((c - n) * c) 1 false) (or-false-right (some-below (λ x. ltb 0 (faults a (x * c + x) 1 1 false + faults a (x * c + n) (c - n) 1 false)) n) _ h))
 
+-- a dependency's two chunks, and its flag
+pub depends-parts : (z : Sizes) (a : List ℕ) (x y : ℕ) → depends-in z a x y ≡ true → (x < z .chunks) × (y < z .chunks) × (cell a (x * z .chunks + y) ≡ 0 → ⊥)
+unfolding depends-in
+depends-parts z a x y h =
+    let t = and-left (ltb x (z .chunks) && ltb y (z .chunks)) _ h in
+    (ltb-true _ _ (and-left (ltb x (z .chunks)) _ t), ltb-true _ _ (and-right (ltb x (z .chunks)) _ t), eqb-false _ _ (not-true _ (and-right (ltb x (z .chunks) && ltb y (z .chunks)) _ h)))
+
 -- the dependencies that such flags give
 module _ (z : Sizes) (a : List ℕ) (n : ℕ) (fits : n ≤ z .chunks) (k : Clean a (z .chunks) n) where
-  depends-parts : (x y : ℕ) → depends-in z a x y ≡ true → (x < z .chunks) × (y < z .chunks) × (cell a (x * z .chunks + y) ≡ 0 → ⊥)
-  unfolding depends-in
-  depends-parts x y h =
-      let t = and-left (ltb x (z .chunks) && ltb y (z .chunks)) _ h in
-      (ltb-true _ _ (and-left (ltb x (z .chunks)) _ t), ltb-true _ _ (and-right (ltb x (z .chunks)) _ t), eqb-false _ _ (not-true _ (and-right (ltb x (z .chunks) && ltb y (z .chunks)) _ h)))
-
   depends-from : (x y : ℕ) → depends-in z a x y ≡ true → x < n
   depends-from x y h = elim (decLt x n) [
     | yes b ↦ b
     | no b ↦
-        let p = depends-parts x y h in
+        let p = depends-parts z a x y h in
         absurd (p .2 (k .under (x * z .chunks + y) (omega (arith, native.Mathlib.Nat.mul-le-mul-right {m = n} {n = x} (z .chunks) (omega arith))) (omega (arith, row-in (z .chunks) (z .chunks) x (p .0), p .1))))
   ]
 
   depends-to : (x y : ℕ) → depends-in z a x y ≡ true → y < n
   depends-to x y h = elim (decLt y n) [
     | yes b ↦ b
-    | no b ↦ let p = depends-parts x y h in absurd (p .2 (k .right x y (depends-from x y h) (omega arith) (p .1)))
+    | no b ↦ let p = depends-parts z a x y h in absurd (p .2 (k .right x y (depends-from x y h) (omega arith) (p .1)))
   ]
 
   depends-self : (x : ℕ) → depends-in z a x x ≡ false
-  depends-self x = fails _ (λ h. depends-parts x x h .2 (k .self x (depends-from x x h)))
+  depends-self x = fails _ (λ h. depends-parts z a x x h .2 (k .self x (depends-from x x h)))
 
   -- the walks' reading of the flags
   pub depends-flag : depends-in z a ≡ flagEdge a (z .chunks) n

@@ -1,22 +1,25 @@
 -- Laws that several proofs of this crate cite. Assumes nothing.
 use Prim.Native.Nat.{ℕ, suc, _+_, _-_, _*_, _≤_, _<_}
 use native.Mathlib.Omega.{arith}
+use native.Mathlib.Decide.{ℕ-discrete}
 use mathlib.Core.Path.{_≡_, refl, sym, ap, _∙_}
 use mathlib.Core.Bool.{Bool, true, false, not, cond, _&&_, _||_}
 use mathlib.Core.List.{List, [], _∷_}
 use lib.ListN.{length, getD}
 use lib.Dec.{ltb, leb, eqb}
-use borrow.Author.Tests.{eq-eqb, ne-eqb, eqb-true, lt-ltb, le-ltb, ltb-true, not-false}
+use borrow.Author.Tests.{eq-eqb, ne-eqb, eqb-true, le-leb, lt-ltb, le-ltb, ltb-true, not-false}
 use Rattle.graphs.specs.Bools.{alike, and-left, or-false}
-use Rattle.graphs.specs.Count.{count, count-pos, count-found}
+use Rattle.graphs.specs.Count.{count, count-pos, count-found, count-ext, count-le}
 use Rattle.graphs.specs.Lists.{some-below, some-give, some-take, some-zero, some-suc}
 use Rattle.entry_set.specs.declared.EntrySet.{EntrySet}
 use Rattle.entry_set.specs.Sets.{value, number, Holds, legal, width}
 use Rattle.merge_state.specs.declared.Sizes.{Sizes}
 use Rattle.merge_state.specs.State.{None, chunk-of, misfit}
-use Rattle.merge_state.specs.Table.{stray, falling, bad-starts, over-lists, bad-lists, calc-chunk-dependencies, init-module-assignment, later, first-fitting, other-length, no-module, full}
-use Rattle.merge_area.specs.Layout.{cell, head}
-use Rattle.merge_area.specs.Read.{read, pairs, named-set, sets-in}
+use Rattle.merge_state.specs.State as state
+use Rattle.merge_state.specs.Table.{stray, falling, bad-starts, over-lists, bad-lists, calc-chunk-dependencies, init-module-assignment, pass, later, first-fitting, other-length, no-module, full}
+use Rattle.merge_area.specs.Layout.{cell, head, need}
+use Rattle.merge_area.specs.Read.{read, pairs, named-set, sets-in, needs-in}
+use Rattle.merge_area.specs.Within.{Headed}
 use Rattle.merge_area.specs.Calls.{standing, refusal}
 use Rattle.merge_laws.specs.Rows.{late, fits-here, fits-next}
 use Rattle.merge_area.specs.Consistent.{faults}
@@ -89,3 +92,43 @@ module _ (z : Sizes) (a : List ℕ) (m : ℕ) (set effs : List ℕ) (q x : ℕ) 
   pub init-rest : (v : ℕ) → r ≡ false → v ≡ first-fitting ((full z (read z a), 19) ∷ []) → v ≡ refusal z a (init-module-assignment m set effs)
   unfolding over-lists bad-lists later
   init-rest v w y = late z a (init-module-assignment m set effs) q v e h (fits-next _ 16 v _ (or-false _ _ t l) (fits-next _ 18 v _ (sym lacks ∙ w) y))
+
+-- a chunk that needs creation is a number from 1 on
+set-flag : (v : ℕ) → misfit 1 false v ≡ state.yes v
+unfolding misfit
+set-flag v = elim (ℕ-discrete v 0) [ yes q ↦ rw q | no q ↦ rw (le-leb 1 v (omega arith), ne-eqb v 0 q) ]
+
+pub needs-counted : (z : Sizes) (a : List ℕ) {n r : ℕ} → n ≡ cell a (head z 1) → n ≤ z .chunks → r ≡ faults a (z .chunks * z .chunks + 32 + 19 * z .chunks) n 1 false
+    → r ≡ count (needs-in z a) (cell a (head z 1))
+unfolding faults needs-in
+needs-counted z a {n} e b h =
+    h ∙ count-ext (λ i. misfit 1 false (cell a (need z i))) (needs-in z a) n (λ j l. set-flag (cell a (need z j)) ∙ (rw (lt-ltb j (z .chunks) (omega arith)))) ∙ ap (count (needs-in z a)) e
+
+pub few-candidates : (z : Sizes) (a : List ℕ) {n : ℕ} → Headed z a → n ≡ count (needs-in z a) (cell a (head z 1)) → n ≤ z .chunks
+few-candidates z a h e = omega (arith, e, count-le (needs-in z a) (cell a (head z 1)), h .fits)
+
+-- the rows of the pass, where n chunks need creation and r says that a list isn't n long
+module _ (z : Sizes) (a props bars kinds numbers : List ℕ) (q n : ℕ) {r : Bool} (e : q ≡ standing z false false a) (h : q ≡ 0) (m : n ≡ count (needs-in z a) (cell a (head z 1)))
+    (f : r ≡ (other-length props n || (other-length bars n || (other-length kinds n || other-length numbers n)))) where
+  abbrev candidates : ℕ
+  candidates = count (needs-in z a) (cell a (head z 1))
+
+  listed : r ≡ (other-length props candidates || (other-length bars candidates || (other-length kinds candidates || other-length numbers candidates)))
+  listed = rw (← m) f
+
+  pub pass-lists : r ≡ true → 15 ≡ refusal z a (pass props bars kinds numbers)
+  unfolding over-lists bad-lists later
+  pass-lists w = late z a (pass props bars kinds numbers) q 15 e h (fits-here _ 15 _ (sym listed ∙ w))
+
+  pass-rest : (v : ℕ) → r ≡ false → v ≡ first-fitting ((stray (cell a (head z 0)) true props, 16) ∷ (ltb (z .chunks) (cell a (head z 0) + cell a (head z 2) + candidates), 18) ∷ [])
+      → v ≡ refusal z a (pass props bars kinds numbers)
+  unfolding over-lists bad-lists later
+  pass-rest v w y = late z a (pass props bars kinds numbers) q v e h (fits-next _ 15 v _ (sym listed ∙ w) y)
+
+  module _ (i : ℕ) {s : Bool} (w : r ≡ false) (k : i ≡ cell a (head z 0)) (g : s ≡ stray i true props) where
+    pub pass-stray : s ≡ true → 16 ≡ refusal z a (pass props bars kinds numbers)
+    pass-stray t = pass-rest 16 w (fits-here _ 16 _ (ap (λ j. stray j true props) (sym k) ∙ sym g ∙ t))
+
+    pub pass-room : (v : ℕ) {l : Bool} → s ≡ false → l ≡ ltb (z .chunks) (cell a (head z 0) + cell a (head z 2) + n) → v ≡ first-fitting ((l, 18) ∷ []) → v ≡ refusal z a (pass props bars kinds numbers)
+    pass-room v t o y =
+        pass-rest v w (fits-next _ 16 v _ (ap (λ j. stray j true props) (sym k) ∙ sym g ∙ t) (y ∙ ap (λ b. first-fitting ((b, 18) ∷ [])) (o ∙ ap (λ j. ltb (z .chunks) (cell a (head z 0) + cell a (head z 2) + j)) m)))

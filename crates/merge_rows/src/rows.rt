@@ -10,7 +10,7 @@ ghost use lib.ListN.{length};
 ghost use lib.Dec.{eqb, leb};
 ghost use Rattle.entry_set.specs.Sets.{value};
 ghost use Rattle.merge_state.specs.State.{None, chunk-of};
-ghost use Rattle.merge_state.specs.Table.{init-module-assignment, add-module-to-chunk, register-chunk-graph-index, calc-chunk-dependencies, would-create-circular-dependency, is-reachable};
+ghost use Rattle.merge_state.specs.Table.{init-module-assignment, add-module-to-chunk, register-chunk-graph-index, calc-chunk-dependencies, would-create-circular-dependency, is-reachable, pass};
 ghost use Rattle.merge_area.specs.Layout.{cell, head};
 ghost use Rattle.merge_area.specs.Read.{sets-in};
 ghost use Rattle.merge_area.specs.Within.{Headed};
@@ -139,6 +139,34 @@ pub fn reach_row(sizes: Sizes, area: &[u32], from: u32, to: u32) -> u32
     }
     if is_unmade(sizes, area, to) {
         return 16;
+    }
+    0
+}
+
+pub fn pass_row(
+    sizes: Sizes,
+    area: &[u32],
+    proposals: &[u32],
+    bars: &[u32],
+    kinds: &[u32],
+    numbers: &[u32],
+) -> u32
+    ensures { λ r. ⌜ r ≡ refusal sizes (now (area .entry)) (pass (now (proposals .entry)) (now (bars .entry)) (now (kinds .entry)) (now (numbers .entry))) ⌝ }
+{
+    let row = merge_area::standing_row(sizes, false, false, area);
+    if row != 0 {
+        return row;
+    }
+    let n = crate::tests::count_candidates(sizes, area);
+    if crate::tests::is_other_length(n, proposals.len(), bars.len(), kinds.len(), numbers.len()) {
+        return 15;
+    }
+    let initial = merge_area::header(sizes, area, 0) as usize;
+    if crate::tests::has_stray(proposals, initial, true) {
+        return 16;
+    }
+    if crate::tests::lacks_numbers(sizes, area, n) {
+        return 18;
     }
     0
 }

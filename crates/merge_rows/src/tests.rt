@@ -1,11 +1,14 @@
 // Single tests of the table's rows.
 use merge_state::Sizes;
 ghost use mathlib.Core.Path.{_≡_};
-ghost use mathlib.Core.Bool.{false};
-ghost use Prim.Native.Nat.{_<_, _≤_};
+ghost use mathlib.Core.Bool.{false, not, _||_};
+ghost use Prim.Native.Nat.{_+_, _<_, _≤_};
 ghost use lib.ListN.{length, getD};
+ghost use lib.Dec.{eqb, ltb};
+ghost use Rattle.graphs.specs.Count.{count};
 ghost use Rattle.merge_state.specs.Table.{unmade, full, stray, bad-starts, falling};
-ghost use Rattle.merge_area.specs.Read.{read};
+ghost use Rattle.merge_area.specs.Layout.{cell, head};
+ghost use Rattle.merge_area.specs.Read.{read, needs-in};
 ghost use Rattle.merge_area.specs.Within.{Headed};
 
 // The chunk isn't made yet.
@@ -29,6 +32,42 @@ pub fn has_stray(l: &[u32], top: usize, free: bool) -> bool
     ensures { λ r. ⌜ r ≡ stray top free (now (l .entry)) ⌝ }
 {
     0 < merge_area::count_faults(l, 0, l.len(), top, free)
+}
+
+// How many chunks need creation.
+pub fn count_candidates(sizes: Sizes, area: &[u32]) -> usize
+    requires { ⌜ Headed sizes (now area) ⌝ }
+    ensures { λ r. ⌜ r ≡ count (needs-in sizes (now (area .entry))) (cell (now (area .entry)) (head sizes 1)) ⌝ }
+{
+    let made = merge_area::header(sizes, area, 1) as usize;
+    let needs = sizes.chunks * sizes.chunks + 32 + 19 * sizes.chunks;
+    merge_area::count_faults(area, needs, made, 1, false)
+}
+
+// One of four lengths isn't n.
+pub fn is_other_length(n: usize, a: usize, b: usize, c: usize, d: usize) -> bool
+    ensures { λ r. ⌜ r ≡ not (eqb a n) || (not (eqb b n) || (not (eqb c n) || not (eqb d n))) ⌝ }
+{
+    if a != n {
+        return true;
+    }
+    if b != n {
+        return true;
+    }
+    if c != n {
+        return true;
+    }
+    d != n
+}
+
+// Fewer than n numbers are left for chunks that the pass creates.
+pub fn lacks_numbers(sizes: Sizes, area: &[u32], n: usize) -> bool
+    requires { ⌜ Headed sizes (now area) × (n ≤ sizes .chunks) ⌝ }
+    ensures { λ r. ⌜ r ≡ ltb (sizes .chunks) (cell (now (area .entry)) (head sizes 0) + cell (now (area .entry)) (head sizes 2) + n) ⌝ }
+{
+    let initial = merge_area::header(sizes, area, 0) as usize;
+    let created = merge_area::header(sizes, area, 2) as usize;
+    sizes.chunks < initial + created + n
 }
 
 // Some start is above the next, among the first n + 1.

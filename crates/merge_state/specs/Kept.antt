@@ -26,7 +26,7 @@ unfolding first-fitting
 none-fits true n l p h = absurd (omega arith)
 none-fits false n l p h = (refl, h)
 
-default-in : (l : List ℕ) (i d : ℕ) → i < length l → getD l i d ≡ getD l i 0
+pub default-in : (l : List ℕ) (i d : ℕ) → i < length l → getD l i d ≡ getD l i 0
 default-in [] i d h = absurd (omega arith)
 default-in (a ∷ l) zero d h = refl
 default-in (a ∷ l) (suc i) d h = default-in l i d (omega arith)
@@ -60,6 +60,7 @@ pub record Passing (z : Sizes) (g : Graph) (k : ℕ) (r : Passed) : Type 0 where
   pub initial : r .graph .initial ≡ g .initial
   pub made : r .graph .made ≡ g .made
   pub created : r .graph .created ≤ g .created + count (g .needs) k
+  pub needs : r .graph .needs ≡ g .needs
 
 module _ {z : Sizes} {g : Graph} (room : g .initial + g .created + count (g .needs) (g .made) ≤ z .chunks) where
   one-kept : (r : Passed) (k p b : ℕ) → Passing z g k r → k < g .made → g .needs k ≡ true → ((p ≡ None → ⊥) → p < g .initial) → Passing z g (suc k) (candidate r k p b)
@@ -83,6 +84,7 @@ module _ {z : Sizes} {g : Graph} (room : g .initial + g .created + count (g .nee
             initial = v .initial;
             made = v .made;
             created = omega (arith, next, v .created);
+            needs = v .needs;
           }
       go false q =
           record {
@@ -90,11 +92,12 @@ module _ {z : Sizes} {g : Graph} (room : g .initial + g .created + count (g .nee
             initial = v .initial;
             made = v .made;
             created = omega (arith, next, v .created);
+            needs = v .needs;
           }
 
   pub passed-kept : Ordered z g → (props bars : List ℕ) → stray (g .initial) true props ≡ false → (k : ℕ) → k ≤ g .made → Passing z g k (passed g props bars k)
   unfolding passed
-  passed-kept o props bars f zero h = record { ordered = o; initial = refl; made = refl; created = omega arith }
+  passed-kept o props bars f zero h = record { ordered = o; initial = refl; made = refl; created = omega arith; needs = refl }
   passed-kept o props bars f (suc k) h = go (g .needs k) refl (passed-kept o props bars f k (omega arith))
     where
       p : ℕ
@@ -106,7 +109,7 @@ module _ {z : Sizes} {g : Graph} (room : g .initial + g .created + count (g .nee
       go : (t : Bool) → g .needs k ≡ t → Passing z g k (passed g props bars k)
           → Passing z g (suc k) (cond t (candidate (passed g props bars k) k p (getD bars (count (g .needs) k) 0)) (passed g props bars k))
       go true q v = one-kept (passed g props bars k) k p (getD bars (count (g .needs) k) 0) v (omega arith) q proper
-      go false q v = record { ordered = v .ordered; initial = v .initial; made = v .made; created = omega (arith, v .created, count-mono (g .needs) k (suc k) (omega arith)) }
+      go false q v = record { ordered = v .ordered; initial = v .initial; made = v .made; created = omega (arith, v .created, count-mono (g .needs) k (suc k) (omega arith)); needs = v .needs }
 
 -- a call that no row refuses
 pub acted-kept : (z : Sizes) (g : Graph) (c : Call) → Ordered z g → first-fitting (later z g c) ≡ 0 → Ordered z (acted z g c .1)

@@ -6,8 +6,8 @@ use mathlib.Core.Path.{_≡_, refl, sym, ap, ap₂, _∙_, fun-ext}
 use mathlib.Core.Bool.{Bool, true, false, not, cond, _&&_}
 use mathlib.Core.List.{List, [], _∷_, _++_}
 use lib.Dec.{ltb}
-use borrow.Author.Tests.{ne-eqb, eqb-false, lt-ltb, le-ltb, ltb-true, not-true}
-use Rattle.graphs.specs.Bools.{and-left, and-right, and-both}
+use borrow.Author.Tests.{ne-eqb, lt-ltb, le-ltb}
+use Rattle.graphs.specs.Bools.{and-both}
 use Rattle.graphs.specs.Count.{ind}
 use Rattle.entry_set.specs.Lanes.{lanes}
 use Rattle.merge_state.specs.declared.Sizes.{Sizes}
@@ -22,17 +22,10 @@ pub yes-ind : (k : Bool) → state.yes (ind k) ≡ k
 yes-ind true = refl
 yes-ind false = refl
 
--- a dependency's two chunks, and its flag
-module _ (z : Sizes) (a : List ℕ) (x y : ℕ) where
-  pub depends-parts : depends-in z a x y ≡ true → (x < z .chunks) × (y < z .chunks) × (cell a (x * z .chunks + y) ≡ 0 → ⊥)
-  unfolding depends-in
-  depends-parts h =
-      let k = and-left (ltb x (z .chunks) && ltb y (z .chunks)) _ h in
-      (ltb-true x _ (and-left (ltb x (z .chunks)) _ k), ltb-true y _ (and-right (ltb x (z .chunks)) _ k), eqb-false _ 0 (not-true _ (and-right (ltb x (z .chunks) && ltb y (z .chunks)) _ h)))
-
-  pub depends-on : x < z .chunks → y < z .chunks → (cell a (x * z .chunks + y) ≡ 0 → ⊥) → depends-in z a x y ≡ true
-  unfolding depends-in
-  depends-on b c h = and-both _ _ (and-both _ _ (lt-ltb x _ b) (lt-ltb y _ c)) (ap not (ne-eqb _ 0 h))
+-- a flag that is set is a dependency
+pub depends-on : (z : Sizes) (a : List ℕ) (x y : ℕ) → x < z .chunks → y < z .chunks → (cell a (x * z .chunks + y) ≡ 0 → ⊥) → depends-in z a x y ≡ true
+unfolding depends-in
+depends-on z a x y b c h = and-both _ _ (and-both _ _ (lt-ltb x _ b) (lt-ltb y _ c)) (ap not (ne-eqb _ 0 h))
 
 -- a module's chunk
 pub home-at : (z : Sizes) (a : List ℕ) (m : ℕ) → m < z .modules → home-in z a m ≡ cell a (home z m)

@@ -22,8 +22,9 @@ use Rattle.merge_area.specs.Read.{entry, depends-in, home-in, log-in, read}
 use Rattle.merge_area.specs.PairLaws.{pairs-length, pairs-at}
 use Rattle.merge_area.specs.Writes.{link, linked, calc-area}
 use Rattle.merge_laws.specs.Can.{CanLink, CanLinked, CanCalc}
+use Rattle.merge_laws.specs.Ordering.{depends-parts}
 use Rattle.merge_laws.specs.Keeps.{Kept, linked-can, linked-all, calc-can, calc-same}
-use Rattle.demands.specs.MergeFields.{home-at, depends-parts, depends-on, effects-same, needs-same, log-same, sets-same, home-same, keys-same}
+use Rattle.merge_reads.specs.Fields.{home-at, depends-on, effects-same, needs-same, log-same, sets-same, home-same, keys-same}
 
 -- the flag of chunks u and w is set
 abbrev On : Sizes → List ℕ → ℕ → ℕ → Type 0

@@ -22,7 +22,7 @@ use Rattle.merge_area.specs.Layout.{cell, head, set-place, set-chunk, need, key
 use Rattle.merge_area.specs.Read.{entry, named-set, depends-in, needs-in, home-in, keys-in, read}
 use Rattle.merge_area.specs.PairLaws.{pairs-length, pairs-at}
 use Rattle.merge_area.specs.Consistent.{faults, head-fault, row-fault, flags-fault, index-faults, out-of-range, sets-fault, inconsistent}
-use Rattle.demands.specs.MergeFields.{depends-on}
+use Rattle.merge_reads.specs.Fields.{depends-on}
 
 -- a number below the top fits, and so does None where it is free
 below-fits : (top v : ℕ) (free : Bool) → v < top → misfit top free v ≡ false

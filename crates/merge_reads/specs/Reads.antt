@@ -22,7 +22,7 @@ use Rattle.merge_area.specs.Writes.{register-area, append-area, open-area, init
 use Rattle.merge_laws.specs.Can.{CanAppend, CanOpen, CanAssign, CanCreate}
 use Rattle.merge_laws.specs.Merging.{row-in}
 use Rattle.merge_laws.specs.Keeps.{open-far, open-length, open-append}
-use Rattle.demands.specs.MergeFields.{depends-same, effects-same, effects-put, needs-same, needs-put, log-same, log-more, sets-same, sets-more, home-same, home-put, keys-same, keys-put}
+use Rattle.merge_reads.specs.Fields.{depends-same, effects-same, effects-put, needs-same, needs-put, log-same, log-more, sets-same, sets-more, home-same, home-put, keys-same, keys-put}
 
 -- `register_chunk_graph_index`
 module _ (z : Sizes) (a : List ℕ) (k x : ℕ) (long : room z ≤ length a) (kc : k < z .chunks) where

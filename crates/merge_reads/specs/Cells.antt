@@ -21,7 +21,7 @@ use Rattle.merge_area.specs.Read.{depends-in, effects-in, read}
 use Rattle.merge_area.specs.Writes.{union-cell, merging, merged-rows, merge-area}
 use Rattle.merge_laws.specs.Can.{CanMerge, CanMergeArea}
 use Rattle.merge_laws.specs.Merging.{row-in, rows-apart, at-target, at-source, at-none, rows-kept, merged-length}
-use Rattle.demands.specs.MergeFields.{yes-ind, effects-put, needs-same, log-same, sets-same, home-same, keys-same}
+use Rattle.merge_reads.specs.Fields.{yes-ind, effects-put, needs-same, log-same, sets-same, home-same, keys-same}
 
 -- the dependencies that an area holds
 pub depends-at : (z : Sizes) (a : List ℕ) (x y : ℕ) → x < z .chunks → y < z .chunks → depends-in z a x y ≡ state.yes (cell a (x * z .chunks + y))

@@ -1,0 +1,1 @@
+// The graph that a merge area holds after each write. Laws only.
