@@ -1,11 +1,13 @@
 -- What each answer says, in document 01's terms. Assumes nothing.
 use Prim.Native.Nat.{ℕ}
 use mathlib.Core.Bool.{Bool}
-use Rattle.merge_state.specs.Table.{Answer, done, refused, says, chunk, nothing}
+use mathlib.Core.List.{List}
+use Rattle.merge_state.specs.Table.{Answer, done, refused, says, chunk, nothing, lists}
 use Rattle.chunk_optimizer.specs.declared.Done as d
 use Rattle.chunk_optimizer.specs.declared.TempIdx as t
 use Rattle.chunk_optimizer.specs.declared.OptionChunkIdx as o
 use Rattle.chunk_optimizer.specs.declared.Said as s
+use Rattle.chunk_optimizer.specs.declared.PassAnswer as p
 
 abbrev pub done-told : d.Done → Answer
 done-told d.the-variants.Done = done
@@ -22,3 +24,12 @@ temp-told (t.the-variants.Refused n) = refused n
 abbrev pub said-told : s.Said → Answer
 said-told (s.the-variants.Is b) = says b
 said-told (s.the-variants.Refused n) = refused n
+
+-- the pass's answer lies in the two lists that it was lent, and how many candidates it says that it assigned
+abbrev pub pass-told : p.PassAnswer → List ℕ × List ℕ → Answer
+pass-told (p.the-variants.Assigned n) l = lists (l .0) (l .1)
+pass-told (p.the-variants.Refused n) l = refused n
+
+abbrev pub assigned : p.PassAnswer → ℕ
+assigned (p.the-variants.Assigned n) = n
+assigned (p.the-variants.Refused n) = 0

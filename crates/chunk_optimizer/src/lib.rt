@@ -2,9 +2,9 @@
 use merge_state::ChunkIdx;
 use merge_state::ModuleIdx;
 use merge_state::Sizes;
-ghost use Rattle.merge_state.specs.Table.{init-module-assignment, add-module-to-chunk, register-chunk-graph-index, to-temp-idx, calc-chunk-dependencies, would-create-circular-dependency, is-reachable, merge-chunk-dependencies};
-ghost use Rattle.merge_area.specs.Calls.{Called};
-ghost use Rattle.chunk_optimizer.specs.Answers.{done-told, temp-told, said-told};
+ghost use Rattle.merge_state.specs.Table.{init-module-assignment, add-module-to-chunk, register-chunk-graph-index, to-temp-idx, calc-chunk-dependencies, would-create-circular-dependency, is-reachable, merge-chunk-dependencies, pass};
+ghost use Rattle.merge_area.specs.Calls.{Called, PassCalled};
+ghost use Rattle.chunk_optimizer.specs.Answers.{done-told, temp-told, said-told, pass-told, assigned};
 
 // What a call answers that is neither a question nor the pass.
 pub enum Done {
@@ -27,6 +27,12 @@ pub enum TempIdx {
 // What a question answers.
 pub enum Said {
     Is(bool),
+    Refused(u32),
+}
+
+// What the pass answers: how many candidates it assigned.
+pub enum PassAnswer {
+    Assigned(u32),
     Refused(u32),
 }
 
@@ -175,4 +181,24 @@ pub fn merge_chunk_dependencies(
     }
     merge_writes::merge(sizes, area, target.0 as usize, source.0 as usize);
     Done::Done
+}
+
+// Each chunk that needs creation, in rising index, is merged into its proposal or created; its kind and number are written.
+pub fn pass(
+    sizes: Sizes,
+    area: &mut [u32],
+    proposals: &[u32],
+    bars: &[u32],
+    kinds: &mut [u32],
+    numbers: &mut [u32],
+) -> PassAnswer
+    ensures { λ r. ⌜ PassCalled sizes (now (area .entry)) (pass (now (proposals .entry)) (now (bars .entry)) (now (kinds .entry)) (now (numbers .entry))) (now (kinds .entry), now (numbers .entry)) (pass-told r (now (kinds .exit), now (numbers .exit))) (assigned r) (now (area .exit)) (now (kinds .exit), now (numbers .exit)) ⌝ }
+{
+    let row = merge_rows::rows::pass_row(sizes, area, proposals, bars, kinds, numbers);
+    if row != 0 {
+        return PassAnswer::Refused(row);
+    }
+    let n = kinds.len() as u32;
+    merge_pass::commit(sizes, area, proposals, bars, kinds, numbers);
+    PassAnswer::Assigned(n)
 }

@@ -1,0 +1,5 @@
+pub mod Turns
+pub mod Placing
+pub mod Lists
+pub mod Going
+pub mod Called
