@@ -1,4 +1,7 @@
 // The merge graph's calls: the methods of ChunkOptimizationGraph and the pass that commits its merges.
+mod load; // load.rt: new
+
+pub use load::new;
 use merge_state::ChunkIdx;
 use merge_state::ModuleIdx;
 use merge_state::Sizes;

@@ -96,12 +96,12 @@ pub free : (z : Sizes) (a : List ℕ) (c : Call) {q : ℕ} → q ≡ refusal z a
 unfolding refusal
 free z a c e h = let s = stood-by z a (over-lists c) (bad-lists z c) (later z (read z a) c) (sym e ∙ h) in record { stood = s .0; many = s .1; lists = s .2; later = s .3 }
 
-turned-refused : {A : Type 0} (q : ℕ) (g : A) (r : Answer × A) → (q ≡ 0 → ⊥) → turned q g r ≡ (refused q, g)
+pub turned-refused : {A : Type 0} (q : ℕ) (g : A) (r : Answer × A) → (q ≡ 0 → ⊥) → turned q g r ≡ (refused q, g)
 unfolding turned
 turned-refused zero g r h = absurd (h refl)
 turned-refused (suc n) g r h = refl
 
-turned-free : {A : Type 0} (q : ℕ) (g : A) (r : Answer × A) → q ≡ 0 → turned q g r ≡ r
+pub turned-free : {A : Type 0} (q : ℕ) (g : A) (r : Answer × A) → q ≡ 0 → turned q g r ≡ r
 unfolding turned
 turned-free zero g r h = refl
 turned-free (suc n) g r h = absurd (omega arith)

@@ -1,0 +1,35 @@
+// The merge graph's loading.
+use super::Done;
+use merge_state::Sizes;
+ghost use Rattle.merge_loading.specs.Loading.{lent, Loaded};
+ghost use Rattle.chunk_optimizer.specs.Answers.{done-told};
+
+// Loads each initial chunk's modules and the pairs of a set and its chunk; a refused loading leaves the area as it was.
+pub fn new(
+    sizes: Sizes,
+    initial: usize,
+    starts: &[u32],
+    modules: &[u32],
+    sets: &[u64],
+    chunks: &[u32],
+    effects: &[u32],
+    area: &mut [u32],
+) -> Done
+    ensures { λ r. ⌜ Loaded sizes (lent initial (now (starts .entry)) (now (modules .entry)) (now (sets .entry)) (now (chunks .entry)) (now (effects .entry))) (now (area .entry)) (done-told r) (now (area .exit)) ⌝ }
+{
+    let row = merge_loading::row::load_row(
+        sizes,
+        initial,
+        starts,
+        modules,
+        sets,
+        chunks,
+        effects,
+        area,
+    );
+    if row != 0 {
+        return Done::Refused(row);
+    }
+    merge_loading::entries::load(sizes, area, initial, starts, modules, sets, chunks, effects);
+    Done::Done
+}

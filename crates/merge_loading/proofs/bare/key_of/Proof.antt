@@ -1,0 +1,17 @@
+-- `merge_loading::bare::key_of` meets its contract. Assumes nothing.
+use borrow.Author.Tests.{lt-ltb, le-ltb}
+use borrow.Author.Needs.{needs}
+use Rattle.merge_loading.proofs.bare.key_of.Statement.{statement}
+use Rattle.merge_loading.proofs.bare.key_of.Tie as tie
+
+cast-result : tie.Need-cast-result
+cast-result c = search needs
+
+returns : tie.Need-returns
+returns c = rw (lt-ltb _ _ (c .if1 .taken))
+
+returns-2 : tie.Need-returns-2
+returns-2 c = rw (le-ltb _ _ (c .if1 .left))
+
+pub key-of-spec : {M : Type 1} → statement M
+key-of-spec = tie.close (tie.spec cast-result returns returns-2)

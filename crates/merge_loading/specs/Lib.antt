@@ -1,0 +1,5 @@
+pub mod Loading
+pub mod Sets
+pub mod Rows
+pub mod Bare
+pub mod Listing

@@ -1,0 +1,101 @@
+// The row that refuses a loading, 0 where none does.
+use crate::sets::any_illegal;
+use crate::sets::any_twice;
+use entry_set::set_width;
+use merge_rows::tests::are_bad_starts;
+use merge_rows::tests::has_stray;
+use merge_state::Sizes;
+ghost use mathlib.Core.Path.{_≡_};
+ghost use mathlib.Core.Bool.{not, _||_};
+ghost use mathlib.Core.List.{[]};
+ghost use Prim.Native.Nat.{_*_, _≤_};
+ghost use lib.ListN.{length};
+ghost use lib.Dec.{eqb};
+ghost use Rattle.entry_set.specs.Sets.{width};
+ghost use Rattle.merge_state.specs.Table.{first-fitting, bad-starts};
+ghost use Rattle.merge_state.specs.Loading.{later-load};
+ghost use Rattle.merge_loading.specs.Loading.{lent, load-refusal};
+
+// Row 15 by the lent lists: faulty starts, or not so many sets or side effects as called for.
+fn are_bad_lists(
+    sizes: Sizes,
+    initial: usize,
+    starts: &[u32],
+    listed: usize,
+    flat: usize,
+    pairs: usize,
+    effects: usize,
+) -> bool
+    requires { ⌜ (sizes .bits ≤ 256) × (pairs ≤ 1024) ⌝ }
+    ensures { λ r. ⌜ r ≡ bad-starts initial (now (starts .entry)) listed || (not (eqb flat (pairs * width (sizes .bits))) || not (eqb effects (sizes .modules))) ⌝ }
+{
+    if are_bad_starts(initial, starts, listed) {
+        return true;
+    }
+    if flat != pairs * set_width(sizes.bits) {
+        return true;
+    }
+    effects != sizes.modules
+}
+
+// The rows 16, 17 and 19.
+fn later_row(sizes: Sizes, initial: usize, modules: &[u32], sets: &[u64], chunks: &[u32]) -> u32
+    requires { ⌜ (sizes .bits ≤ 256) × (length (now chunks) ≤ 1024) × (length (now sets) ≡ length (now chunks) * width (sizes .bits)) ⌝ }
+    ensures { λ r. ⌜ r ≡ first-fitting (later-load sizes (lent initial [] (now (modules .entry)) (now (sets .entry)) (now (chunks .entry)) [])) ⌝ }
+{
+    let w = set_width(sizes.bits);
+    if has_stray(modules, sizes.modules, false) {
+        return 16;
+    }
+    if any_illegal(sets, w, chunks.len(), sizes.bits) {
+        return 16;
+    }
+    if has_stray(chunks, initial, false) {
+        return 16;
+    }
+    if any_twice(sets, w, chunks.len()) {
+        return 17;
+    }
+    if sizes.entries < modules.len() {
+        return 19;
+    }
+    0
+}
+
+pub fn load_row(
+    sizes: Sizes,
+    initial: usize,
+    starts: &[u32],
+    modules: &[u32],
+    sets: &[u64],
+    chunks: &[u32],
+    effects: &[u32],
+    area: &[u32],
+) -> u32
+    ensures { λ r. ⌜ r ≡ load-refusal sizes (lent initial (now (starts .entry)) (now (modules .entry)) (now (sets .entry)) (now (chunks .entry)) (now (effects .entry))) (now (area .entry)) ⌝ }
+{
+    if merge_area::over_limits(sizes) {
+        return 14;
+    }
+    if sizes.chunks < initial {
+        return 14;
+    }
+    if sizes.chunks < chunks.len() {
+        return 14;
+    }
+    if are_bad_lists(
+        sizes,
+        initial,
+        starts,
+        modules.len(),
+        sets.len(),
+        chunks.len(),
+        effects.len(),
+    ) {
+        return 15;
+    }
+    if merge_area::too_short(sizes, area) {
+        return 15;
+    }
+    later_row(sizes, initial, modules, sets, chunks)
+}
