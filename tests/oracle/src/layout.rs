@@ -57,7 +57,9 @@ impl MergeLayout {
     pub const CREATED: usize = 2;
     pub const SETS: usize = 3;
     pub const ENTRIES: usize = 4;
-    /// Chunk lanes: 0 to 15 the words of 2C sets, 16 and 17 their chunks, then these.
+    /// Words of each set of the table of 2C.
+    pub const WORDS: usize = 8;
+    /// Chunk lanes: 0 to 15 the words of the sets, set by set, 16 and 17 their chunks, then these.
     pub const SIDE_EFFECTS: usize = 18;
     pub const NEEDS_CREATION: usize = 19;
     pub const KEY: usize = 20;
@@ -84,9 +86,9 @@ impl MergeLayout {
         self.c * self.c + 32 + lane * self.c + chunk
     }
 
-    /// Word 0 to 7 of a set of the table of 2C; word 8 is the set's chunk.
+    /// Word 0 to 7 of a set; word 8 is the set's chunk.
     pub fn set_word(self, word: usize, set: usize) -> usize {
-        self.chunk_lane(2 * word, 0) + set
+        if word < Self::WORDS { self.chunk_lane(0, Self::WORDS * set + word) } else { self.chunk_lane(16, set) }
     }
 
     pub fn module_lane(self, lane: usize, module: usize) -> usize {

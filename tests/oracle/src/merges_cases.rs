@@ -1,7 +1,7 @@
 //! Merge graph cases: what is run, compared and shrunk.
 use crate::library::{Library, MergeLoad, Reply};
 use crate::merges_calls::{self, MergeCall, size_refusal};
-use crate::merges_model::{MergeState, NONE, Size, Verdict};
+use crate::merges_model::{MergeState, NONE, Size};
 use crate::original::OriginalMerges;
 use crate::run::{Case, Counts, GUARD, Random, same, same_area, shorter};
 use crate::sets::width;
@@ -91,27 +91,25 @@ pub fn fitted(call: &MergeCall, state: &MergeState) -> MergeCall {
 }
 
 /// Rows 14, 15, 21 and the rest on an area.
-fn model_on_area(size: Size, area: &[u32], call: &MergeCall) -> (Answer, Option<MergeState>, bool) {
+fn model_on_area(size: Size, area: &[u32], call: &MergeCall) -> (Answer, Option<MergeState>) {
     let row = size_refusal(size, area.len(), call);
     if row != 0 {
-        return ((Reply::refused(row), vec![]), None, false);
+        return ((Reply::refused(row), vec![]), None);
     }
     match MergeState::decode(size, area) {
-        Verdict::Inconsistent => ((Reply::refused(21), vec![]), None, false),
-        Verdict::Unsettled(None) => ((Reply::default(), vec![]), None, true),
-        Verdict::Unsettled(Some(mut state)) => (state.call(size, call), Some(state), true),
-        Verdict::Consistent(mut state) => (state.call(size, call), Some(state), false),
+        None => ((Reply::refused(21), vec![]), None),
+        Some(mut state) => (state.call(size, call), Some(state)),
     }
 }
 
 /// Compares an area after an unrefused call with the state, and its free cells and the guard with those before.
-fn same_state(size: Size, state: &MergeState, area: &[u32], before: &[u32]) -> Result<(), String> {
+fn same_state(size: Size, state: &MergeState, area: &[u32], before: &[u32], loading: bool) -> Result<(), String> {
     match MergeState::decode(size, area) {
-        Verdict::Consistent(other) | Verdict::Unsettled(Some(other)) if other == *state => {}
-        Verdict::Consistent(other) => return Err(format!("area holds {other:?}, expected {state:?}")),
-        verdict => return Err(format!("area is {verdict:?}, expected {state:?}")),
+        Some(other) if other == *state => {}
+        Some(other) => return Err(format!("area holds {other:?}, expected {state:?}")),
+        None => return Err(format!("area is inconsistent, expected {state:?}")),
     }
-    match state.free_cells(size, area.len()).into_iter().find(|&cell| area[cell] != before[cell]) {
+    match state.free_cells(size, area.len(), loading).into_iter().find(|&cell| area[cell] != before[cell]) {
         None => Ok(()),
         Some(cell) => Err(format!("free cell {cell} was written: {}, before {}", area[cell], before[cell])),
     }
@@ -186,24 +184,15 @@ impl MergeCase {
         }
         let size = damage.size.unwrap_or(self.size);
         let before = ours.clone();
-        let (expected, state, unsettled) = model_on_area(size, &ours[..lent], call);
+        let (expected, state) = model_on_area(size, &ours[..lent], call);
         let answer = library_answer(library, size, &mut ours[..lent], call)?;
-        if unsettled {
-            counts.damaged_unsettled += 1;
-            if state.is_none() && answer.0.refusal == 0 {
-                return Ok(());
-            }
-            if answer.0.refusal == 21 || state.is_none() {
-                return same_area("unsettled area", &ours, &before);
-            }
-        }
         if damage.cell.is_some() && damage.size.is_none() && !damage.short {
             if expected.0.refusal == 21 { counts.damaged_refused += 1 } else { counts.damaged_consistent += 1 }
         }
         counts.refused(expected.0.refusal);
         same("damaged call", &answer, &expected)?;
         match state {
-            Some(state) if expected.0.refusal == 0 => same_state(size, &state, &ours, &before),
+            Some(state) if expected.0.refusal == 0 => same_state(size, &state, &ours, &before, false),
             _ => same_area("damaged call", &ours, &before),
         }
     }
@@ -228,7 +217,7 @@ impl Case for MergeCase {
             same("loading", &library.merge_new(size, &self.load, &mut area[..lent]), &Reply::refused(row))?;
             match &loaded {
                 Err(_) => same_area("loading", &area, &before)?,
-                Ok(state) => same_state(size, state, &area, &before).map_err(|why| format!("loading: {why}"))?,
+                Ok(state) => same_state(size, state, &area, &before, true).map_err(|why| format!("loading: {why}"))?,
             }
         }
         let Ok(state) = loaded else { return Ok(()) };
@@ -322,7 +311,7 @@ impl MergeCase {
                 if answer.0.refusal != 0 {
                     same_area("refused", &area, &before).map_err(at)?;
                 } else {
-                    same_state(size, &state, &area, &before).map_err(at)?;
+                    same_state(size, &state, &area, &before, false).map_err(at)?;
                 }
             }
         }

@@ -45,16 +45,6 @@ pub struct MergeState {
     pub registered: Vec<Option<u32>>,
 }
 
-/// What plain recomputation says of an area.
-#[derive(Clone, Debug, PartialEq, Eq)]
-pub enum Verdict {
-    Inconsistent,
-    Consistent(MergeState),
-    /// Document 01 doesn't say: a flag of side effects or need of creation is neither 0 nor 1, or, then with the state,
-    /// isn't 0 for a chunk not yet made.
-    Unsettled(Option<MergeState>),
-}
-
 impl MergeState {
     pub fn made(&self) -> u32 {
         self.dependencies.len() as u32
@@ -124,14 +114,15 @@ impl MergeState {
         self.side_effects[target] |= self.side_effects[source];
     }
 
-    /// The state that an area holds, if it is consistent.
-    pub fn decode(size: Size, area: &[u32]) -> Verdict {
+    /// The state that an area holds, if it is consistent. A flag that isn't 0 says yes; the side effects and need of creation
+    /// of a chunk not yet made aren't looked at.
+    pub fn decode(size: Size, area: &[u32]) -> Option<Self> {
         let at = size.layout();
         let header = |number| area[at.header(number)];
         let (initial, made) = (header(MergeLayout::INITIAL), header(MergeLayout::MADE) as usize);
         let (sets, entries) = (header(MergeLayout::SETS) as usize, header(MergeLayout::ENTRIES) as usize);
         if initial as usize > made || made > at.c || sets > at.c + made || entries > at.l {
-            return Verdict::Inconsistent;
+            return None;
         }
         let below = |chunk: u32| (chunk as usize) < made;
         let maybe = |chunk: u32| (chunk != NONE).then_some(chunk);
@@ -140,10 +131,10 @@ impl MergeState {
             for to in 0..at.c {
                 match area[at.dependency(from, to)] {
                     0 => {}
-                    1 if from < made && to < made && from != to => {
+                    _ if from < made && to < made && from != to => {
                         dependencies[from].insert(to as u32);
                     }
-                    _ => return Verdict::Inconsistent,
+                    _ => return None,
                 }
             }
         }
@@ -177,20 +168,10 @@ impl MergeState {
             && state.entries.iter().all(|&(chunk, module)| below(chunk) && (module as usize) < at.m)
             && state.module_chunk.iter().chain(&state.registered).all(|chunk| chunk.is_none_or(below))
             && !state.needs_creation[..initial as usize].contains(&true);
-        if !sound {
-            return Verdict::Inconsistent;
-        }
-        let lanes = [MergeLayout::SIDE_EFFECTS, MergeLayout::NEEDS_CREATION];
-        if lanes.iter().any(|&which| lane(which, made).any(|flag| flag > 1)) {
-            return Verdict::Unsettled(None);
-        }
-        if lanes.iter().any(|&which| lane(which, at.c).skip(made).any(|flag| flag != 0)) {
-            return Verdict::Unsettled(Some(state));
-        }
-        Verdict::Consistent(state)
+        sound.then_some(state)
     }
 
-    /// Lays every field over the area; cells of no field stay.
+    /// Lays every field over the area; cells of no field stay, and so do the flags of chunks not yet made.
     pub fn encode(&self, size: Size, area: &mut [u32]) {
         let at = size.layout();
         area[..at.c * at.c].fill(0);
@@ -210,11 +191,12 @@ impl MergeState {
             }
             area[at.set_word(8, place)] = chunk;
         }
-        for chunk in 0..at.c {
-            let flag = |flags: &[bool]| u32::from(flags.get(chunk).copied().unwrap_or(false));
-            area[at.chunk_lane(MergeLayout::SIDE_EFFECTS, chunk)] = flag(&self.side_effects);
-            area[at.chunk_lane(MergeLayout::NEEDS_CREATION, chunk)] = flag(&self.needs_creation);
-            area[at.chunk_lane(MergeLayout::KEY, chunk)] = self.registered[chunk].unwrap_or(NONE);
+        for chunk in 0..self.made() as usize {
+            area[at.chunk_lane(MergeLayout::SIDE_EFFECTS, chunk)] = self.side_effects[chunk].into();
+            area[at.chunk_lane(MergeLayout::NEEDS_CREATION, chunk)] = self.needs_creation[chunk].into();
+        }
+        for (key, chunk) in self.registered.iter().enumerate() {
+            area[at.chunk_lane(MergeLayout::KEY, key)] = chunk.unwrap_or(NONE);
         }
         for (module, chunk) in self.module_chunk.iter().enumerate() {
             area[at.module_lane(MergeLayout::MODULE_CHUNK, module)] = chunk.unwrap_or(NONE);
@@ -225,8 +207,9 @@ impl MergeState {
         }
     }
 
-    /// Cells of no field, and places of sets and entries not in use: no call writes them.
-    pub fn free_cells(&self, size: Size, before: usize) -> Vec<usize> {
+    /// Cells of no field, and places of sets, chunks and entries not in use: no later call writes them. Loading may clear the
+    /// flags of chunks not yet made.
+    pub fn free_cells(&self, size: Size, before: usize, loading: bool) -> Vec<usize> {
         let at = size.layout();
         let mut field = vec![false; before];
         let mut used = |cell: usize| field[cell] = true;
@@ -235,11 +218,11 @@ impl MergeState {
         for place in 0..self.sets.len() {
             (0..9).for_each(|word| used(at.set_word(word, place)));
         }
-        for chunk in 0..at.c {
+        for chunk in 0..if loading { at.c } else { self.made() as usize } {
             used(at.chunk_lane(MergeLayout::SIDE_EFFECTS, chunk));
             used(at.chunk_lane(MergeLayout::NEEDS_CREATION, chunk));
-            used(at.chunk_lane(MergeLayout::KEY, chunk));
         }
+        (0..at.c).for_each(|key| used(at.chunk_lane(MergeLayout::KEY, key)));
         (0..at.m).for_each(|module| used(at.module_lane(MergeLayout::MODULE_CHUNK, module)));
         for entry in 0..self.entries.len() {
             used(at.entry_lane(MergeLayout::ENTRY_CHUNK, entry));

@@ -63,7 +63,6 @@ pub struct Counts {
     pub created: u64,
     pub damaged_refused: u64,
     pub damaged_consistent: u64,
-    pub damaged_unsettled: u64,
 }
 
 impl Counts {
@@ -77,10 +76,7 @@ impl Counts {
         println!("  moves accepted {}, rejected {}", self.accepted, self.rejected);
         println!("  warnings yes {}, no {}", self.warned, self.unwarned);
         println!("  pass merged {}, created {}", self.merged, self.created);
-        println!(
-            "  damaged areas refused {}, consistent {}, unsettled {}",
-            self.damaged_refused, self.damaged_consistent, self.damaged_unsettled
-        );
+        println!("  damaged areas refused {}, consistent {}", self.damaged_refused, self.damaged_consistent);
         let rows: Vec<String> = (1..22).map(|row| format!("{row}:{}", self.refusals[row])).collect();
         println!("  refusals by row {}", rows.join(" "));
     }

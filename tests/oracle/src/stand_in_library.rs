@@ -6,8 +6,8 @@ use crate::merges_model::Size;
 use crate::moves_model::{Graph, Load, MoveState, whole};
 use crate::sets::{Set, lent_set, width};
 
-/// No bug: document 01 leaves these flags open.
-pub const HARMLESS: &str = "flags of chunks not yet made left as they were";
+/// No bug: nobody looks at these flags.
+pub const HARMLESS: &str = "loading clears the flags of chunks not yet made";
 
 /// Bugs by name; the first two are none.
 pub const PLANTS: [&str; 47] = [
@@ -187,13 +187,12 @@ impl Library for StandIn {
             }
             Err(row) => Reply::refused(row),
             Ok(state) => {
-                let before = area.to_vec();
                 state.encode(size, area);
                 if self.planted(HARMLESS) {
                     let at = size.layout();
                     for chunk in state.made() as usize..at.c {
                         for lane in [MergeLayout::SIDE_EFFECTS, MergeLayout::NEEDS_CREATION] {
-                            area[at.chunk_lane(lane, chunk)] = before[at.chunk_lane(lane, chunk)];
+                            area[at.chunk_lane(lane, chunk)] = 0;
                         }
                     }
                 }

@@ -3,7 +3,7 @@ use std::collections::BTreeSet;
 
 use crate::library::Reply;
 use crate::merges_calls::{MergeCall, size_refusal};
-use crate::merges_model::{MergeState, Size, Verdict};
+use crate::merges_model::{MergeState, Size};
 use crate::sets::lent_set;
 use crate::stand_in_library::StandIn;
 
@@ -36,8 +36,7 @@ impl StandIn {
         if row != 0 {
             return (Reply::refused(row), vec![]);
         }
-        let (Verdict::Consistent(mut state) | Verdict::Unsettled(Some(mut state))) = MergeState::decode(size, area)
-        else {
+        let Some(mut state) = MergeState::decode(size, area) else {
             let lists_differ = matches!(call, MergeCall::Pass { proposals, kinds, .. } if proposals.len() != *kinds);
             let row = if lists_differ && self.planted("15 of the pass before 21") { 15 } else { 21 };
             return (Reply::refused(row), vec![]);
