@@ -1,17 +1,19 @@
 -- What each step of a move writes into the area. Assumes nothing.
-use mathlib.Core.Path.{_≡_, refl, ap, _∙_}
+use mathlib.Core.Path.{_≡_, ap, ap₂, _∙_}
 use native.Mathlib.Omega.{arith}
 use Rattle.entry_set.specs.Joined.{parts}
 use Rattle.entry_set.specs.LaneLaws.{length-setStrided}
-use mathlib.Core.Bool.{cond}
-use borrow.Author.Tests.{eq-eqb, ne-eqb}
+use mathlib.Core.Bool.{Bool, true, false, cond}
+use borrow.Rule.Slice.PartMut.{midOf, putMid}
 use mathlib.Core.List.{List}
-use Prim.Native.Nat.{ℕ, _+_, _*_, _≤_, _<_}
+use Prim.Native.Nat.{ℕ, _+_, _-_, _*_, _≤_, _<_}
 use lib.ListN.{length, getD, set, replicate}
-use Rattle.layout.specs.Patch.{patch}
+use Rattle.layout.specs.Patch.{patch, part, part-long, patch-same}
+use Rattle.layout.specs.Lent.{mid-part, put-patch}
 use Rattle.entry_set.specs.Lanes.{setLanes}
 use Rattle.move_area.specs.Bodies.{laneAt, atomAt}
 use Rattle.move_area.specs.Calls.{last, next}
+use Rattle.walk_counter.specs.Marks.{unmarked}
 
 -- the set X as node r: its eight words, one registered set more, and "a newly registered node has no mark"
 unfoldable pub registered : ℕ → ℕ → ℕ → List ℕ → List ℕ
@@ -42,16 +44,32 @@ counterIn n l = getD l (n * n + 1) 0
 unfoldable pub raised : ℕ → List ℕ → List ℕ
 raised n l = set (cond (last (counterIn n l)) (patch (laneAt n 9) (replicate n 0) l) l) (n * n + 1) (next (counterIn n l))
 
--- the two ways to raise it
-module _ (n : ℕ) (l : List ℕ) where
-  pub raised-last : {l′ : List ℕ} → counterIn n l ≡ 4294967295 → l′ ≡ patch (laneAt n 9) (replicate n 0) l
-      → (1 ≡ next (counterIn n l)) × (set l′ (n * n + 1) 1 ≡ raised n l)
-  unfolding raised next
-  raised-last h e = rw (eq-eqb _ _ h) (refl, ap (λ (u : List ℕ). set u (n * n + 1) 1) e)
+-- the marks lane is lent to the walk and to its start
+module _ (n : ℕ) (area : List ℕ) (room : atomAt n ≤ length area) where
+  abbrev at : ℕ
+  at = laneAt n 9
 
-  pub raised-more : (counterIn n l ≡ 4294967295 → ⊥) → (counterIn n l + 1 ≡ next (counterIn n l)) × (set l (n * n + 1) (counterIn n l + 1) ≡ raised n l)
-  unfolding raised next
-  raised-more h = rw (ne-eqb _ _ h) (refl, refl)
+  pub marks-lent : midOf at (at + n - at) area ≡ part at n area
+  marks-lent =
+      let z : at + n - at ≡ n = omega arith in
+      mid-part at (at + n) area (omega arith) (omega arith) ∙ ap (λ k. part at k area) z
+
+  -- it comes back with the marks that the walk starts with
+  abbrev marks : List ℕ
+  marks = part at n area
+
+  started-marks : (t : Bool) → patch at (cond t (replicate (length marks) 0) marks) area ≡ cond t (patch at (replicate n 0) area) area
+  started-marks true = ap (λ k. patch at (replicate k 0) area) (part-long at n area)
+  started-marks false = patch-same at marks area (ap (λ k. part at k area) (part-long at n area))
+
+  pub raised-done : {r : ℕ} {m : List ℕ} → r ≡ next (counterIn n area) → m ≡ unmarked (counterIn n area) (midOf at (at + n - at) area)
+      → length m ≡ length (midOf at (at + n - at) area) → set (putMid at (at + n - at) area m) (n * n + 1) r ≡ raised n area
+  unfolding raised unmarked
+  raised-done {r} {m} c e l =
+      let long : length m ≡ at + n - at = omega (arith, ap length marks-lent, part-long at n area) in
+      let q : putMid at (at + n - at) area m ≡ cond (last (counterIn n area)) (patch at (replicate n 0) area) area =
+      put-patch at (at + n) area m (omega arith) (omega arith) long ∙ ap (λ (u : List ℕ). patch at u area) (e ∙ ap (unmarked (counterIn n area)) marks-lent) ∙ started-marks (last (counterIn n area)) in
+      ap₂ (λ (u : List ℕ) k. set u (n * n + 1) k) q c
 
 -- an accepted move: the moved graph's edges and counts, the atom's node, no cycle and no component
 unfoldable pub committed : ℕ → List ℕ → List ℕ → ℕ → ℕ → List ℕ → List ℕ

@@ -18,11 +18,11 @@ use Rattle.neighbours.specs.Grouped.{group-graph}
 use Rattle.walks.specs.Marks.{marking, marked}
 use Rattle.walks.specs.Spread.{CanReach}
 use Rattle.layout.specs.Patch.{patch, part, part-long, part-at, patch-long, patch-in}
-use Rattle.layout.specs.Lent.{mid-part, put-patch}
+use Rattle.layout.specs.Lent.{put-patch}
 use borrow.Rule.Slice.PartMut.{midOf, putMid}
 use Rattle.move_area.specs.Bodies.{laneAt, atomAt}
 use Rattle.move_area.specs.Calls.{last, next}
-use Rattle.moving.specs.Areas.{counterIn, raised}
+use Rattle.moving.specs.Areas.{counterIn, raised, marks-lent}
 
 -- the first m slots lead between n nodes
 pub record CanAsk (s t : List ℕ) (m n : ℕ) : Type 0 where
@@ -126,9 +126,7 @@ module _ {area : List ℕ} {n counter y : ℕ} {starts list : List ℕ} (can : C
   at = laneAt n 9
 
   lent : midOf at (at + n - at) area ≡ part at n area
-  lent =
-      let z : at + n - at ≡ n = omega arith in
-      mid-part at (at + n) area (omega arith) (omega (arith, can .fresh .room)) ∙ ap (λ k. part at k area) z
+  lent = marks-lent n area (can .fresh .room)
 
   pub mark-can : {stack : List ℕ} → n ≤ length stack → CanReach starts list n counter y (midOf at (at + n - at) area) stack
   mark-can room =

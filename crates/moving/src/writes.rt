@@ -39,14 +39,11 @@ pub fn raise(area: &mut [u32], n: usize) -> u32
     ensures { λ _. ⌜ now (area .exit) ≡ raised n (now (area .entry)) ⌝ }
 {
     let square = n * n;
-    let counter = area[square + 1];
-    if counter == 4294967295 {
-        layout::fill_with(area, square + 24 + 9 * n, n, 0);
-        area[square + 1] = 1;
-        return 1;
-    }
-    area[square + 1] = counter + 1;
-    counter + 1
+    let at = square + 24 + 9 * n;
+    let end = at + n;
+    let counter = walk_counter::begin(area[square + 1], &mut area[at..end]);
+    area[square + 1] = counter;
+    counter
 }
 
 // The edges of the old slots (s, t) become those of the new ones (u, v).

@@ -1,7 +1,6 @@
--- `raise` meets its contract. Assumes nothing.
-use Prim.Native.Nat.{_+_, _*_}
+-- `raise` meets its contract: the marks lane is lent to the walk's start, and comes back as a patch. Assumes nothing.
 use native.Mathlib.Omega.{arith}
-use Rattle.moving.specs.Areas.{raised-last, raised-more}
+use Rattle.moving.specs.Areas.{raised-done}
 use borrow.Author.Needs.{needs}
 use Rattle.moving.proofs.writes.raise.Statement.{statement}
 use Rattle.moving.proofs.writes.raise.Tie as tie
@@ -9,26 +8,41 @@ use Rattle.moving.proofs.writes.raise.Tie as tie
 mul-square : tie.Need-mul-square
 mul-square c = search needs
 
-add-counter : tie.Need-add-counter
-add-counter c = search needs
+add-at : tie.Need-add-at
+add-at c = search needs
 
-mul-counter : tie.Need-mul-counter
-mul-counter c = search needs
+mul-at : tie.Need-mul-at
+mul-at c = search needs
 
-slice-read-counter : tie.Need-slice-read-counter
-slice-read-counter c = search needs
+add-at-2 : tie.Need-add-at-2
+add-at-2 c = search needs
 
-add-fill-with : tie.Need-add-fill-with
-add-fill-with c = search needs
+add-end : tie.Need-add-end
+add-end c = search needs
 
-mul-fill-with : tie.Need-mul-fill-with
-mul-fill-with c = search needs
+add-begin : tie.Need-add-begin
+add-begin c = search needs
 
-add-fill-with-2 : tie.Need-add-fill-with-2
-add-fill-with-2 c = search needs
+mul-begin : tie.Need-mul-begin
+mul-begin c = search needs
 
-fill-with-requires : tie.Need-fill-with-requires
-fill-with-requires c κs = search needs
+slice-read-begin : tie.Need-slice-read-begin
+slice-read-begin c = search needs
+
+mul-begin-2 : tie.Need-mul-begin-2
+mul-begin-2 c = search needs
+
+sub-begin : tie.Need-sub-begin
+sub-begin c = search needs
+
+part-begin-start : tie.Need-part-begin-start
+part-begin-start c = search needs
+
+part-begin-end : tie.Need-part-begin-end
+part-begin-end c = search needs
+
+begin-requires : tie.Need-begin-requires
+begin-requires c κs = search needs
 
 add-area : tie.Need-add-area
 add-area c = search needs
@@ -43,50 +57,30 @@ same-length : tie.Need-same-length
 same-length c = search needs
 
 returns : tie.Need-returns
-returns c = raised-last (c .before .before .before .before .before .before .before .args .n) (c .before .before .before .before .before .before .before .args .area .now) (c .before .before .before .before .if1 .taken) (c .before .before .fill-with .ensures)
-
-add-area-2 : tie.Need-add-area-2
-add-area-2 c = omega (arith, c .before .slice-known2 .given (c .before .before .before .args .n * c .before .before .before .args .n + 1))
-
-add-area-3 : tie.Need-add-area-3
-add-area-3 c = search needs
-
-mul-area-2 : tie.Need-mul-area-2
-mul-area-2 c = search needs
-
-slice-write-area-2 : tie.Need-slice-write-area-2
-slice-write-area-2 c = search needs
-
-add-result : tie.Need-add-result
-add-result c = omega (arith, c .before .slice-known2 .given (c .before .before .before .args .n * c .before .before .before .args .n + 1))
-
-same-length-2 : tie.Need-same-length-2
-same-length-2 c = search needs
-
-returns-2 : tie.Need-returns-2
-returns-2 c = raised-more (c .before .before .before .args .n) (c .before .before .before .args .area .now) (c .if1 .left)
+returns c =
+    let a = c .before .before .before .before .before .before .args in
+    let b = c .before .before .begin in
+    (b .ensures .0, raised-done (a .n) (a .area .now) (omega (arith, c .before .before .before .before .before .before .pre)) (b .ensures .0) (b .ensures .1) (b .kept .1 .0))
 
 pub raise-spec : {M : Type 1} → statement M
 raise-spec =
     tie.close
     (tie.spec
     mul-square
-    add-counter
-    mul-counter
-    slice-read-counter
-    add-fill-with
-    mul-fill-with
-    add-fill-with-2
-    fill-with-requires
+    add-at
+    mul-at
+    add-at-2
+    add-end
+    add-begin
+    mul-begin
+    slice-read-begin
+    mul-begin-2
+    sub-begin
+    part-begin-start
+    part-begin-end
+    begin-requires
     add-area
     mul-area
     slice-write-area
     same-length
-    returns
-    add-area-2
-    add-area-3
-    mul-area-2
-    slice-write-area-2
-    add-result
-    same-length-2
-    returns-2)
+    returns)
