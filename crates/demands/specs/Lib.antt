@@ -6,6 +6,7 @@ pub mod Demand2
 pub mod Demand3
 pub mod MergeRefused
 pub mod MergeKept
+pub mod MergeLoaded
 pub mod MergeWarning
 pub mod MergeEither
 pub mod MergeSwap

@@ -11,6 +11,8 @@ use Rattle.merge_state.specs.Table.{Answer, done, refused, says, chunk, nothing
 use Rattle.merge_area.specs.Read.{read}
 use Rattle.merge_area.specs.Writes.{write}
 use Rattle.merge_area.specs.Calls.{refusal, step, lists-after}
+use Rattle.merge_state.specs.Loading.{Lent}
+use Rattle.merge_loading.specs.Loading.{loaded-area, load-refusal, load-step}
 
 unfoldable pub is-refused : Answer → Bool
 is-refused done = false
@@ -37,6 +39,12 @@ acts z g (is-reachable x y) = refl
 acts z g (merge-chunk-dependencies t s) = refl
 acts z g (pass props bars kinds numbers) = refl
 
+-- a refusal leaves the area
+kept : (a : List ℕ) (q : ℕ) (r : Answer × List ℕ) → is-refused (r .0) ≡ false → is-refused (turned q a r .0) ≡ true → turned q a r .1 ≡ a
+unfolding turned
+kept a zero r p h = absurd (true≢false (sym h ∙ p))
+kept a (suc n) r p h = refl
+
 -- a call is refused exactly where a row fits
 module _ (z : Sizes) (a : List ℕ) (c : Call) where
   zero-row : (q : ℕ) (r : Answer × List ℕ) → is-refused (turned q a r .0) ≡ false → q ≡ 0
@@ -62,15 +70,16 @@ module _ (z : Sizes) (a : List ℕ) (c : Call) where
   unfolding step
   stuck-step h = same (refusal z a c) _ h
 
-  kept : (q : ℕ) (r : Answer × List ℕ) → is-refused (r .0) ≡ false → is-refused (turned q a r .0) ≡ true → turned q a r .1 ≡ a
-  unfolding turned
-  kept zero r p h = absurd (true≢false (sym h ∙ p))
-  kept (suc n) r p h = refl
-
   -- "A refusal changes no lent memory": the area
   pub refused-merge-call : is-refused (step z a c .0) ≡ true → step z a c .1 ≡ a
   unfolding step
-  refused-merge-call h = kept (refusal z a c) _ (acts z (read z a) c) h
+  refused-merge-call h = kept a (refusal z a c) _ (acts z (read z a) c) h
+
+-- the same of a loading
+module _ (z : Sizes) (n : Lent) (a : List ℕ) where
+  pub refused-merge-loading : is-refused (load-step z n a .0) ≡ true → load-step z n a .1 ≡ a
+  unfolding load-step is-refused
+  refused-merge-loading h = kept a (load-refusal z n a) (done, loaded-area z n a) refl h
 
 -- and the two lists that the pass writes. Every other list is lent for reading only
 pub refused-lists : (answer : Answer) (l : List ℕ × List ℕ) → is-refused answer ≡ true → lists-after answer l ≡ l

@@ -4,8 +4,6 @@ use entry_set::set_at;
 use entry_set::write_lanes;
 use set_order::distinct;
 use set_order::sort;
-ghost use Prim.Native.Nat.{_≤_};
-ghost use lib.ListN.{length};
 ghost use Rattle.graphs.specs.Bools.{Decides};
 ghost use Rattle.set_order.specs.Order.{laneSet, Distinct};
 ghost use Rattle.set_order.specs.Steps.{CanOrder};

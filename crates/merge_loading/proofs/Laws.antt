@@ -1,10 +1,9 @@
 -- Laws that several proofs of this crate cite. Assumes nothing.
-use Prim.Native.Nat.{ℕ, _+_, _-_, _*_, _≤_, _<_}
-use native.Mathlib.Omega.{arith}
+use Prim.Native.Nat.{ℕ, _+_, _*_, _≤_, _<_}
 use native.Mathlib.Nat.{add-zero, zero-add}
 use mathlib.Core.Path.{_≡_, refl, sym, ap, _∙_}
 use mathlib.Core.Bool.{Bool, true, false, not, _||_}
-use mathlib.Core.List.{List, []}
+use mathlib.Core.List.{List, [], _∷_}
 use lib.ListN.{length, getD, set, replicate}
 use lib.Dec.{eqb, ltb}
 use Rattle.graphs.specs.Tab.{tab, tab-length, tab-at}
@@ -12,15 +11,15 @@ use Rattle.layout.specs.Patch.{patch, part, is-part}
 use Rattle.layout.proofs.Writes.{Copying, copy-none, copy-more, copy-done}
 use Rattle.merge_state.specs.declared.Sizes.{Sizes}
 use Rattle.merge_state.specs.State.{None}
-use Rattle.merge_area.specs.Layout.{side, key, home}
+use Rattle.merge_area.specs.Layout.{side}
 use borrow.Author.Tests.{eq-eqb, ne-eqb, lt-ltb, le-ltb, eqb-true, not-false}
 use Rattle.graphs.specs.Bools.{or-left, or-right, or-false, or-false-left, or-false-right}
 use Rattle.graphs.specs.Lists.{some-below}
 use Rattle.entry_set.specs.Sets.{value, width, legal}
 use Rattle.merge_state.specs.Table.{first-fitting, bad-starts, stray}
 use Rattle.merge_state.specs.Loading.{set-at, twice, over-load, bad-load, later-load}
-use Rattle.merge_laws.specs.Rows.{fits-here, fits-next, fits-none}
 use Rattle.merge_loading.specs.Loading.{lent, first-key, cleared-area}
+use Rattle.merge_loading.specs.Sets.{bad-index}
 
 -- the first k keys are written
 abbrev pub Keying : List ℕ → ℕ → ℕ → ℕ → ℕ → List ℕ → Type 0
@@ -61,47 +60,36 @@ module _ (z : Sizes) (i : ℕ) (starts : List ℕ) (d flat pairs effects w : ℕ
   pub lists-effects : bad-starts i starts d ≡ false → flat ≡ pairs * w → not (eqb effects (z .modules)) ≡ lists
   lists-effects b h = rw (b, eq-eqb flat (pairs * width (z .bits)) (h ∙ ap (λ v. pairs * v) wide))
 
--- those of rows 16, 17 and 19
-module _ (z : Sizes) (i : ℕ) (modules flat chunks : List ℕ) (w : ℕ) (wide : w ≡ width (z .bits)) where
-  abbrev rows : ℕ
-  rows = first-fitting (later-load z (lent i [] modules flat chunks []))
-
+-- those of row 16
+module _ (z : Sizes) (i : ℕ) (modules flat chunks : List ℕ) where
   abbrev astray : Bool
   astray = stray (z .modules) false modules
 
   abbrev illegal : ℕ → Bool
-  illegal v = some-below (λ j. not (legal (z .bits) (set-at v flat j))) (length chunks)
+  illegal w = some-below (λ j. not (legal (z .bits) (set-at w flat j))) (length chunks)
 
-  abbrev repeated : ℕ → Bool
-  repeated v = twice (λ j. value (set-at v flat j)) (length chunks)
+  pub index-module : astray ≡ true → true ≡ bad-index z i modules flat chunks
+  unfolding bad-index
+  index-module h = sym (or-left astray _ h)
 
-  pub row-module : astray ≡ true → 16 ≡ rows
-  unfolding later-load
-  row-module h = fits-here _ 16 _ (or-left astray _ h)
+  module _ (w : ℕ) (wide : w ≡ width (z .bits)) where
+    pub index-set : illegal w ≡ true → true ≡ bad-index z i modules flat chunks
+    unfolding bad-index
+    index-set h = sym (or-right astray _ (or-left (illegal (width (z .bits))) _ (sym (ap illegal wide) ∙ h)))
 
-  pub row-set : illegal w ≡ true → 16 ≡ rows
-  unfolding later-load
-  row-set h = fits-here _ 16 _ (or-right astray _ (or-left (illegal (width (z .bits))) _ (sym (ap illegal wide) ∙ h)))
+    pub index-chunk : {r : Bool} → astray ≡ false → illegal w ≡ false → r ≡ stray i false chunks → r ≡ bad-index z i modules flat chunks
+    unfolding bad-index
+    index-chunk a b e = let k : illegal (width (z .bits)) ≡ false = sym (ap illegal wide) ∙ b in e ∙ (rw (a, k))
 
-  pub row-chunk : stray i false chunks ≡ true → 16 ≡ rows
-  unfolding later-load
-  row-chunk h = fits-here _ 16 _ (or-right astray _ (or-right (illegal (width (z .bits))) _ h))
+-- the rows 16, 17 and 19
+three : (a b c a′ b′ c′ : Bool) → a ≡ a′ → b ≡ b′ → c ≡ c′ → first-fitting ((a, 16) ∷ (b, 17) ∷ (c, 19) ∷ []) ≡ first-fitting ((a′, 16) ∷ (b′, 17) ∷ (c′, 19) ∷ [])
+three a b c a′ b′ c′ p q r = rw (p, q, r) refl
 
-  module _ (a : astray ≡ false) (b : illegal w ≡ false) (c : stray i false chunks ≡ false) where
-    inside : (astray || (illegal (width (z .bits)) || stray i false chunks)) ≡ false
-    inside = or-false astray _ a (or-false (illegal (width (z .bits))) _ (sym (ap illegal wide) ∙ b) c)
-
-    pub row-twice : repeated w ≡ true → 17 ≡ rows
-    unfolding later-load
-    row-twice h = fits-next _ 16 17 _ inside (fits-here _ 17 _ (sym (ap repeated wide) ∙ h))
-
-    pub row-full : repeated w ≡ false → z .entries < length modules → 19 ≡ rows
-    unfolding later-load
-    row-full d h = fits-next _ 16 19 _ inside (fits-next _ 17 19 _ (sym (ap repeated wide) ∙ d) (fits-here _ 19 _ (lt-ltb _ _ h)))
-
-    pub row-none : repeated w ≡ false → length modules ≤ z .entries → 0 ≡ rows
-    unfolding later-load
-    row-none d h = fits-next _ 16 0 _ inside (fits-next _ 17 0 _ (sym (ap repeated wide) ∙ d) (fits-next _ 19 0 _ (le-ltb _ _ h) fits-none))
+pub later-is : (z : Sizes) (i : ℕ) (modules flat chunks : List ℕ) (w : ℕ) → w ≡ width (z .bits) → {bad repeated : Bool} {r : ℕ} → bad ≡ bad-index z i modules flat chunks
+    → repeated ≡ twice (λ j. value (set-at w flat j)) (length chunks) → r ≡ first-fitting ((bad, 16) ∷ (repeated, 17) ∷ (ltb (z .entries) (length modules), 19) ∷ [])
+    → r ≡ first-fitting (later-load z (lent i [] modules flat chunks []))
+unfolding later-load bad-index
+later-is z i modules flat chunks w wide a b e = e ∙ three _ _ _ _ _ _ a (b ∙ ap (λ v. twice (λ j. value (set-at v flat j)) (length chunks)) wide) refl
 
 -- what row 14 and 15 say of the lists
 module _ (z : Sizes) (i : ℕ) (starts modules flat chunks effects : List ℕ) where

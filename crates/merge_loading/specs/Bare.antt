@@ -1,23 +1,20 @@
 -- The numbers of an area before the list entries: each field as it was written. Assumes nothing.
 use Prim.Native.Nat.{ℕ, zero, suc, _+_, _*_, _^_, _≤_, _<_}
 use native.Mathlib.Omega.{arith}
-use native.Mathlib.Nat.{add-zero, zero-add}
+use native.Mathlib.Nat.{zero-add}
 use native.Mathlib.Numerals.{add-one}
 use native.Mathlib.Decide.{ℕ-discrete}
 use mathlib.Core.Path.{_≡_, refl, sym, ap, _∙_}
-use mathlib.Core.Logic.{_⊎_, inl, inr, ⊎-elim}
-use mathlib.Core.List.{List, [], _∷_}
+use mathlib.Core.List.{List}
 use lib.ListN.{getD, length, set, replicate, length-set, length-replicate, getD-replicate}
 use lib.Seq.{getD-set-same, getD-set-other}
 use Rattle.graphs.specs.Tab.{tab, tab-length, tab-at}
 use Rattle.layout.specs.Patch.{patch, patch-long, patch-in, patch-out}
-use Rattle.entry_set.specs.declared.EntrySet.{EntrySet}
 use Rattle.entry_set.specs.Joined.{parts}
 use Rattle.entry_set.specs.JoinedLaws.{length-parts}
-use Rattle.entry_set.specs.Sets.{value, width, number, Holds}
-use Rattle.entry_set.specs.SetLaws.{sets-room}
+use Rattle.entry_set.specs.Sets.{value, width, number}
 use Rattle.entry_set.specs.Lanes.{lanes, setLanes}
-use Rattle.entry_set.specs.LaneLaws.{length-setStrided, setStrided-other, lanes-set, lanes-same, lanes-other}
+use Rattle.entry_set.specs.LaneLaws.{length-setStrided, setStrided-other, lanes-set, lanes-same}
 use Rattle.merge_state.specs.declared.Sizes.{Sizes}
 use Rattle.merge_state.specs.State.{None}
 use Rattle.merge_state.specs.Loading.{set-at}

@@ -1,8 +1,8 @@
 -- `new`: the area after a loading, and the rows that refuse one. Sentences quoted are document 01's. Assumes nothing.
-use Prim.Native.Nat.{ℕ, zero, suc, _+_, _*_, _≤_}
+use Prim.Native.Nat.{ℕ, zero, suc, _*_}
 use mathlib.Core.Path.{_≡_}
-use mathlib.Core.Bool.{Bool, cond, _||_}
-use mathlib.Core.List.{List, [], _∷_}
+use mathlib.Core.Bool.{cond, _||_}
+use mathlib.Core.List.{List, _∷_}
 use lib.ListN.{getD, length, set, replicate}
 use lib.Dec.{ltb}
 use Rattle.graphs.specs.Tab.{tab}

@@ -1,15 +1,13 @@
 -- The rows of a loading: what one that none refuses may rely on, and what `new` then answers and leaves. Assumes nothing.
-use Prim.Native.Nat.{ℕ, zero, suc, _+_, _*_, _≤_, _<_}
+use Prim.Native.Nat.{ℕ, _≤_}
 use native.Mathlib.Omega.{arith}
-use mathlib.Core.Path.{_≡_, refl, sym, ap, _∙_}
-use mathlib.Core.Bool.{Bool, true, false, not, _||_}
-use mathlib.Core.List.{List, [], _∷_}
-use lib.ListN.{length, getD}
-use lib.Dec.{ltb, eqb}
+use mathlib.Core.Path.{_≡_, sym, ap, _∙_}
+use mathlib.Core.Bool.{true, false}
+use mathlib.Core.List.{List}
+use lib.ListN.{length}
 use Rattle.graphs.specs.Bools.{or-left, or-right, or-false, or-false-left, or-false-right}
-use Rattle.entry_set.specs.Sets.{width}
 use Rattle.merge_state.specs.declared.Sizes.{Sizes}
-use Rattle.merge_state.specs.Table.{Answer, done, refused, first-fitting, bad-starts, turned}
+use Rattle.merge_state.specs.Table.{Answer, done, refused, first-fitting}
 use Rattle.merge_state.specs.Kept.{none-fits}
 use Rattle.merge_state.specs.Loading.{Lent, over-load, bad-load, later-load}
 use Rattle.merge_state.specs.LoadKept.{Allowed, allowed}

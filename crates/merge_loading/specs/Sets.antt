@@ -1,18 +1,21 @@
 -- The lent sets: what their tests ask, and what a legal one is. Assumes nothing.
 use Prim.Native.Nat.{ℕ, _+_, _*_, _^_, _≤_, _<_}
 use native.Mathlib.Omega.{arith}
-use mathlib.Core.Path.{_≡_, refl, sym, ap, _∙_}
-use mathlib.Core.Bool.{Bool, not, _&&_}
+use mathlib.Core.Path.{_≡_, sym, ap, _∙_}
+use mathlib.Core.Bool.{Bool, false, not, _&&_, _||_}
 use mathlib.Core.List.{List}
 use lib.ListN.{length, take, drop, length-take, length-drop}
-use lib.Dec.{ltb, eqb}
+use lib.Dec.{ltb}
 use borrow.Author.Tests.{eq-eqb}
 use Rattle.graphs.specs.Bools.{Decides}
+use Rattle.graphs.specs.Lists.{some-below}
 use Rattle.set_order.specs.Order.{Distinct}
 use Rattle.entry_set.specs.declared.EntrySet.{EntrySet}
 use Rattle.entry_set.specs.Sets.{value, width, legal, number, Holds}
 use Rattle.entry_set.specs.SetLaws.{sets-room}
-use Rattle.equal_sets.specs.Laid.{nth-set, repeats}
+use Rattle.equal_sets.specs.Laid.{repeats}
+use Rattle.merge_state.specs.declared.Sizes.{Sizes}
+use Rattle.merge_state.specs.Table.{stray}
 use Rattle.merge_state.specs.Loading.{set-at, came-before, twice}
 
 -- the list has p sets of e bits, w numbers each
@@ -43,3 +46,8 @@ twice-is key p {d} r = repeats key p d r
 -- the lent sets have the length called for
 pub test-full : {sets : List ℕ} {w p e : ℕ} → e ≤ 256 → length sets ≡ p * width e → w ≡ width e → CanTest sets w p e
 test-full {p = p} b f q = record { wide = q; bits = b; full = f ∙ ap (λ v. p * v) (sym q) }
+
+-- row 16's fault, of i initial chunks
+unfoldable pub bad-index : Sizes → ℕ → List ℕ → List ℕ → List ℕ → Bool
+bad-index z i modules flat chunks =
+    stray (z .modules) false modules || (some-below (λ j. not (legal (z .bits) (set-at (width (z .bits)) flat j))) (length chunks) || stray i false chunks)

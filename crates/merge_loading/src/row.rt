@@ -7,7 +7,7 @@ use merge_rows::tests::has_stray;
 use merge_state::Sizes;
 ghost use mathlib.Core.Path.{_≡_};
 ghost use mathlib.Core.Bool.{not, _||_};
-ghost use mathlib.Core.List.{[]};
+ghost use mathlib.Core.List.{[], _∷_};
 ghost use Prim.Native.Nat.{_*_, _≤_};
 ghost use lib.ListN.{length};
 ghost use lib.Dec.{eqb};
@@ -15,6 +15,7 @@ ghost use Rattle.entry_set.specs.Sets.{width};
 ghost use Rattle.merge_state.specs.Table.{first-fitting, bad-starts};
 ghost use Rattle.merge_state.specs.Loading.{later-load};
 ghost use Rattle.merge_loading.specs.Loading.{lent, load-refusal};
+ghost use Rattle.merge_loading.specs.Sets.{bad-index};
 
 // Row 15 by the lent lists: faulty starts, or not so many sets or side effects as called for.
 fn are_bad_lists(
@@ -38,28 +39,50 @@ fn are_bad_lists(
     effects != sizes.modules
 }
 
+// Row 16: a module, a set or a chunk isn't in range.
+fn has_bad_index(
+    sizes: Sizes,
+    initial: usize,
+    modules: &[u32],
+    sets: &[u64],
+    chunks: &[u32],
+) -> bool
+    requires { ⌜ (sizes .bits ≤ 256) × (length (now sets) ≡ length (now chunks) * width (sizes .bits)) ⌝ }
+    ensures { λ r. ⌜ r ≡ bad-index sizes initial (now (modules .entry)) (now (sets .entry)) (now (chunks .entry)) ⌝ }
+{
+    if has_stray(modules, sizes.modules, false) {
+        return true;
+    }
+    if any_illegal(sets, set_width(sizes.bits), chunks.len(), sizes.bits) {
+        return true;
+    }
+    has_stray(chunks, initial, false)
+}
+
+// The first of rows 16, 17 and 19 that fits, 0 where none does.
+fn first_later(bad: bool, repeated: bool, full: bool) -> u32
+    ensures { λ r. ⌜ r ≡ first-fitting ((bad, 16) ∷ (repeated, 17) ∷ (full, 19) ∷ []) ⌝ }
+{
+    if bad {
+        return 16;
+    }
+    if repeated {
+        return 17;
+    }
+    if full {
+        return 19;
+    }
+    0
+}
+
 // The rows 16, 17 and 19.
 fn later_row(sizes: Sizes, initial: usize, modules: &[u32], sets: &[u64], chunks: &[u32]) -> u32
     requires { ⌜ (sizes .bits ≤ 256) × (length (now chunks) ≤ 1024) × (length (now sets) ≡ length (now chunks) * width (sizes .bits)) ⌝ }
     ensures { λ r. ⌜ r ≡ first-fitting (later-load sizes (lent initial [] (now (modules .entry)) (now (sets .entry)) (now (chunks .entry)) [])) ⌝ }
 {
-    let w = set_width(sizes.bits);
-    if has_stray(modules, sizes.modules, false) {
-        return 16;
-    }
-    if any_illegal(sets, w, chunks.len(), sizes.bits) {
-        return 16;
-    }
-    if has_stray(chunks, initial, false) {
-        return 16;
-    }
-    if any_twice(sets, w, chunks.len()) {
-        return 17;
-    }
-    if sizes.entries < modules.len() {
-        return 19;
-    }
-    0
+    let bad = has_bad_index(sizes, initial, modules, sets, chunks);
+    let repeated = any_twice(sets, set_width(sizes.bits), chunks.len());
+    first_later(bad, repeated, sizes.entries < modules.len())
 }
 
 pub fn load_row(

@@ -1,8 +1,8 @@
 -- `merge_loading::bare::write_pairs` meets its contract. Assumes nothing.
 use Prim.Native.Nat.{_-_}
 use native.Mathlib.Omega.{arith}
-use mathlib.Core.Path.{_≡_, ap, _∙_}
-use lib.ListN.{length, take, drop}
+use mathlib.Core.Path.{_≡_}
+use lib.ListN.{length}
 use Rattle.entry_set.specs.Sets.{value, width}
 use Rattle.entry_set.specs.SetLaws.{sets-room}
 use Rattle.merge_loading.specs.Bare.{Named, name-none, name-long, name-more, name-done}

@@ -2,10 +2,9 @@ use Rattle.graphs.specs.Bools.{or-left}
 use Rattle.merge_loading.proofs.Laws.{lists-sets, lists-effects}
 -- `merge_loading::row::are_bad_lists` meets its contract. Assumes nothing.
 use Prim.Native.Nat.{_≤_}
-use mathlib.Core.Path.{_≡_, sym, _∙_}
+use mathlib.Core.Path.{sym, _∙_}
 use native.Mathlib.Omega.{arith}
 use native.Mathlib.Nat.{mul-le-mul}
-use borrow.Author.Tests.{eq-eqb, ne-eqb}
 use borrow.Author.Needs.{needs}
 use Rattle.merge_loading.proofs.row.are_bad_lists.Statement.{statement}
 use Rattle.merge_loading.proofs.row.are_bad_lists.Tie as tie
