@@ -1,22 +1,25 @@
 -- The lines of a listing, one after the other. Assumes nothing.
-use mathlib.Core.Path.{_≡_, subst}
+use mathlib.Core.Path.{_≡_, refl, subst, ap}
 use mathlib.Core.Bool.{Bool, true, false, cond}
 use mathlib.Core.List.{List, _++_}
 use Prim.Native.Nat.{ℕ, zero, suc, _+_, _*_, _≤_, _<_}
 use native.Mathlib.Omega.{arith}
 use native.Mathlib.Numerals.{add-one}
 use lib.Dec.{eqb}
-use lib.ListN.{length, length-append}
+use lib.ListN.{length, length-append, getD}
 use Rattle.ledger.specs.Graph.{Load, edges}
 use Rattle.ledger.specs.Answer.{Answer, refused, number}
-use Rattle.ledger.specs.Ledger.{Question, edge-count, edge-at, ask}
+use Rattle.ledger.specs.Ledger.{Question, edge-count, edge-at, kth, ask}
 use Rattle.ledger.specs.Loading.{refusal}
 use Rattle.move_area.specs.Area.{decode, consistent}
 use Rattle.move_area.specs.Calls.{asked, checked}
+use Rattle.listing.specs.Answers.{placeIn, Listable}
+use Rattle.reduced_chunk_graph.specs.Asked.{asked-back, head-inside, edges-told, edge-told}
+use Rattle.reduced_chunk_graph.specs.Listed.{RowTold, listable-known, listable-some}
 use Rattle.replies.specs.Words.{reply}
 use Rattle.replies.specs.Room.{Put, put-then, put-none, reply-long}
-use Rattle.load_commands.specs.declared.Machine.{Machine}
-use Rattle.moves_commands.specs.Program.{N, areas, lent, lines, lines-of, listing}
+use Rattle.moves_commands.specs.Program.{N, areas, lines, lines-of, listing}
+use Rattle.moves_commands.specs.Steps.{CanList, CanListAll}
 use Rattle.moves_commands.specs.Few.{edges-few}
 
 pub lines-long : (asks : Question → Answer) (n : ℕ) → length (lines asks n) ≤ 64 * n
@@ -61,9 +64,27 @@ asked-few load N area n = go (eqb (refusal load N (length area)) 0) (consistent 
     go true false e = let z : _≡_ {A = ℕ} 0 1 = cc in absurd (omega arith)
     go false u e = let z : _≡_ {A = ℕ} 0 1 = cc in absurd (omega arith)
 
--- at most 144 edges
-pub program-few : (m : Machine) (dependencies starts hosts area : List ℕ) (n : ℕ) → m .entries ≤ 128 → number n ≡ areas .asks (lent m dependencies starts hosts) area edge-count → n ≤ 144
-program-few m dependencies starts hosts area n h e = omega (arith, asked-few (lent m dependencies starts hosts) N area n e)
+-- the check's word at each call of `listing`
+module _ {load : Load} {area order degrees : List ℕ} where
+  module _ {known : ℕ} (can : CanList load area known order degrees) where
+    pub list-some : (l : Load) × Listable l N area known order degrees
+    list-some = listable-some (can .told) refl (can .sets)
+
+    pub line-told : (k : ℕ) {x : Answer} → ((l : Load) → Listable l N area known order degrees → x ≡ kth (edges l (placeIn l N area)) k) → reply x ≡ reply (areas .asks load area (edge-at k))
+    line-told k f = ap reply (edge-told load N area 0 (can .told .row) refl k _ (f load (listable-known (can .told) refl (can .sets))))
+
+  module _ (can : CanListAll load area order degrees) where
+    pub list-one : {known : ℕ} → known ≡ getD area (N * N) 0 → CanList load area known order degrees
+    list-one e = record { told = can .told; sets = e }
+
+    pub head-there : N * N < length area
+    head-there = head-inside load N area 0 (can .told .row) refl
+
+    pub count-told : {n : ℕ} → ((l : Load) (a o : List ℕ) (registered : ℕ) → Listable l N a registered o degrees → n ≡ length (edges l (placeIn l N a))) → number n ≡ areas .asks load area edge-count
+    count-told f = edges-told load N area 0 (can .told .row) refl _ (f load area order _ (can .told .listable refl))
+
+    pub all-few : {n : ℕ} → number n ≡ areas .asks load area edge-count → n ≤ 144
+    all-few e = omega (arith, asked-few load N area _ e, can .few)
 
 -- the lines, and then the count
 pub listing-steps : (asks : Question → Answer) (n : ℕ) {l l′ l″ : List ℕ} {at p q : ℕ} → number n ≡ asks edge-count
@@ -75,3 +96,11 @@ listing-steps asks n {l} {l′} {l″} {at} {p} {q} e v w =
 pub listing-refused : (asks : Question → Answer) (row : ℕ) {l l′ : List ℕ} {at q : ℕ} → refused row ≡ asks edge-count → Put (reply (refused row)) l at l′ q → Put (listing asks) l at l′ q
 unfolding listing
 listing-refused asks row {l} {l′} {at} {q} e w = subst (λ a. Put (lines-of asks a ++ reply a) l at l′ q) e w
+
+-- the check's answer: a row that fits turns the listing back
+module _ {load : Load} {area order degrees : List ℕ} {q : ℕ} (t : RowTold load N area degrees order q) where
+  pub listing-back : (q ≡ 0 → ⊥) → {l l′ : List ℕ} {at p : ℕ} → Put (reply (refused q)) l at l′ p → Put (listing (areas .asks load area)) l at l′ p
+  listing-back h w = listing-refused (areas .asks load area) q (asked-back load N area q (t .row) h edge-count) w
+
+  pub list-all : q ≡ 0 → load .D + load .E ≤ 144 → CanListAll load area order degrees
+  list-all e few = record { told = subst (RowTold load N area degrees order) e t; few = few }

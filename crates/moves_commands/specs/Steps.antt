@@ -2,13 +2,15 @@
 use mathlib.Core.Path.{_≡_}
 use mathlib.Core.Bool.{Bool, true, false, _&&_}
 use mathlib.Core.List.{List}
-use Prim.Native.Nat.{ℕ, _+_, _-_, _≤_, _<_}
+use Prim.Native.Nat.{ℕ, _+_, _*_, _-_, _≤_, _<_}
 use lib.Dec.{ltb, leb}
-use lib.ListN.{length}
+use lib.ListN.{length, getD}
+use Rattle.ledger.specs.Graph.{Load}
+use Rattle.reduced_chunk_graph.specs.Listed.{RowTold}
 use Rattle.replies.specs.Room.{Put}
 use Rattle.load_commands.specs.declared.Machine.{Machine}
 use Rattle.load_commands.specs.Machine.{reading}
-use Rattle.moves_commands.specs.Program.{State, Turn}
+use Rattle.moves_commands.specs.Program.{N, State, Turn}
 use Rattle.moves_commands.specs.Fits.{Ready}
 use Rattle.moves_commands.specs.Feed.{reserve, Fed}
 
@@ -24,6 +26,16 @@ pub record CanLoad (m : Machine) (sets sources dependencies starts : List ℕ) :
   pub lends : CanLend m dependencies starts
   pub for-sets : m .atoms ≤ length sets
   pub for-sources : m .entries ≤ length sources
+
+-- no row from 1 to 6 nor 9 fits, and the edges can be listed by `degrees` and `order`; `known` sets are registered
+pub record CanList (load : Load) (area : List ℕ) (known : ℕ) (order degrees : List ℕ) : Type 0 where
+  pub told : RowTold load N area degrees order 0
+  pub sets : known ≡ getD area (N * N) 0
+
+-- and there are few of them
+pub record CanListAll (load : Load) (area order degrees : List ℕ) : Type 0 where
+  pub told : RowTold load N area degrees order 0
+  pub few : load .D + load .E ≤ 144
 
 -- the state that the machine and the lent lists hold
 abbrev pub held : Machine → List ℕ → List ℕ → List ℕ → List ℕ → List ℕ → List ℕ → State (List ℕ)

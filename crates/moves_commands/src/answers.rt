@@ -5,8 +5,9 @@ ghost use lib.ListN.{length};
 ghost use Rattle.ledger.specs.Answer.{is-refused};
 ghost use Rattle.replies.specs.Words.{reply, load-reply};
 ghost use Rattle.replies.specs.Room.{Put};
-ghost use Rattle.reduced_chunk_graph.specs.Answers.{ofLoad, ofMove, ofSet, ofEdge};
-use reduced_chunk_graph::EdgeAnswer;
+ghost use Rattle.reduced_chunk_graph.specs.Answers.{ofLoad, ofMove, ofSet};
+ghost use Rattle.listing.specs.Answers.{ofListed};
+use listing::Listed;
 use reduced_chunk_graph::LoadAnswer;
 use reduced_chunk_graph::MoveAnswer;
 use reduced_chunk_graph::SetAnswer;
@@ -59,17 +60,17 @@ pub fn put_set_answer(out: &mut [u8], at: usize, r: SetAnswer) -> usize
     }
 }
 
-pub fn put_edge_answer(out: &mut [u8], at: usize, r: EdgeAnswer) -> usize
+// The line of an edge; nothing where there is none.
+pub fn put_listed(out: &mut [u8], at: usize, r: Listed) -> usize
     requires { ⌜ at + 64 ≤ length (now out) ⌝ }
-    ensures { λ p. ⌜ Put (reply (ofEdge r)) (now (out .entry)) at (now (out .exit)) p ⌝ }
+    ensures { λ p. ⌜ Put (reply (ofListed r)) (now (out .entry)) at (now (out .exit)) p ⌝ }
 {
     match r {
-        EdgeAnswer::Found(e) => {
+        Listed::Found(e) => {
             let from = e.from;
             let to = e.to;
             put_edge(out, at, from.0, to.0, e.multiplicity as u64)
         }
-        EdgeAnswer::None => at,
-        EdgeAnswer::Refused(row) => put_refused(out, at, row),
+        Listed::None => at,
     }
 }

@@ -3,15 +3,14 @@ ghost use mathlib.Core.Path.{_≡_};
 ghost use mathlib.Core.List.{[], _∷_};
 ghost use Prim.Native.Nat.{_+_, _≤_};
 ghost use lib.ListN.{length, take};
-ghost use Rattle.ledger.specs.Ledger.{atom-set, edge-count, edge-at};
-ghost use Rattle.reduced_chunk_graph.specs.Answers.{ofLoad, ofMove, ofSet, ofNumber, ofEdge};
+ghost use Rattle.ledger.specs.Ledger.{atom-set};
+ghost use Rattle.reduced_chunk_graph.specs.Answers.{ofLoad, ofMove, ofSet};
+ghost use Rattle.reduced_chunk_graph.specs.Listed.{NodeLists, RowTold};
 ghost use Rattle.moves_commands.specs.Program.{areas, lent};
 ghost use Rattle.moves_commands.specs.Steps.{CanLend};
 use load_commands::Machine;
-use reduced_chunk_graph::EdgeAnswer;
 use reduced_chunk_graph::LoadAnswer;
 use reduced_chunk_graph::MoveAnswer;
-use reduced_chunk_graph::NumberAnswer;
 use reduced_chunk_graph::SetAnswer;
 
 pub fn new(
@@ -98,37 +97,24 @@ pub fn atom_set(
     )
 }
 
-pub fn edge_count(
+// The first of the rows 1 to 6 and 9 that fits, 0 where none does; then the edges can be listed by `degrees` and `order`.
+pub fn listed_row(
     m: Machine,
     dependencies: &[u32],
     starts: &[u32],
     hosts: &[u32],
     area: &[u32],
-) -> NumberAnswer
+    degrees: &mut [u32],
+    order: &mut [u32],
+) -> u32
     requires { ⌜ CanLend m (now dependencies) (now starts) ⌝ }
-    ensures { λ r. ⌜ ofNumber r ≡ areas .asks (lent m (now (dependencies .entry)) (now (starts .entry)) (now (hosts .entry))) (now (area .entry)) edge-count ⌝ }
+    requires { ⌜ NodeLists (now degrees) (now order) ⌝ }
+    ensures { λ r. ⌜ RowTold (lent m (now (dependencies .entry)) (now (starts .entry)) (now (hosts .entry))) 96 (now (area .entry)) (now (degrees .exit)) (now (order .exit)) r ⌝ }
 {
     let a = m.atoms;
     let d = m.entries;
     let k = a + 1;
-    reduced_chunk_graph::edge_count(a, d, 16, 96, &starts[..k], &dependencies[..d], hosts, area)
-}
-
-pub fn edge_at(
-    m: Machine,
-    dependencies: &[u32],
-    starts: &[u32],
-    hosts: &[u32],
-    area: &[u32],
-    i: u64,
-) -> EdgeAnswer
-    requires { ⌜ CanLend m (now dependencies) (now starts) ⌝ }
-    ensures { λ r. ⌜ ofEdge r ≡ areas .asks (lent m (now (dependencies .entry)) (now (starts .entry)) (now (hosts .entry))) (now (area .entry)) (edge-at i) ⌝ }
-{
-    let a = m.atoms;
-    let d = m.entries;
-    let k = a + 1;
-    reduced_chunk_graph::edge_at(
+    reduced_chunk_graph::listed_row(
         a,
         d,
         16,
@@ -137,6 +123,7 @@ pub fn edge_at(
         &dependencies[..d],
         hosts,
         area,
-        i,
+        degrees,
+        order,
     )
 }

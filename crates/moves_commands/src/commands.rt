@@ -15,7 +15,7 @@ use crate::answers::put_load;
 use crate::answers::put_move;
 use crate::answers::put_set_answer;
 use crate::calls;
-use crate::listing::list_edges;
+use crate::edge_lines::list_edges;
 use load_commands::Machine;
 use load_commands::done;
 use load_commands::fill_starts;

@@ -3,7 +3,7 @@
 mod answers;
 mod calls;
 mod commands;
-mod listing;
+mod edge_lines;
 
 ghost use mathlib.Core.Path.{_≡_};
 ghost use Prim.Native.Nat.{_+_, _≤_};

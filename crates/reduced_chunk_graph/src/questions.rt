@@ -36,7 +36,7 @@ fn index(x: u32) -> usize
 }
 
 // How many sets are registered.
-fn registered(area: &[u32], n: usize) -> usize
+pub fn registered(area: &[u32], n: usize) -> usize
     requires { ⌜ n * n < length (now area) ⌝ }
     ensures { λ r. ⌜ r ≡ getD (now (area .entry)) (n * n) 0 ⌝ }
 {

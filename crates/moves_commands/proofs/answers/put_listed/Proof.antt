@@ -1,12 +1,11 @@
--- `moves_commands::answers::put_edge_answer` meets its contract. Assumes nothing.
-use Rattle.replies.specs.Room.{put-none, put-as}
-use Rattle.moves_commands.proofs.Sets.{edge-line}
+-- `moves_commands::answers::put_listed` meets its contract. Assumes nothing.
 use native.Mathlib.Omega.{arith}
 use Rattle.replies.specs.Words.{reply}
-use Rattle.replies.specs.Room.{put-none}
+use Rattle.replies.specs.Room.{put-none, put-as}
+use Rattle.moves_commands.proofs.Sets.{edge-line}
 use borrow.Author.Needs.{needs}
-use Rattle.moves_commands.proofs.answers.put_edge_answer.Statement.{statement}
-use Rattle.moves_commands.proofs.answers.put_edge_answer.Tie as tie
+use Rattle.moves_commands.proofs.answers.put_listed.Statement.{statement}
+use Rattle.moves_commands.proofs.answers.put_listed.Tie as tie
 
 enum-known-r : tie.Need-enum-known-r
 enum-known-r c = search needs
@@ -20,12 +19,6 @@ put-edge-requires c κs = search needs
 enum-told : tie.Need-enum-told
 enum-told c = search needs
 
-enum-known-r-2 : tie.Need-enum-known-r-2
-enum-known-r-2 c = search needs
-
-put-refused-requires : tie.Need-put-refused-requires
-put-refused-requires c κs = search needs
-
 same-length : tie.Need-same-length
 same-length c = search needs
 
@@ -37,24 +30,14 @@ returns-2 : tie.Need-returns-2
 unfolding reply
 returns-2 c = rw (c .enum-told .given .1) (put-none _ _ (omega (arith, c .before .before .before .pre)))
 
-same-length-2 : tie.Need-same-length-2
-same-length-2 c = search needs
-
-returns-3 : tie.Need-returns-3
-returns-3 c = rw (c .before .before .before .before .before .r2 .given .1) (c .before .before .put-refused .ensures)
-
-pub put-edge-answer-spec : {M : Type 1} → statement M
-put-edge-answer-spec =
+pub put-listed-spec : {M : Type 1} → statement M
+put-listed-spec =
     tie.close
     (tie.spec
     enum-known-r
     cast-put-edge
     put-edge-requires
     enum-told
-    enum-known-r-2
-    put-refused-requires
     same-length
     returns
-    returns-2
-    same-length-2
-    returns-3)
+    returns-2)
