@@ -11,7 +11,13 @@ fi
 NIDSKALM_ORIGINAL="$(realpath "$original")"
 export NIDSKALM_ORIGINAL
 if [ -d crates/exports ]; then
-    rt staticlib exports
+    # What the library stands on is proved first, as many crates at a time as there are processors.
+    log="$(mktemp)"
+    if ! { rt check reduced_chunk_graph chunk_optimizer && rt staticlib exports; } > "$log" 2>&1; then
+        cat "$log"
+        exit 1
+    fi
+    rm -f "$log"
 fi
 features=()
 if [ -f "${NIDSKALM_LIB_DIR:-target/staticlib}/libexports.a" ]; then
@@ -22,7 +28,7 @@ fi
 cargo build --manifest-path tests/oracle/Cargo.toml --offline -j1 --quiet --profile checked "${features[@]}"
 runner=tests/oracle/target/checked/oracle
 if [ "${#features[@]}" -gt 0 ] && [ "${1:-}" != --record ]; then
-    if command -v cc > /dev/null; then
+    if command -v cc > /dev/null && grep -q chunk_optimization_graph_pass "$NIDSKALM_LIB_DIR/libexports.a"; then
         cc -std=c99 -Wall -Wextra -Iinclude tests/oracle/header.c -L"$NIDSKALM_LIB_DIR" -lexports \
             -o tests/oracle/target/header
         tests/oracle/target/header
