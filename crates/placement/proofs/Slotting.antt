@@ -13,9 +13,10 @@ use borrow.Author.Tests.{eq-eqb, ne-eqb, lt-ltb, le-ltb}
 use Rattle.graphs.specs.Bools.{fails, and-right}
 use Rattle.graphs.specs.Count.{count-none, count-yes, count-no, count-le}
 use Rattle.graphs.specs.Tab.{tab, tab-length}
-use Rattle.layout.specs.Patch.{patch, patch-long, patch-over}
+use Rattle.layout.specs.Patch.{patch, part-long, patch-long, patch-over}
 use Rattle.ledger.specs.Graph.{none, at, owner}
 use Rattle.ledger.specs.LoadLaws.{starts-up, owner-is}
+use Rattle.load_view.specs.View.{CanPart, dependenciesOf}
 use Rattle.ledger.specs.Nodes.{faced, face-source, face-target}
 use Rattle.placement.specs.Written.{Written}
 use Rattle.placement.specs.Slots.{lent, spans, atoms, entry-source, entry-target, facade-source, facade-target, source-by, target-by, sources-by, targets-by}
@@ -62,9 +63,9 @@ module _ {counts : List ℕ} {n : ℕ} {nodes : List ℕ} {a : ℕ} (can : CanTa
       ∙ patch-over 0 (tab (atoms nodes a) n) (replicate n 0) counts (omega (arith, tab-length (atoms nodes a) n, length-replicate {A = ℕ} n 0))
 
 -- the sources of the entries of the first i atoms
-module _ {nodes starts : List ℕ} {a d : ℕ} {l₀ : List ℕ} (can : CanSources nodes starts a d l₀) where
-  pub sources-none : Written (entry-source (spans a d starts) nodes) 0 (at starts 0) l₀ l₀
-  sources-none = written-upto (written-none _ 0 l₀) (sym (can .order .first))
+module _ {nodes starts dependencies : List ℕ} {a d : ℕ} {l₀ : List ℕ} (can : CanSources nodes starts dependencies a d l₀) where
+  pub sources-none : (0 ≡ at starts 0) × Written (entry-source (spans a d starts) nodes) 0 0 l₀ l₀
+  sources-none = (sym (can .order .first), written-none _ 0 l₀)
 
   -- a start is at most d, and at most the next one
   pub start-le : (i : ℕ) → i ≤ a → at starts i ≤ d
@@ -73,21 +74,24 @@ module _ {nodes starts : List ℕ} {a d : ℕ} {l₀ : List ℕ} (can : CanSourc
   pub start-up : (i : ℕ) → i < a → at starts i ≤ at starts (i + 1)
   start-up i h = rw add-one (can .order .step i h)
 
-  module _ {i : ℕ} {l : List ℕ} (v : Written (entry-source (spans a d starts) nodes) 0 (at starts i) l₀ l) (h : i < a) where
-    pub sources-can : at starts i + (at starts (i + 1) - at starts i) ≤ length l
-    sources-can = omega (arith, start-up i h, start-le (i + 1) (omega arith), can .room, v .long)
+  -- the entries of atom i
+  pub entries-can : (i : ℕ) → i < a → CanPart starts dependencies i
+  entries-can i h = record { inside = omega (arith, can .starts-long); rising = start-up i h; within = omega (arith, start-le (i + 1) (omega arith), can .dependencies-long) }
 
-    pub sources-more : {l′ : List ℕ} → l′ ≡ patch (at starts i) (replicate (at starts (i + 1) - at starts i) (at nodes i)) l
-        → Written (entry-source (spans a d starts) nodes) 0 (at starts (i + 1)) l₀ l′
+  module _ {i from : ℕ} {list l : List ℕ} (f : from ≡ at starts i) (e : list ≡ dependenciesOf starts dependencies i) (v : Written (entry-source (spans a d starts) nodes) 0 from l₀ l) (h : i < a) where
+    pub entries-end : from + length list ≡ at starts (i + 1)
+    entries-end = omega (arith, ap length e, part-long (at starts i) (at starts (i + 1) - at starts i) dependencies, start-up i h)
+
+    pub sources-can : from + length list ≤ length l
+    sources-can = omega (arith, entries-end, start-le (i + 1) (omega arith), can .room, v .long)
+
+    pub sources-more : {l′ : List ℕ} → l′ ≡ patch from (replicate (length list) (at nodes i)) l → Written (entry-source (spans a d starts) nodes) 0 (from + length list) l₀ l′
     sources-more q =
-        let e : at starts i + (at starts (i + 1) - at starts i) ≡ at starts (i + 1) = omega (arith, start-up i h) in
-        written-upto
-        (written-run v (at starts (i + 1) - at starts i) (omega arith) sources-can q
-        (λ k y z. ap (at nodes) (owner-is (can .order) k i h y (rw (← add-one i) (omega arith)))))
-        e
+        written-run v (length list) (omega arith) sources-can q
+        (λ k y z. ap (at nodes) (owner-is (can .order) k i h (omega arith) (rw (← add-one i) (omega (arith, entries-end)))))
 
-  pub sources-done : {i : ℕ} {l : List ℕ} → Written (entry-source (spans a d starts) nodes) 0 (at starts i) l₀ l → i ≡ a → Written (entry-source (spans a d starts) nodes) 0 d l₀ l
-  sources-done {i} {l} v e = written-upto v (ap (at starts) e ∙ can .order .last)
+  pub sources-done : {i from : ℕ} {l : List ℕ} → from ≡ at starts i → Written (entry-source (spans a d starts) nodes) 0 from l₀ l → i ≡ a → Written (entry-source (spans a d starts) nodes) 0 d l₀ l
+  sources-done f v e = written-upto v (f ∙ ap (at starts) e ∙ can .order .last)
 
 -- a facade edge is there where neither its node nor its host is None
 pub faced-yes : (f h : ℕ) → (f ≡ none → ⊥) → (h ≡ none → ⊥) → faced f h ≡ true
@@ -101,22 +105,23 @@ faced-no-host f h p = fails _ (λ t. let z : _≡_ {A = Bool} true false = sym (
 
 -- the facade slots of the first k bits
 module _ {nodes facade hosts : List ℕ} {e d : ℕ} {s₀ t₀ : List ℕ} (can : CanFacades nodes facade hosts e d s₀ t₀) {k : ℕ} {s t : List ℕ}
-    (v : Written (facade-source hosts facade) d k s₀ s) (w : Written (facade-target hosts nodes facade) d k t₀ t) (h : k < e) where
-  pub facades-can : CanFacade nodes s t (d + k) (at hosts k)
-  facades-can = record { source = omega (arith, v .long, can .room); target = omega (arith, w .long, can .room-target); host = can .host k h }
+    (v : Written (facade-source hosts facade) d k s₀ s) (w : Written (facade-target hosts nodes facade) d k t₀ t) (h : k < e) {host : ℕ} (e′ : host ≡ at hosts k) where
+  pub facades-can : CanFacade nodes s t (d + k) host
+  facades-can = rw e′ (record { source = omega (arith, v .long, can .room); target = omega (arith, w .long, can .room-target); host = can .host k h })
 
-  pub facades-source : {s′ : List ℕ} → s′ ≡ set s (d + k) (face-source (at facade k) (at hosts k)) → Written (facade-source hosts facade) d (k + 1) s₀ s′
-  facades-source q = rw q (written-more v refl (facades-can .source) refl)
+  pub facades-source : {s′ : List ℕ} → s′ ≡ set s (d + k) (face-source (at facade k) host) → Written (facade-source hosts facade) d (k + 1) s₀ s′
+  facades-source q = rw (q, e′) (written-more v refl (facades-can .source) refl)
 
-  pub facades-target : {t′ : List ℕ} → t′ ≡ set t (d + k) (face-target nodes (at facade k) (at hosts k)) → Written (facade-target hosts nodes facade) d (k + 1) t₀ t′
-  facades-target q = rw q (written-more w refl (facades-can .target) refl)
+  pub facades-target : {t′ : List ℕ} → t′ ≡ set t (d + k) (face-target nodes (at facade k) host) → Written (facade-target hosts nodes facade) d (k + 1) t₀ t′
+  facades-target q = rw (q, e′) (written-more w refl (facades-can .target) refl)
 
 -- all slots
 module _ {a d e : ℕ} {starts dependencies hosts nodes facade s t : List ℕ} (can : CanSlots (lent a d e starts dependencies hosts) nodes facade s t) where
-  pub slots-sources : CanSources nodes starts a d s
+  pub slots-sources : CanSources nodes starts dependencies a d s
   slots-sources = record {
     order = record { first = can .order .starts .first; step = can .order .starts .step; last = can .order .starts .last };
     starts-long = can .starts-long;
+    dependencies-long = can .dependencies-long;
     long = can .nodes-long;
     room = omega (arith, can .room);
   }

@@ -13,9 +13,10 @@ pub record CanTally (counts : List ℕ) (n : ℕ) (nodes : List ℕ) (a : ℕ) :
   pub few : a < 4294967296
   pub within : (i : ℕ) → i < a → at nodes i < n
 
-pub record CanSources (nodes starts : List ℕ) (a d : ℕ) (sources : List ℕ) : Type 0 where
+pub record CanSources (nodes starts dependencies : List ℕ) (a d : ℕ) (sources : List ℕ) : Type 0 where
   pub order : Starts (spans a d starts)
   pub starts-long : a < length starts
+  pub dependencies-long : d ≤ length dependencies
   pub long : a ≤ length nodes
   pub room : d ≤ length sources
 

@@ -36,18 +36,26 @@ pub fn tally(counts: &mut [u32], n: usize, nodes: &[u32], a: usize)
     }
 }
 
-// The node of each entry's atom: entries starts[i] to starts[i + 1] are those of atom i.
-fn entry_sources(nodes: &[u32], starts: &[u32], a: usize, d: usize, sources: &mut [u32])
-    requires { ⌜ CanSources (now nodes) (now starts) a d (now sources) ⌝ }
+// The node of each entry's atom: the dependencies of atom i come behind those of the atoms before it.
+fn entry_sources(
+    nodes: &[u32],
+    starts: &[u32],
+    dependencies: &[u32],
+    hosts: &[u32],
+    a: usize,
+    d: usize,
+    sources: &mut [u32],
+)
+    requires { ⌜ CanSources (now nodes) (now starts) (now dependencies) a d (now sources) ⌝ }
     ensures { λ _. ⌜ Written (entry-source (spans a d (now (starts .entry))) (now (nodes .entry))) 0 d (now (sources .entry)) (now (sources .exit)) ⌝ }
 {
+    let mut from = 0;
     let mut i = 0;
     while i < a {
-        let next = i + 1;
-        let from = starts[i] as usize;
-        let to = starts[next] as usize;
-        layout::fill_with(sources, from, to - from, nodes[i]);
-        i = next;
+        let entries = load_view::atom_dependencies(starts, dependencies, hosts, i).len();
+        layout::fill_with(sources, from, entries, nodes[i]);
+        from += entries;
+        i += 1;
     }
 }
 
@@ -93,6 +101,8 @@ fn facade_slot(nodes: &[u32], sources: &mut [u32], targets: &mut [u32], k: usize
 fn facade_slots(
     nodes: &[u32],
     facade: &[u32],
+    starts: &[u32],
+    dependencies: &[u32],
     hosts: &[u32],
     e: usize,
     d: usize,
@@ -106,7 +116,8 @@ fn facade_slots(
     let mut b = 0;
     while b < e {
         let k = d + b;
-        facade_slot(nodes, sources, targets, k, facade[b], hosts[b]);
+        let host = load_view::bit_host(starts, dependencies, hosts, b);
+        facade_slot(nodes, sources, targets, k, facade[b], host);
         b += 1;
     }
 }
@@ -128,7 +139,17 @@ pub fn write_slots(
     ensures { λ _. ⌜ now (sources .exit) ≡ patch 0 (sources-by (lent a d e (now (starts .entry)) (now (dependencies .entry)) (now (hosts .entry))) (now (nodes .entry)) (now (facade .entry))) (now (sources .entry)) ⌝ }
     ensures { λ _. ⌜ now (targets .exit) ≡ patch 0 (targets-by (lent a d e (now (starts .entry)) (now (dependencies .entry)) (now (hosts .entry))) (now (nodes .entry)) (now (facade .entry))) (now (targets .entry)) ⌝ }
 {
-    entry_sources(nodes, starts, a, d, sources);
+    entry_sources(nodes, starts, dependencies, hosts, a, d, sources);
     entry_targets(nodes, dependencies, d, targets);
-    facade_slots(nodes, facade, hosts, e, d, sources, targets);
+    facade_slots(
+        nodes,
+        facade,
+        starts,
+        dependencies,
+        hosts,
+        e,
+        d,
+        sources,
+        targets,
+    );
 }

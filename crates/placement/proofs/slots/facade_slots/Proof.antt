@@ -7,68 +7,50 @@ use Rattle.placement.proofs.Writing.{written-none, written-upto}
 use Rattle.placement.proofs.Slotting.{facades-can, facades-source, facades-target}
 use Rattle.placement.proofs.slots.facade_slots.Statement.{statement}
 use Rattle.placement.proofs.slots.facade_slots.Tie as tie
-use Rattle.placement.proofs.slots.facade_slots.Reads as reads
-use Rattle.placement.proofs.slots.facade_slots.Lts as lts
-use Rattle.placement.proofs.slots.facade_slot.Reads as facade-slot-reads
 
 abbrev Inv-loop : tie.InvT-loop
-Inv-loop nodes facade hosts e d sources₀ targets₀ b₀ sources targets b = (b ≤ e) × Written (facade-source hosts facade) d b sources₀ sources × Written (facade-target hosts nodes facade) d b targets₀ targets
+Inv-loop nodes facade starts dependencies hosts e d sources₀ targets₀ b₀ sources targets b = (b ≤ e) × Written (facade-source hosts facade) d b sources₀ sources × Written (facade-target hosts nodes facade) d b targets₀ targets
 
 abbrev μ-loop : tie.MeasureT-loop
-μ-loop nodes facade hosts e d sources₀ targets₀ b₀ sources targets b = e - b
+μ-loop nodes facade starts dependencies hosts e d sources₀ targets₀ b₀ sources targets b = e - b
 
--- src/slots.rt:114:5
 loop-holds : tie.Need-loop-holds Inv-loop μ-loop
 loop-holds c = (omega arith, written-none _ _ _, written-none _ _ _)
 
--- src/slots.rt:115:17
 add-k : tie.Need-add-k Inv-loop μ-loop
 add-k c = omega arith
 
--- src/slots.rt:116:49
+bit-host-requires : tie.Need-bit-host-requires Inv-loop μ-loop
+bit-host-requires c κs = omega arith
+
 mul-facade-slot : tie.Need-mul-facade-slot Inv-loop μ-loop
 mul-facade-slot c = omega arith
 
--- src/slots.rt:116:49
 shared-slice-read-facade-slot : tie.Need-shared-slice-read-facade-slot Inv-loop μ-loop
 shared-slice-read-facade-slot c = omega arith
 
--- src/slots.rt:116:60
-mul-facade-slot-2 : tie.Need-mul-facade-slot-2 Inv-loop μ-loop
-mul-facade-slot-2 c = omega arith
-
--- src/slots.rt:116:60
-shared-slice-read-facade-slot-2 : tie.Need-shared-slice-read-facade-slot-2 Inv-loop μ-loop
-shared-slice-read-facade-slot-2 c = omega arith
-
--- src/slots.rt:116:9
 facade-slot-requires : tie.Need-facade-slot-requires Inv-loop μ-loop
-facade-slot-requires c κs = let v = c .before .before .before .before .before .loop .inv in facades-can (c .before .before .before .before .before .before .before .before .before .before .before .pre) (v .1) (v .2) (omega arith)
+facade-slot-requires c κs = let v = c .before .before .before .before .before .loop .inv in facades-can (c .before .before .before .before .before .before .before .before .before .before .before .before .before .pre) (v .1) (v .2) (omega arith) (c .before .before .before .bit-host .ensures)
 
--- src/slots.rt:117:9
 add-b : tie.Need-add-b Inv-loop μ-loop
 add-b c = omega arith
 
--- src/slots.rt:114:5
 loop-less : tie.Need-loop-less Inv-loop μ-loop
 loop-less c = omega arith
 
--- src/slots.rt:114:5
 loop-again : tie.Need-loop-again Inv-loop μ-loop
 loop-again c =
     let v = c .before .before .before .before .before .before .before .before .before .before .loop .inv in
     let h = c .before .before .before .before .before .before .before .before .before .loop-test .taken in
-    (omega arith, facades-source (c .before .before .before .before .before .before .before .before .before .before .before .before .before .before .before .before .pre) (v .1) (v .2) h (c .before .before .before .before .facade-slot .ensures .0), facades-target (c .before .before .before .before .before .before .before .before .before .before .before .before .before .before .before .before .pre) (v .1) (v .2) h (c .before .before .before .before .facade-slot .ensures .1))
+    let e = c .before .before .before .before .before .before .before .before .bit-host .ensures in
+    (omega arith, facades-source (c .before .before .before .before .before .before .before .before .before .before .before .before .before .before .before .before .before .before .pre) (v .1) (v .2) h e (c .before .before .before .before .facade-slot .ensures .0), facades-target (c .before .before .before .before .before .before .before .before .before .before .before .before .before .before .before .before .before .before .pre) (v .1) (v .2) h e (c .before .before .before .before .facade-slot .ensures .1))
 
--- src/slots.rt:100:1
 same-length : tie.Need-same-length Inv-loop μ-loop
 same-length c = c .before .loop .inv .1 .long
 
--- src/slots.rt:100:1
 same-length-2 : tie.Need-same-length-2 Inv-loop μ-loop
 same-length-2 c = c .before .loop .inv .2 .long
 
--- src/slots.rt:100:1
 returns : tie.Need-returns Inv-loop μ-loop
 returns c = (written-upto (c .before .loop .inv .1) (omega arith), written-upto (c .before .loop .inv .2) (omega arith))
 
@@ -80,10 +62,9 @@ facade-slots-spec =
     μ-loop
     loop-holds
     add-k
+    bit-host-requires
     mul-facade-slot
     shared-slice-read-facade-slot
-    mul-facade-slot-2
-    shared-slice-read-facade-slot-2
     facade-slot-requires
     add-b
     loop-less

@@ -1,0 +1,2 @@
+-- What the readers of a load answer. Assumes nothing.
+pub mod View
