@@ -6,8 +6,7 @@ use Prim.Native.Nat.{ℕ, _+_, _*_, _^_, _≤_, _<_}
 use lib.ListN.{length, getD}
 use Rattle.graphs.specs.Bools.{Decides}
 use Rattle.entry_set.specs.Lanes.{lanes}
-use Rattle.ledger.specs.Graph.{Load}
-use Rattle.placement.specs.Slots.{lent}
+use Rattle.ledger.specs.Graph.{Load, lent}
 use Rattle.set_order.specs.Order.{laneSet, Ordered}
 use Rattle.move_area.specs.Bodies.{atomAt}
 use Rattle.move_area.specs.Checked.{Ranged}

@@ -1,5 +1,5 @@
 // The edge slots of a placement, with the sets that an area names.
-ghost use Rattle.placement.specs.Slots.{lent};
+ghost use Rattle.ledger.specs.Graph.{lent};
 ghost use Rattle.move_area.specs.Area.{setsIn};
 ghost use Rattle.move_area.specs.Checked.{nodesIn};
 ghost use Rattle.consistency.specs.Filled.{CanFill, Filled, CanFillOwn};

@@ -1,5 +1,5 @@
 // Row 9 of the table of refusals, decided exactly.
-ghost use Rattle.placement.specs.Slots.{lent};
+ghost use Rattle.ledger.specs.Graph.{lent};
 ghost use Rattle.consistency.specs.Ready.{CanCheck, Told};
 
 // Whether the area is consistent: the numbers in range first, then all that is worked out from them. If so, the lists have the atom counts,

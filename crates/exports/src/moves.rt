@@ -1,6 +1,6 @@
 // The calls of the move graph.
 ghost use mathlib.Core.Path.{_≡_};
-ghost use Rattle.placement.specs.Slots.{lent};
+ghost use Rattle.ledger.specs.Graph.{lent};
 ghost use Rattle.ledger.specs.Ledger as ledger;
 ghost use Rattle.move_area.specs.Calls as calls;
 ghost use Rattle.exports.specs.Replies.{move-reply, set-reply, edge-reply};

@@ -17,6 +17,10 @@ pub record Load : Type 0 where
   pub dependencies : List ℕ
   pub hosts : List ℕ
 
+-- the load that a call is lent, by its numbers and lists
+abbrev pub lent : ℕ → ℕ → ℕ → List ℕ → List ℕ → List ℕ → Load
+lent a d e starts dependencies hosts = record { A = a; D = d; E = e; starts = starts; dependencies = dependencies; hosts = hosts }
+
 -- "None" is 4,294,967,295
 abbrev pub none : ℕ
 none = 4294967295

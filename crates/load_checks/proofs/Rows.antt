@@ -8,10 +8,10 @@ use lib.Dec.{ltb, eqb}
 use lib.ListN.{length}
 use borrow.Author.Tests.{ltb-false, eqb-true, not-false}
 use Rattle.graphs.specs.Bools.{or-false-left, or-false-right, and-left, and-right}
-use Rattle.ledger.specs.Graph.{owner}
+use Rattle.ledger.specs.Graph.{owner, lent}
 use Rattle.ledger.specs.Loading.{row1, row2, row3, row4, row5, row6, first-row}
 use Rattle.load_checks.specs.Legal.{good-starts}
-use Rattle.load_checks.specs.Checks.{lent, falling, bad-starts, bad-hosts, list-row, Limits, Lengths, CanOwn, spans}
+use Rattle.load_checks.specs.Checks.{falling, bad-starts, bad-hosts, list-row, Limits, Lengths, CanOwn, spans}
 
 pub limits : (a d e n : ℕ) → row1 (lent a d e [] [] []) n ≡ false → Limits a d e n
 limits a d e n h =

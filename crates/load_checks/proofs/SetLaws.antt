@@ -9,10 +9,9 @@ use lib.Dec.{leb, ltb, eqb}
 use lib.ListN.{length}
 use borrow.Author.Tests.{ltb-true, ltb-false, le-leb, lt-leb, eq-eqb, ne-eqb, eqb-true}
 use Rattle.entry_set.specs.Sets.{width}
-use Rattle.ledger.specs.Graph.{Load}
+use Rattle.ledger.specs.Graph.{Load, lent}
 use Rattle.ledger.specs.Loading.{row1, row7, row8, first-row, loading-row}
 use Rattle.ledger.specs.LoadLaws.{first-row-none}
-use Rattle.load_checks.specs.Checks.{lent}
 use Rattle.load_checks.specs.EntrySets.{too-high, met, alike-sets, set-row, CanSet, CanSets}
 use Rattle.load_checks.proofs.Rows.{limits}
 

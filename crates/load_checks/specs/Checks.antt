@@ -6,13 +6,9 @@ use mathlib.Core.List.{List, []}
 use lib.Dec.{leb, ltb, eqb}
 use lib.ListN.{length}
 use Rattle.graphs.specs.Lists.{some-below}
-use Rattle.ledger.specs.Graph.{Load, none, at}
+use Rattle.ledger.specs.Graph.{Load, none, at, lent}
 use Rattle.ledger.specs.Loading.{row4, row5, row6}
 use Rattle.ledger.specs.LoadLaws.{Starts}
-
--- the load of a call's arguments
-abbrev pub lent : ℕ → ℕ → ℕ → List ℕ → List ℕ → List ℕ → Load
-lent a d e starts dependencies hosts = record { A = a; D = d; E = e; starts = starts; dependencies = dependencies; hosts = hosts }
 
 -- some number of the list is at or above the bound
 unfoldable pub at-or-above : List ℕ → ℕ → Bool

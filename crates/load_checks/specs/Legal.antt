@@ -8,10 +8,10 @@ use lib.Dec.{leb}
 use lib.ListN.{length}
 use borrow.Author.Tests.{leb-false}
 use Rattle.graphs.specs.Lists.{some-none}
-use Rattle.ledger.specs.Graph.{at}
+use Rattle.ledger.specs.Graph.{at, lent}
 use Rattle.ledger.specs.Loading.{row4}
 use Rattle.ledger.specs.LoadLaws.{Starts, row4-starts}
-use Rattle.load_checks.specs.Checks.{lent, spans, at-or-above, falling, bad-starts}
+use Rattle.load_checks.specs.Checks.{spans, at-or-above, falling, bad-starts}
 
 -- row 4 is the general test of starts
 pub row4-is : (a d e : ℕ) (starts dependencies hosts : List ℕ) → bad-starts starts a d ≡ row4 (lent a d e starts dependencies hosts)

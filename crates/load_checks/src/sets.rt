@@ -5,7 +5,7 @@ ghost use Prim.Native.Nat.{ℕ, _+_, _*_, _^_, _≤_, _<_};
 ghost use lib.ListN.{length};
 ghost use lib.Dec.{leb, eqb};
 ghost use Rattle.entry_set.specs.Sets.{width};
-ghost use Rattle.load_checks.specs.Checks.{lent};
+ghost use Rattle.ledger.specs.Graph.{lent};
 ghost use Rattle.load_checks.specs.EntrySets.{nth-set, too-high, set-row, CanSet, CanSets};
 use crate::alike::any_alike;
 use entry_set::in_range;

@@ -8,8 +8,7 @@ use Rattle.layout.specs.Patch.{part}
 use Rattle.layout.specs.Fields.{Field, field}
 use Rattle.entry_set.specs.Joined.{parts}
 use Rattle.entry_set.specs.Sets.{value, width}
-use Rattle.ledger.specs.Graph.{Load, at}
-use Rattle.placement.specs.Slots.{lent}
+use Rattle.ledger.specs.Graph.{Load, at, lent}
 use Rattle.move_area.specs.Bodies.{laneAt, atomAt, Bodies}
 
 -- word j of set i, of sets of w numbers each

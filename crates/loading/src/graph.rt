@@ -1,5 +1,5 @@
 // The atom counts and the edges of an area whose sets and nodes stand.
-ghost use Rattle.placement.specs.Slots.{lent};
+ghost use Rattle.ledger.specs.Graph.{lent};
 ghost use Rattle.consistency.specs.Filled.{CanFillOwn};
 ghost use Rattle.loading.specs.Steps.{GraphWritten};
 

@@ -1,9 +1,8 @@
 // Writes the area of a move graph that is loaded.
 ghost use mathlib.Core.Path.{_≡_};
 ghost use Rattle.graphs.specs.Walk.{cyclic};
-ghost use Rattle.ledger.specs.Graph.{edge};
+ghost use Rattle.ledger.specs.Graph.{edge, lent};
 ghost use Rattle.ledger.specs.Loading.{entry-sets};
-ghost use Rattle.placement.specs.Slots.{lent};
 ghost use Rattle.move_area.specs.Area.{encode};
 ghost use Rattle.move_area.specs.Calls.{first};
 ghost use Rattle.loading.specs.Steps.{CanLoad};

@@ -3,10 +3,9 @@ ghost use mathlib.Core.Path.{_≡_};
 ghost use Prim.Native.Nat.{_≤_};
 ghost use lib.ListN.{length};
 ghost use Rattle.graphs.specs.Walk.{cyclic};
-ghost use Rattle.ledger.specs.Graph.{edge};
+ghost use Rattle.ledger.specs.Graph.{edge, lent};
 ghost use Rattle.ledger.specs.Loading.{entry-sets};
 ghost use Rattle.ledger.specs.LoadLaws.{Loadable-sets};
-ghost use Rattle.placement.specs.Slots.{lent};
 ghost use Rattle.move_area.specs.Area.{encode};
 ghost use Rattle.move_area.specs.Calls.{first};
 

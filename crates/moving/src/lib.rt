@@ -1,5 +1,5 @@
 // A move on a consistent area, after the checks up to row 12: steps 1 to 3 and row 13.
-ghost use Rattle.placement.specs.Slots.{lent};
+ghost use Rattle.ledger.specs.Graph.{lent};
 ghost use Rattle.entry_set.specs.Sets.{number};
 ghost use Rattle.moving.specs.Settle.{CanSettle, Settled};
 ghost use Rattle.moving.specs.Tried.{answerOf, CanTry, Answers};

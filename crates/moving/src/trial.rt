@@ -2,7 +2,7 @@
 ghost use mathlib.Core.Path.{_≡_};
 ghost use lib.ListN.{set};
 ghost use Rattle.layout.specs.Patch.{part};
-ghost use Rattle.placement.specs.Slots.{lent};
+ghost use Rattle.ledger.specs.Graph.{lent};
 ghost use Rattle.move_area.specs.Area.{setsIn};
 ghost use Rattle.move_area.specs.Checked.{nodesIn};
 ghost use Rattle.consistency.specs.Filled.{Filled};

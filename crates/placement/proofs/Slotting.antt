@@ -14,12 +14,12 @@ use Rattle.graphs.specs.Bools.{fails, and-right}
 use Rattle.graphs.specs.Count.{count-none, count-yes, count-no, count-le}
 use Rattle.graphs.specs.Tab.{tab, tab-length}
 use Rattle.layout.specs.Patch.{patch, part-long, patch-long, patch-over}
-use Rattle.ledger.specs.Graph.{none, at, owner}
+use Rattle.ledger.specs.Graph.{none, at, owner, lent}
 use Rattle.ledger.specs.LoadLaws.{starts-up, owner-is}
 use Rattle.load_view.specs.View.{CanPart, dependenciesOf}
 use Rattle.ledger.specs.Nodes.{faced, face-source, face-target}
 use Rattle.placement.specs.Written.{Written}
-use Rattle.placement.specs.Slots.{lent, spans, atoms, entry-source, entry-target, facade-source, facade-target, source-by, target-by, sources-by, targets-by}
+use Rattle.placement.specs.Slots.{spans, atoms, entry-source, entry-target, facade-source, facade-target, source-by, target-by, sources-by, targets-by}
 use Rattle.placement.specs.Steps.{CanTally, CanSources, CanTargets, CanFacade, CanFacades, CanSlots}
 use Rattle.placement.proofs.Writing.{written-none, written-more, written-run, written-anew, written-upto, written-patch, written-fill, written-both}
 

@@ -6,12 +6,8 @@ use Prim.Native.Nat.{ℕ, _+_, _-_}
 use lib.Dec.{ltb, eqb}
 use Rattle.graphs.specs.Count.{count}
 use Rattle.graphs.specs.Tab.{tab}
-use Rattle.ledger.specs.Graph.{Load, at, owner}
+use Rattle.ledger.specs.Graph.{Load, at, owner, lent}
 use Rattle.ledger.specs.Nodes.{face-source, face-target}
-
--- the load of a call's arguments
-abbrev pub lent : ℕ → ℕ → ℕ → List ℕ → List ℕ → List ℕ → Load
-lent a d e starts dependencies hosts = record { A = a; D = d; E = e; starts = starts; dependencies = dependencies; hosts = hosts }
 
 -- a load of starts alone: an entry's owner asks no more
 abbrev pub spans : ℕ → ℕ → List ℕ → Load

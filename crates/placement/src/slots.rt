@@ -9,7 +9,8 @@ ghost use Rattle.graphs.specs.Tab.{tab};
 ghost use Rattle.layout.specs.Patch.{patch};
 ghost use Rattle.ledger.specs.Nodes.{face-source, face-target};
 ghost use Rattle.placement.specs.Written.{Written};
-ghost use Rattle.placement.specs.Slots.{lent, spans, atoms, entry-source, entry-target, facade-source, facade-target, sources-by, targets-by};
+ghost use Rattle.ledger.specs.Graph.{lent};
+ghost use Rattle.placement.specs.Slots.{spans, atoms, entry-source, entry-target, facade-source, facade-target, sources-by, targets-by};
 ghost use Rattle.placement.specs.Steps.{CanTally, CanSources, CanTargets, CanFacade, CanFacades, CanSlots};
 
 pub const NONE: u32 = 4294967295;

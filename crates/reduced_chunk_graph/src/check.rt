@@ -2,7 +2,7 @@
 ghost use mathlib.Core.Path.{_≡_};
 ghost use Prim.Native.Nat.{_≤_};
 ghost use lib.ListN.{length};
-ghost use Rattle.placement.specs.Slots.{lent};
+ghost use Rattle.ledger.specs.Graph.{lent};
 ghost use Rattle.ledger.specs.Loading.{refusal};
 ghost use Rattle.move_area.specs.Area.{consistent};
 ghost use Rattle.reduced_chunk_graph.specs.Later.{later, CanSlot, Sane};

@@ -1,6 +1,6 @@
 // Loading a move graph.
 ghost use mathlib.Core.Path.{_≡_};
-ghost use Rattle.placement.specs.Slots.{lent};
+ghost use Rattle.ledger.specs.Graph.{lent};
 ghost use Rattle.move_area.specs.Calls as calls;
 ghost use Rattle.reduced_chunk_graph.specs.Answers.{ofLoad};
 use super::LoadAnswer;

@@ -4,7 +4,7 @@ ghost use mathlib.Core.Path.{_≡_};
 ghost use Prim.Native.Nat.{_≤_};
 ghost use lib.ListN.{length};
 ghost use Rattle.ledger.specs.Loading.{refusal};
-ghost use Rattle.placement.specs.Slots.{lent};
+ghost use Rattle.ledger.specs.Graph.{lent};
 ghost use Rattle.move_area.specs.Calls as calls;
 ghost use Rattle.reduced_chunk_graph.specs.Answers.{ofMove};
 ghost use Rattle.reduced_chunk_graph.specs.Moves.{CanGoOn, GoesOn, FromNine};

@@ -11,7 +11,7 @@ ghost use mathlib.Core.Path.{_≡_};
 ghost use Prim.Native.Nat.{_*_, _<_};
 ghost use lib.ListN.{length, getD};
 ghost use Rattle.entry_set.specs.Sets.{Holds};
-ghost use Rattle.placement.specs.Slots.{lent};
+ghost use Rattle.ledger.specs.Graph.{lent};
 ghost use Rattle.ledger.specs.Ledger as ledger;
 ghost use Rattle.listing.specs.Answers.{ofListed};
 ghost use Rattle.move_area.specs.Calls.{asked};

@@ -3,7 +3,7 @@ use mathlib.Core.Bool.{true, false}
 use mathlib.Core.Path.{sym, _∙_}
 use lib.ListN.{length}
 use Rattle.ledger.specs.LoadLaws.{loading-row-none}
-use Rattle.placement.specs.Slots.{lent}
+use Rattle.ledger.specs.Graph.{lent}
 use Rattle.loading.specs.New.{new-refused, new-answer, new-area}
 use borrow.Author.Needs.{needs}
 use Rattle.reduced_chunk_graph.proofs.load.new.Statement.{statement}
