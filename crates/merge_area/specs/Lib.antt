@@ -5,3 +5,4 @@ pub mod Consistent
 pub mod Calls
 pub mod Within
 pub mod PairLaws
+pub mod Twice

@@ -1,20 +1,20 @@
 // The merge area: its limits and length, its header, and whether it is consistent (rows 14, 15 and 21).
 use entry_set::EntrySet;
+use equal_sets::row_is_distinct;
 use merge_state::Sizes;
 ghost use mathlib.Core.Path.{_≡_};
-ghost use mathlib.Core.Bool.{false, _||_};
-ghost use Prim.Native.Nat.{ℕ, _+_, _-_, _*_, _^_, _<_, _≤_};
-ghost use lib.ListN.{length, getD};
-ghost use lib.Dec.{ltb};
+ghost use mathlib.Core.Bool.{false};
+ghost use Prim.Native.Nat.{ℕ, _+_, _-_, _*_, _<_, _≤_};
+ghost use lib.ListN.{length};
 ghost use Rattle.graphs.specs.Count.{ind};
 ghost use Rattle.graphs.specs.Lists.{some-below};
 ghost use Rattle.entry_set.specs.Sets.{number, Holds};
 ghost use Rattle.entry_set.specs.Lanes.{lanes};
 ghost use Rattle.merge_state.specs.State.{chunk-of, misfit};
-ghost use Rattle.merge_state.specs.Loading.{came-before, twice};
+ghost use Rattle.merge_state.specs.Loading.{twice};
 ghost use Rattle.merge_area.specs.Layout.{room, cell, head, set-place};
 ghost use Rattle.merge_area.specs.Read.{named-set, pairs};
-ghost use Rattle.merge_area.specs.Consistent.{over, short, Faults, row-fault, flags-fault, head-fault, index-faults, out-of-range, sets-fault, inconsistent};
+ghost use Rattle.merge_area.specs.Consistent.{over, short, Faults, row-fault, flags-fault, head-fault, index-faults, out-of-range, inconsistent};
 ghost use Rattle.merge_area.specs.Calls.{standing};
 ghost use Rattle.merge_area.specs.Within.{Within, Headed, Tabled};
 
@@ -171,20 +171,28 @@ fn sets_out_of_range(sizes: Sizes, area: &[u32], n: usize) -> bool
     false
 }
 
-// Set j is one of the sets before it.
-fn set_came_before(sizes: Sizes, area: &[u32], j: usize) -> bool
-    requires { ⌜ Tabled sizes (now area) (j + 1) ⌝ }
-    ensures { λ r. ⌜ r ≡ came-before (λ (i : ℕ). lanes (now (area .entry)) (set-place sizes i) 1) j ⌝ }
+// Two of the first n sets are equal, where these are few; then the local arrays are short.
+fn few_repeat(sizes: Sizes, area: &[u32], n: usize) -> bool
+    requires { ⌜ Tabled sizes (now area) n × (n ≤ 128) ⌝ }
+    ensures { λ r. ⌜ r ≡ twice (λ (i : ℕ). lanes (now (area .entry)) (set-place sizes i) 1) n ⌝ }
 {
-    let set = set_of(sizes, area, j);
-    let mut i = 0;
-    while i < j {
-        if entry_set::equal(set_of(sizes, area, i), set) {
-            return true;
-        }
-        i += 1;
-    }
-    false
+    let mut lanes = [0u32; 1024];
+    let mut order = [0u32; 128];
+    let mut scratch = [0u32; 128];
+    let at = sizes.chunks * sizes.chunks + 32;
+    !row_is_distinct(area, at, n, 128, &mut lanes, &mut order, &mut scratch)
+}
+
+// The same of up to 2,048 sets.
+fn many_repeat(sizes: Sizes, area: &[u32], n: usize) -> bool
+    requires { ⌜ Tabled sizes (now area) n ⌝ }
+    ensures { λ r. ⌜ r ≡ twice (λ (i : ℕ). lanes (now (area .entry)) (set-place sizes i) 1) n ⌝ }
+{
+    let mut lanes = [0u32; 16384];
+    let mut order = [0u32; 2048];
+    let mut scratch = [0u32; 2048];
+    let at = sizes.chunks * sizes.chunks + 32;
+    !row_is_distinct(area, at, n, 2048, &mut lanes, &mut order, &mut scratch)
 }
 
 // Two of the first n sets are equal.
@@ -192,14 +200,10 @@ fn sets_repeat(sizes: Sizes, area: &[u32], n: usize) -> bool
     requires { ⌜ Tabled sizes (now area) n ⌝ }
     ensures { λ r. ⌜ r ≡ twice (λ (i : ℕ). lanes (now (area .entry)) (set-place sizes i) 1) n ⌝ }
 {
-    let mut j = 0;
-    while j < n {
-        if set_came_before(sizes, area, j) {
-            return true;
-        }
-        j += 1;
+    if n <= 128 {
+        return few_repeat(sizes, area, n);
     }
-    false
+    many_repeat(sizes, area, n)
 }
 
 // Row 21.

@@ -7,16 +7,13 @@ use mathlib.Core.List.{List}
 use lib.ListN.{length, take, drop, length-take, length-drop}
 use lib.Dec.{ltb}
 use borrow.Author.Tests.{eq-eqb}
-use Rattle.graphs.specs.Bools.{Decides}
 use Rattle.graphs.specs.Lists.{some-below}
-use Rattle.set_order.specs.Order.{Distinct}
 use Rattle.entry_set.specs.declared.EntrySet.{EntrySet}
 use Rattle.entry_set.specs.Sets.{value, width, legal, number, Holds}
 use Rattle.entry_set.specs.SetLaws.{sets-room}
-use Rattle.equal_sets.specs.Laid.{repeats}
 use Rattle.merge_state.specs.declared.Sizes.{Sizes}
 use Rattle.merge_state.specs.Table.{stray}
-use Rattle.merge_state.specs.Loading.{set-at, came-before, twice}
+use Rattle.merge_state.specs.Loading.{set-at}
 
 -- the list has p sets of e bits, w numbers each
 pub record CanTest (sets : List ℕ) (w p e : ℕ) : Type 0 where
@@ -37,11 +34,6 @@ module _ {sets : List ℕ} {w p e : ℕ} (can : CanTest sets w p e) where
     where
       count : length (set-at w sets i) ≡ width e
       count = omega (arith, length-take w (drop (i * w) sets), length-drop (i * w) sets, test-room i h, can .wide)
-
--- the sets aren't distinct where one is named twice
-pub twice-is : (key : ℕ → ℕ) (p : ℕ) {d : Bool} → Decides (Distinct key p) d → not d ≡ twice key p
-unfolding twice came-before
-twice-is key p {d} r = repeats key p d r
 
 -- the lent sets have the length called for
 pub test-full : {sets : List ℕ} {w p e : ℕ} → e ≤ 256 → length sets ≡ p * width e → w ≡ width e → CanTest sets w p e

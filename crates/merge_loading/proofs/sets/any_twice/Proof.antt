@@ -1,5 +1,5 @@
 -- `merge_loading::sets::any_twice` meets its contract. Assumes nothing.
-use Rattle.merge_loading.specs.Sets.{twice-is}
+use Rattle.merge_area.specs.Twice.{twice-is}
 use borrow.Author.Needs.{needs}
 use Rattle.merge_loading.proofs.sets.any_twice.Statement.{statement}
 use Rattle.merge_loading.proofs.sets.any_twice.Tie as tie
