@@ -2,4 +2,3 @@
 pub mod Spans
 pub mod Rows
 pub mod SetLaws
-pub mod Laying

@@ -8,7 +8,10 @@ use mathlib.Core.List.{List, []}
 use lib.Dec.{leb, ltb, eqb}
 use lib.ListN.{length}
 use borrow.Author.Tests.{ltb-true, ltb-false, le-leb, lt-leb, eq-eqb, ne-eqb, eqb-true}
+use Rattle.graphs.specs.Bools.{Decides}
 use Rattle.entry_set.specs.Sets.{width}
+use Rattle.set_order.specs.Order.{Distinct}
+use Rattle.equal_sets.specs.Laid.{nth-set, repeats}
 use Rattle.ledger.specs.Graph.{Load, lent}
 use Rattle.ledger.specs.Loading.{row1, row7, row8, first-row, loading-row}
 use Rattle.ledger.specs.LoadLaws.{first-row-none}
@@ -25,6 +28,11 @@ not-ltb x y = go (ltb x y) refl
 pub can-set : {sets : List ℕ} {w a : ℕ} → CanSets sets w a → (i : ℕ) → i < a → CanSet sets w i
 can-set {sets} {w} {a} can i l =
     record { narrow = can .narrow; within = omega (arith, can .full, mul-le-mul-right {m = suc i} {n = a} w l, suc-mul i w) }
+
+-- row 8 by distinct sets
+pub alike-is : (sets : List ℕ) (w a : ℕ) {d : Bool} → Decides (Distinct (nth-set sets w) a) d → not d ≡ alike-sets sets w a
+unfolding alike-sets met
+alike-is sets w a {d} r = repeats (nth-set sets w) a d r
 
 -- the rows 7 and 8 by what the code looks for
 module _ (a e w : ℕ) (sets : List ℕ) (wide : w ≡ width e) where

@@ -4,15 +4,11 @@ use mathlib.Core.Path.{_≡_}
 use mathlib.Core.Bool.{Bool, cond}
 use mathlib.Core.List.{List}
 use lib.Dec.{leb, eqb}
-use lib.ListN.{length, take, drop}
+use lib.ListN.{length}
 use Rattle.graphs.specs.Lists.{some-below}
-use Rattle.entry_set.specs.Sets.{value}
+use Rattle.equal_sets.specs.Laid.{nth-set}
 use Rattle.ledger.specs.Graph.{Load}
 use Rattle.ledger.specs.Loading.{row7, row8}
-
--- set i of a list of sets of w numbers each
-abbrev pub nth-set : List ℕ → ℕ → ℕ → ℕ
-nth-set sets w i = value (take w (drop (i * w) sets))
 
 -- some set has a bit at or above e
 unfoldable pub too-high : List ℕ → ℕ → ℕ → ℕ → Bool

@@ -3,4 +3,3 @@ pub mod Some
 pub mod Checks
 pub mod Legal
 pub mod EntrySets
-pub mod Alike

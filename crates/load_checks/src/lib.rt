@@ -2,9 +2,8 @@
 ghost use mathlib.Core.Path.{_≡_};
 ghost use mathlib.Core.List.{[]};
 ghost use mathlib.Core.Bool.{false};
-ghost use Prim.Native.Nat.{ℕ, _+_, _*_, _≤_, _<_};
-ghost use lib.ListN.{length, getD};
-ghost use lib.Dec.{leb, ltb, eqb};
+ghost use Prim.Native.Nat.{_+_, _*_, _≤_, _<_};
+ghost use lib.ListN.{length};
 ghost use Rattle.ledger.specs.Graph.{lent};
 ghost use Rattle.load_checks.specs.Checks.{at-or-above, falling, bad-starts, not-other, bad-span, spans, span, CanSpan, CanOwn, no-host, bad-hosts, list-row, Limits, Lengths};
 ghost use Rattle.ledger.specs.Loading.{row1, row2, row3, row5, first-row, loading-row};

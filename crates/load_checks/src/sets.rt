@@ -1,12 +1,13 @@
 // Rows 7 and 8 of the table: entry sets in range, no two of them equal.
 ghost use mathlib.Core.Path.{_≡_};
 ghost use mathlib.Core.List.{[]};
-ghost use Prim.Native.Nat.{ℕ, _+_, _*_, _^_, _≤_, _<_};
+ghost use Prim.Native.Nat.{_+_, _*_, _^_, _≤_, _<_};
 ghost use lib.ListN.{length};
 ghost use lib.Dec.{leb, eqb};
 ghost use Rattle.entry_set.specs.Sets.{width};
 ghost use Rattle.ledger.specs.Graph.{lent};
-ghost use Rattle.load_checks.specs.EntrySets.{nth-set, too-high, set-row, CanSet, CanSets};
+ghost use Rattle.load_checks.specs.EntrySets.{too-high, set-row, CanSet, CanSets};
+ghost use Rattle.equal_sets.specs.Laid.{nth-set};
 use crate::alike::any_alike;
 use entry_set::in_range;
 use entry_set::set_at;

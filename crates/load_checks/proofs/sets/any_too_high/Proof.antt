@@ -4,7 +4,8 @@ use native.Mathlib.Omega.{arith}
 use mathlib.Core.Path.{sym, _∙_}
 use lib.Dec.{leb}
 use Rattle.load_checks.specs.Some.{None, none-first, none-more, none-done, some-hit}
-use Rattle.load_checks.specs.EntrySets.{nth-set, too-high}
+use Rattle.equal_sets.specs.Laid.{nth-set}
+use Rattle.load_checks.specs.EntrySets.{too-high}
 use Rattle.load_checks.proofs.SetLaws.{can-set}
 use Rattle.load_checks.proofs.sets.any_too_high.Statement.{statement}
 use Rattle.load_checks.proofs.sets.any_too_high.Tie as tie

@@ -4,7 +4,7 @@ use Prim.Native.Nat.{_^_}
 use mathlib.Core.Path.{ap, _∙_}
 use mathlib.Core.Bool.{not}
 use lib.Dec.{ltb}
-use Rattle.load_checks.specs.EntrySets.{nth-set}
+use Rattle.equal_sets.specs.Laid.{nth-set}
 use Rattle.load_checks.proofs.SetLaws.{not-ltb}
 use borrow.Author.Needs.{needs}
 use Rattle.load_checks.proofs.sets.reaches.Statement.{statement}
