@@ -38,7 +38,6 @@ fn read(path: &Path) -> String {
 }
 
 fn main() {
-    println!("cargo:rustc-check-cfg=cfg(without_new, without_pass)");
     println!("cargo:rerun-if-env-changed=NIDSKALM_ORIGINAL");
     println!("cargo:rerun-if-env-changed=NIDSKALM_LIB_DIR");
     let repository = Path::new(&env::var("CARGO_MANIFEST_DIR").unwrap()).join("../..");
@@ -74,12 +73,5 @@ fn main() {
         assert!(archive.exists(), "{} is missing: build it with `rt staticlib exports`", archive.display());
         println!("cargo:rustc-link-search=native={}", fs::canonicalize(&library).unwrap().display());
         println!("cargo:rustc-link-lib=static=exports");
-        let text = fs::read(&archive).unwrap();
-        for (symbol, without) in [("chunk_optimization_graph_new", "without_new"), ("chunk_optimization_graph_pass", "without_pass")] {
-            if !text.windows(symbol.len()).any(|part| part == symbol.as_bytes()) {
-                println!("cargo:warning={symbol} is not in the library: the model stands in for it");
-                println!("cargo:rustc-cfg={without}");
-            }
-        }
     }
 }

@@ -28,7 +28,7 @@ fi
 cargo build --manifest-path tests/oracle/Cargo.toml --offline -j1 --quiet --profile checked "${features[@]}"
 runner=tests/oracle/target/checked/oracle
 if [ "${#features[@]}" -gt 0 ] && [ "${1:-}" != --record ]; then
-    if command -v cc > /dev/null && grep -q chunk_optimization_graph_pass "$NIDSKALM_LIB_DIR/libexports.a"; then
+    if command -v cc > /dev/null; then
         cc -std=c99 -Wall -Wextra -Iinclude tests/oracle/header.c -L"$NIDSKALM_LIB_DIR" -lexports \
             -o tests/oracle/target/header
         tests/oracle/target/header

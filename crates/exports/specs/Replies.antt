@@ -10,6 +10,8 @@ use Rattle.ledger.specs.Answer as moved
 use Rattle.merge_state.specs.declared.Sizes.{Sizes}
 use Rattle.merge_state.specs.State.{None}
 use Rattle.merge_state.specs.Table as merged
+use Rattle.chunk_optimizer.specs.declared.PassAnswer.{PassAnswer}
+use Rattle.chunk_optimizer.specs.declared.PassAnswer.the-variants as passed
 use Rattle.exports.specs.declared.Reply.{Reply}
 use Rattle.exports.specs.declared.SetReply.{SetReply}
 use Rattle.exports.specs.declared.EdgeReply.{EdgeReply}
@@ -81,6 +83,11 @@ merge-reply (merged.says b) = answering (cond b 1 0)
 merge-reply (merged.chunk x) = answering x
 merge-reply merged.nothing = answering None
 merge-reply (merged.lists kinds numbers) = answering (length kinds)
+
+-- the pass's own answer, without its lists
+abbrev pub pass-reply : PassAnswer → Reply
+pass-reply (passed.Assigned n) = answering n
+pass-reply (passed.Refused q) = refusing q
 
 -- SIZE: C, M, L and E
 abbrev pub sized : ℕ → ℕ → ℕ → ℕ → Sizes

@@ -1,10 +1,12 @@
 // The calls of the merge graph.
 ghost use mathlib.Core.Path.{_≡_};
-ghost use Rattle.merge_state.specs.Table.{init-module-assignment, add-module-to-chunk, register-chunk-graph-index, to-temp-idx, calc-chunk-dependencies, would-create-circular-dependency, is-reachable, merge-chunk-dependencies};
-ghost use Rattle.merge_area.specs.Calls.{step};
+ghost use Rattle.merge_state.specs.Table.{init-module-assignment, add-module-to-chunk, register-chunk-graph-index, to-temp-idx, calc-chunk-dependencies, would-create-circular-dependency, is-reachable, merge-chunk-dependencies, pass};
+ghost use Rattle.merge_area.specs.Calls.{step, lists-after};
+ghost use Rattle.merge_loading.specs.Loading.{lent, load-step};
 ghost use Rattle.exports.specs.Replies.{sized, merge-reply};
 use super::Reply;
 use super::replies::of_done;
+use super::replies::of_pass;
 use super::replies::of_said;
 use super::replies::of_temp;
 use merge_state::ChunkIdx;
@@ -21,6 +23,36 @@ fn sizes(c: u64, m: u64, l: u64, e: u64) -> Sizes
         entries: l as usize,
         bits: e as usize,
     }
+}
+
+// Loads each initial chunk's modules, and pairs of a set and its chunk.
+#[no_mangle]
+pub extern "C" fn chunk_optimization_graph_new(
+    c: u64,
+    m: u64,
+    l: u64,
+    e: u64,
+    initial: u64,
+    starts: &[u32],
+    modules: &[u32],
+    sets: &[u64],
+    chunks: &[u32],
+    effects: &[u32],
+    area: &mut [u32],
+) -> Reply
+    ensures { λ r. ⌜ r ≡ merge-reply (load-step (sized c m l e) (lent initial (now (starts .entry)) (now (modules .entry)) (now (sets .entry)) (now (chunks .entry)) (now (effects .entry))) (now (area .entry)) .0) ⌝ }
+    ensures { λ _. ⌜ now (area .exit) ≡ load-step (sized c m l e) (lent initial (now (starts .entry)) (now (modules .entry)) (now (sets .entry)) (now (chunks .entry)) (now (effects .entry))) (now (area .entry)) .1 ⌝ }
+{
+    of_done(chunk_optimizer::new(
+        sizes(c, m, l, e),
+        initial as usize,
+        starts,
+        modules,
+        sets,
+        chunks,
+        effects,
+        area,
+    ))
 }
 
 // Lists a module with the chunk of its set, or with a new chunk that needs creation.
@@ -182,4 +214,24 @@ pub extern "C" fn chunk_optimization_graph_merge_chunk_dependencies(
         ChunkIdx(target),
         ChunkIdx(source),
     ))
+}
+
+// Decides about each chunk that needs creation, and writes its kind (0 merged, 1 created) and its number; the value is how many there are.
+#[no_mangle]
+pub extern "C" fn chunk_optimization_graph_pass(
+    c: u64,
+    m: u64,
+    l: u64,
+    e: u64,
+    area: &mut [u32],
+    proposals: &[u32],
+    bars: &[u32],
+    kinds: &mut [u32],
+    numbers: &mut [u32],
+) -> Reply
+    ensures { λ r. ⌜ r ≡ merge-reply (step (sized c m l e) (now (area .entry)) (pass (now (proposals .entry)) (now (bars .entry)) (now (kinds .entry)) (now (numbers .entry))) .0) ⌝ }
+    ensures { λ _. ⌜ now (area .exit) ≡ step (sized c m l e) (now (area .entry)) (pass (now (proposals .entry)) (now (bars .entry)) (now (kinds .entry)) (now (numbers .entry))) .1 ⌝ }
+    ensures { λ _. ⌜ (now (kinds .exit), now (numbers .exit)) ≡ lists-after (step (sized c m l e) (now (area .entry)) (pass (now (proposals .entry)) (now (bars .entry)) (now (kinds .entry)) (now (numbers .entry))) .0) (now (kinds .entry), now (numbers .entry)) ⌝ }
+{
+    of_pass(chunk_optimizer::pass(sizes(c, m, l, e), area, proposals, bars, kinds, numbers))
 }

@@ -5,12 +5,13 @@ ghost use Rattle.chunk_optimizer.specs.Answers.{done-told, temp-told, said-told
 ghost use mathlib.Core.List.{[], _∷_};
 ghost use Rattle.entry_set.specs.Sets.{value};
 ghost use Rattle.chunk_optimizer.specs.declared.TempIdx.the-variants as temps;
-ghost use Rattle.exports.specs.Replies.{refusing, answering, no-edge, an-edge, move-reply, set-reply, edge-reply, merge-reply};
+ghost use Rattle.exports.specs.Replies.{refusing, answering, no-edge, an-edge, move-reply, set-reply, edge-reply, merge-reply, pass-reply};
 use super::EdgeReply;
 use super::Reply;
 use super::SetReply;
 use chunk_optimizer::Done;
 use chunk_optimizer::OptionChunkIdx;
+use chunk_optimizer::PassAnswer;
 use chunk_optimizer::Said;
 use chunk_optimizer::TempIdx;
 use reduced_chunk_graph::EdgeAnswer;
@@ -195,5 +196,14 @@ pub fn of_said(answer: Said) -> Reply
     match answer {
         Said::Is(yes) => answered(yes as u64),
         Said::Refused(q) => refused(q),
+    }
+}
+
+pub fn of_pass(answer: PassAnswer) -> Reply
+    ensures { λ r. ⌜ r ≡ pass-reply answer ⌝ }
+{
+    match answer {
+        PassAnswer::Assigned(n) => answered(n as u64),
+        PassAnswer::Refused(q) => refused(q),
     }
 }

@@ -91,8 +91,6 @@ mod ours {
     use crate::merges_model::Size;
     use crate::moves_model::Load;
     use crate::raw;
-    #[cfg(any(without_new, without_pass))]
-    use crate::stand_in_library::StandIn;
 
     /// Calls with the load's ten numbers and pointers first.
     macro_rules! with_load {
@@ -149,12 +147,6 @@ mod ours {
             with_load!(reduced_chunk_graph_edge_at, load, area.as_ptr(), area.len(), k)
         }
 
-        #[cfg(without_new)]
-        fn merge_new(&self, size: Size, load: &MergeLoad, area: &mut [u32]) -> Reply {
-            StandIn { plant: "none" }.merge_new(size, load, area)
-        }
-
-        #[cfg(not(without_new))]
         fn merge_new(&self, size: Size, load: &MergeLoad, area: &mut [u32]) -> Reply {
             with_size!(
                 chunk_optimization_graph_new,
@@ -235,20 +227,6 @@ mod ours {
             with_size!(chunk_optimization_graph_merge_chunk_dependencies, size, lent, length, target, source)
         }
 
-        #[cfg(without_pass)]
-        fn pass(
-            &self,
-            size: Size,
-            area: &mut [u32],
-            proposals: &[u32],
-            bars: &[u32],
-            kinds: &mut [u32],
-            numbers: &mut [u32],
-        ) -> Reply {
-            StandIn { plant: "none" }.pass(size, area, proposals, bars, kinds, numbers)
-        }
-
-        #[cfg(not(without_pass))]
         fn pass(
             &self,
             size: Size,
