@@ -33,7 +33,7 @@ use Rattle.moving.specs.Stands.{Stands, stands-long, registered-at, coun
 use Rattle.moving.specs.Areas.{counterIn, raised, committed}
 use Rattle.moving.specs.Changes.{with-marks, with-node, with-raised, stands-marks, stands-raised, raised-fresh, stands-committed}
 use Rattle.moving.specs.Outcome.{Trial, with-test, walk-marks, test-walk}
-use Rattle.moving.specs.Test.{CanTest, walk-area, closes, tested, marked-long}
+use Rattle.moving.specs.Test.{CanTest, Room, walk-area, closes, tested, marked-long}
 use Rattle.moving.specs.Commit.{CanCommit}
 use Rattle.moving.specs.Trial.{CanTrial}
 
@@ -110,6 +110,13 @@ pub record CanSettle (load : Load) (n : ℕ) (area : List ℕ) (atom to : ℕ) (
   pub sources-long : load .D + load .E ≤ length sources
   pub targets-long : load .D + load .E ≤ length targets
 
+-- room for a trial: counts, slots, and the lists of its test
+pub record SettleRoom (load : Load) (n : ℕ) (counts s t starts list colour cursor stack low order : List ℕ) : Type 0 where
+  pub counts-long : n ≤ length counts
+  pub sources-long : load .D + load .E ≤ length s
+  pub targets-long : load .D + load .E ≤ length t
+  pub room : Room n (load .D + load .E) starts list colour cursor stack low order
+
 -- the graph with the atom in its new node, and the present one
 abbrev pub movedEdge : Load → ℕ → List ℕ → ℕ → ℕ → ℕ → ℕ → Bool
 movedEdge load n area atom to = nodeEdge load (set (nodesIn load n area) atom to) (setsIn n area)
@@ -149,7 +156,7 @@ module _ {load : Load} {n : ℕ} {area : List ℕ} {atom to : ℕ} {sources targ
   room : atomAt n ≤ length area
   room = omega (arith, can .stands .room)
 
-  pub settle-trial : {counts s t : List ℕ} → length counts ≡ 1024 → length s ≡ 8448 → length t ≡ 8448 → CanTrial load n area atom to counts s t
+  pub settle-trial : {counts s t : List ℕ} → n ≤ length counts → load .D + load .E ≤ length s → load .D + load .E ≤ length t → CanTrial load n area atom to counts s t
   settle-trial a b c =
       let r = registered-at (can .stands) in
       record {
@@ -158,9 +165,9 @@ module _ {load : Load} {n : ℕ} {area : List ℕ} {atom to : ℕ} {sources targ
         nodes = λ i h. omega (arith, can .stands .placing .inside i h);
         there = can .there;
         node = omega (arith, can .node);
-        counts-long = omega (arith, can .stands .small);
-        sources-long = omega (arith, can .loadable .sizes .entries, can .loadable .sizes .bits);
-        targets-long = omega (arith, can .loadable .sizes .entries, can .loadable .sizes .bits);
+        counts-long = a;
+        sources-long = b;
+        targets-long = c;
       }
 
   -- with the new slots
@@ -171,15 +178,15 @@ module _ {load : Load} {n : ℕ} {area : List ℕ} {atom to : ℕ} {sources targ
     ends : Ends s t n (load .D + load .E)
     ends = slotted-ends (f .slots) (ends-nodes (can .stands .order) moved n (can .stands .few) some)
 
-    pub settle-test : length s ≡ 8448 → length t ≡ 8448 → CanTest area n to s t (load .D + load .E)
+    pub settle-test : load .D + load .E ≤ length s → load .D + load .E ≤ length t → CanTest area n to s t (load .D + load .E)
     settle-test b c =
         record {
           ask =
               record {
                 rows = can .stands .small;
                 slots = omega (arith, can .loadable .sizes .entries, can .loadable .sizes .bits);
-                sources = omega (arith, can .loadable .sizes .entries, can .loadable .sizes .bits);
-                targets = omega (arith, can .loadable .sizes .entries, can .loadable .sizes .bits);
+                sources = b;
+                targets = c;
                 ends = ends;
               };
           node = within;
@@ -197,7 +204,7 @@ module _ {load : Load} {n : ℕ} {area : List ℕ} {atom to : ℕ} {sources targ
       pub settle-rejected : r ≡ true → Settled load n area atom to false l
       settle-rejected h = record { says = sym answer ∙ h; stands = after }
 
-      pub settle-commit : r ≡ false → n ≤ length counts → length s ≡ 8448 → length t ≡ 8448 → CanCommit l n atom to sources targets s t (load .D + load .E) counts
+      pub settle-commit : r ≡ false → n ≤ length counts → load .D + load .E ≤ length s → load .D + load .E ≤ length t → CanCommit l n atom to sources targets s t (load .D + load .E) counts
       settle-commit h k b c =
           record {
             follow =
@@ -206,8 +213,8 @@ module _ {load : Load} {n : ℕ} {area : List ℕ} {atom to : ℕ} {sources targ
                       record {
                         sources = can .sources-long;
                         targets = can .targets-long;
-                        new-sources = omega (arith, can .loadable .sizes .entries, can .loadable .sizes .bits);
-                        new-targets = omega (arith, can .loadable .sizes .entries, can .loadable .sizes .bits);
+                        new-sources = b;
+                        new-targets = c;
                         ends = slotted-ends (can .slots) (ends-nodes (can .stands .order) (can .stands .placing) n (can .stands .few) some);
                         new-ends = ends;
                         few = omega (arith, can .loadable .sizes .entries, can .loadable .sizes .bits);

@@ -37,9 +37,9 @@ pub record Fresh (area : List ℕ) (n counter : ℕ) : Type 0 where
   pub room : atomAt n ≤ length area
   pub below : (x : ℕ) → x < n → getD area (laneAt n 9 + x) 0 < counter
 
-pub record CanMark (area : List ℕ) (n counter y : ℕ) (starts list : List ℕ) : Type 0 where
-  pub rows : n ≤ 1024
+pub record CanMark (area : List ℕ) (n counter y : ℕ) (starts list stack : List ℕ) : Type 0 where
   pub node : y < n
+  pub places : n ≤ length stack
   pub graph : Graph starts list n
   pub fresh : Fresh area n counter
 
@@ -47,6 +47,21 @@ pub record CanReachItself (area : List ℕ) (n counter y : ℕ) (s t : List ℕ)
   pub ask : CanAsk s t m n
   pub node : y < n
   pub fresh : Fresh area n counter
+
+-- room for the neighbour lists of m slots, and for a walk over them
+pub record WalkRoom (n m : ℕ) (starts list stack : List ℕ) : Type 0 where
+  pub rows : n < length starts
+  pub room : m ≤ length list
+  pub short : length list ≤ 8448
+  pub places : n ≤ length stack
+
+-- and for a full search
+pub record Room (n m : ℕ) (starts list colour cursor stack low order : List ℕ) : Type 0 where
+  pub walk : WalkRoom n m starts list stack
+  pub colours : n ≤ length colour
+  pub cursors : n ≤ length cursor
+  pub lows : n ≤ length low
+  pub orders : n ≤ length order
 
 -- no mark is above the counter
 pub record CanTest (area : List ℕ) (n y : ℕ) (s t : List ℕ) (m : ℕ) : Type 0 where
@@ -72,11 +87,12 @@ unfoldable pub tested : (ℕ → ℕ → Bool) → ℕ → ℕ → List ℕ → 
 tested e n y l = cond (was-cyclic n l) l (walk-area e n (next (counterIn n l)) y (raised n l))
 
 -- the slots grouped by source are the graph's neighbour lists
-pub group-can : {s t : List ℕ} {m n : ℕ} {l out : List ℕ} → CanAsk s t m n → length l ≡ 1025 → length out ≡ 8448 → CanGroup s t m n l out
-group-can can a b = record { slots = can .slots; keys = can .sources; values = can .targets; rows = omega (arith, can .rows); within = can .ends .source; room = omega (arith, can .slots) }
+module _ {s t : List ℕ} {m n : ℕ} {l out stack : List ℕ} (can : CanAsk s t m n) (w : WalkRoom n m l out stack) where
+  pub group-can : CanGroup s t m n l out
+  group-can = record { slots = can .slots; keys = can .sources; values = can .targets; rows = w .rows; within = can .ends .source; room = w .room }
 
-pub ask-graph : {s t : List ℕ} {m n : ℕ} {l l′ out out′ : List ℕ} → CanAsk s t m n → length l ≡ 1025 → length out ≡ 8448 → Grouped s t m n l l′ out out′ → Graph l′ out′ n
-ask-graph can a b g = group-graph g (can .ends) (omega (arith, can .rows)) (omega (arith, can .slots)) (omega arith)
+  pub ask-graph : {l′ out′ : List ℕ} → Grouped s t m n l l′ out out′ → Graph l′ out′ n
+  ask-graph g = group-graph g (can .ends) (w .rows) (w .room) (omega (arith, w .short))
 
 pub marked-long : (e : ℕ → ℕ → Bool) (n counter y : ℕ) (l : List ℕ) → length (marked e n counter y l) ≡ length l
 unfolding marking
@@ -121,19 +137,19 @@ raised-below {area} {n} can = record { room = rw (raised-long n area) (can .room
     go false x h = rw (getD-set-other area (n * n + 1) (laneAt n 9 + x) (counterIn n area + 1) 0 (omega arith)) (omega (arith, can .low x h))
 
 -- the marks lane is lent to the walk, and comes back
-module _ {area : List ℕ} {n counter y : ℕ} {starts list : List ℕ} (can : CanMark area n counter y starts list) where
+module _ {area : List ℕ} {n counter y : ℕ} {starts list stack : List ℕ} (can : CanMark area n counter y starts list stack) where
   abbrev at : ℕ
   at = laneAt n 9
 
   lent : midOf at (at + n - at) area ≡ part at n area
   lent = marks-lent n area (can .fresh .room)
 
-  pub mark-can : {stack : List ℕ} → n ≤ length stack → CanReach starts list n counter y (midOf at (at + n - at) area) stack
-  mark-can room =
+  pub mark-can : CanReach starts list n counter y (midOf at (at + n - at) area) stack
+  mark-can =
       record {
         graph = can .graph;
         cells = omega (arith, ap length lent, part-long at n area);
-        room = room;
+        room = can .places;
         start = can .node;
         fresh = λ x h. rw (lent, part-at at n area x h) (can .fresh .below x h);
       }

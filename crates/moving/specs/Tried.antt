@@ -117,137 +117,139 @@ module _ {load : Load} {n : ℕ} {area : List ℕ} {atom T : ℕ} {s t : List �
   pub try-outside : (x : ℕ) → x ≡ getD area (atomAt n + atom) 0 → {r : Bool} → r ≡ eqb (getD area (n * n + 2) 0) 0 && eqb (getD area (laneAt n 10 + x) 0) 0 → r ≡ step1 load (placed (nodesIn load n area) (setsIn n area)) atom
   try-outside x e q = q ∙ outside-step1 try-stands atom x (can .there) e
 
-  module _ {r : Bool} (s1 : r ≡ step1 load (placed (nodesIn load n area) (setsIn n area)) atom) where
-    pub try-rejected : r ≡ true → Answers load n area atom T (answerOf Rejected) area
-    unfolding decode
-    try-rejected q = record {
-      of = λ w e legal.
-          let z = early-rejected load n (decode load n area) atom w (can .there) legal (same w e) (sym s1 ∙ q) in
-          (sym (z .0), sym (consistent-whole load n area (can .sane)) ∙ ap (λ u. encode load n u area) (sym (z .1)));
-    }
+  pub try-rejected : {r : Bool} → r ≡ step1 load (placed (nodesIn load n area) (setsIn n area)) atom → r ≡ true → Answers load n area atom T (answerOf Rejected) area
+  unfolding decode
+  try-rejected s1 q = record {
+    of = λ w e legal.
+        let z = early-rejected load n (decode load n area) atom w (can .there) legal (same w e) (sym s1 ∙ q) in
+        (sym (z .0), sym (consistent-whole load n area (can .sane)) ∙ ap (λ u. encode load n u area) (sym (z .1)));
+  }
 
-    module _ (left : r ≡ false) (m y : ℕ) (many : m ≡ getD area (n * n) 0) where
-      registered-many : m ≡ length (setsIn n area)
-      registered-many = many ∙ registered-at try-stands
+  -- the target's node
+  module _ (m : ℕ) (many : m ≡ getD area (n * n) 0) where
+    registered-many : m ≡ length (setsIn n area)
+    registered-many = many ∙ registered-at try-stands
 
-      pub try-find : CanFind area (n * n + 24) n m
-      try-find =
-          record {
-            lanes = record { room = omega (arith, try-room) };
-            few = omega (arith, registered-many, try-stands .few);
-            numbers = omega (arith, try-stands .small);
-          }
-
-      module _ (f : First (laneSet area (n * n + 24) n) m T y) {q : Bool} (room : q ≡ eqb y m && eqb m n) where
-        first : First (laneSet area (n * n + 24) n) (length (setsIn n area)) T y
-        first = subst (λ k. First (laneSet area (n * n + 24) n) k T y) registered-many f
-
-        row13 : q ≡ full n (setsIn n area) T
-        row13 = room ∙ ap (λ k. eqb y k && eqb k n) registered-many ∙ room-full try-stands T y first
-
-        -- row 13
-        pub try-full : q ≡ true → Answers load n area atom T (answerOf Full) area
-        unfolding decode
-        try-full h = record {
-          of = λ w e legal.
-              let z = early-full load n (decode load n area) atom w (can .there) legal (same w e) (sym s1 ∙ left) (rw e (sym row13 ∙ h)) in
-              (sym (z .0), sym (consistent-whole load n area (can .sane)) ∙ ap (λ u. encode load n u area) (sym (z .1)));
+    pub try-find : CanFind area (n * n + 24) n m
+    try-find =
+        record {
+          lanes = record { room = omega (arith, try-room) };
+          few = omega (arith, registered-many, try-stands .few);
+          numbers = omega (arith, try-stands .small);
         }
 
-        module _ (free : q ≡ false) where
-          pub try-register : y ≡ m → CanRegister n m area
-          try-register e =
+    module _ {y : ℕ} (f : First (laneSet area (n * n + 24) n) m T y) {r q : Bool} (s1 : r ≡ step1 load (placed (nodesIn load n area) (setsIn n area)) atom) (room : q ≡ eqb y m && eqb m n) (left : r ≡ false) where
+      first : First (laneSet area (n * n + 24) n) (length (setsIn n area)) T y
+      first = subst (λ k. First (laneSet area (n * n + 24) n) k T y) registered-many f
+
+      row13 : q ≡ full n (setsIn n area) T
+      row13 = room ∙ ap (λ k. eqb y k && eqb k n) registered-many ∙ room-full try-stands T y first
+
+      -- row 13
+      pub try-full : q ≡ true → Answers load n area atom T (answerOf Full) area
+      unfolding decode
+      try-full h = record {
+        of = λ w e legal.
+            let z = early-full load n (decode load n area) atom w (can .there) legal (same w e) (sym s1 ∙ left) (rw e (sym row13 ∙ h)) in
+            (sym (z .0), sym (consistent-whole load n area (can .sane)) ∙ ap (λ u. encode load n u area) (sym (z .1)));
+      }
+
+      module _ (free : q ≡ false) where
+        module _ {l₁ : List ℕ} (e₁ : l₁ ≡ cond (eqb y m) (registered n m T area) area) where
+          target : Stands load n (with-target st T) area l₁
+          target =
+              subst (Stands load n (with-target st T) area)
+              (sym (e₁ ∙ ap (λ k. cond (eqb y k) (registered n k T area) area) registered-many ∙ ap (λ b. cond b (registered n (length (setsIn n area)) T area) area) (target-new try-stands T y first) ∙ turned (has T (setsIn n area))))
+              (stands-target try-stands T (sym row13 ∙ free) (higher T (load .E) 256 (can .range) (can .loadable .sizes .bits)))
+            where
+              turned : (b : Bool) → cond (not b) (registered n (length (setsIn n area)) T area) area ≡ cond b area (registered n (length (setsIn n area)) T area)
+              turned true = refl
+              turned false = refl
+
+          node : (y < length (register T (setsIn n area))) × (at (register T (setsIn n area)) y ≡ T)
+          node = target-node try-stands T y first
+
+          trial : Trial load n st atom T y
+          trial =
               record {
-                free = go (eqb m n) refl;
+                order = try-stands .order;
+                placing = try-stands .placing;
                 small = try-stands .small;
-                room = omega (arith, try-room);
+                wide = target .few;
+                long = try-stands .long;
+                atom = can .there;
+                node = node .0;
+                set = node .1;
+              }
+
+          named : nodesState load n l₁ ≡ with-target st T
+          named = stands-named target
+
+          pub try-settle : CanSettle load n l₁ atom y s t
+          try-settle =
+              record {
+                loadable = rw (stands-long target) (can .loadable);
+                stands = stands-own target;
+                there = can .there;
+                node = subst (λ z. y < length (z .sets)) (sym named) (node .0);
+                slots = subst (λ z. Slotted load (z .nodes) (z .sets) s t) (sym named) slots;
+                sources-long = can .sources-long;
+                targets-long = can .targets-long;
               }
             where
-              go : (b : Bool) → eqb m n ≡ b → m < n
-              go true h = absurd (true≢false (sym (room ∙ rw (eq-eqb y m e, h) refl) ∙ free))
-              go false h = let ne : m ≡ n → ⊥ = eqb-false m n h in omega (arith, registered-many, try-stands .few)
+              slots : Slotted load (nodesIn load n area) (register T (setsIn n area)) s t
+              slots =
+                  record {
+                    source-at = λ k h. can .slots .source-at k h ∙ ap (λ (u : List ℕ). getD u k 0) (sym (sources-register (try-stands .placing) T));
+                    target-at = λ k h. can .slots .target-at k h ∙ ap (λ (u : List ℕ). getD u k 0) (sym (targets-register (try-stands .placing) T));
+                  }
 
-          module _ {l₁ : List ℕ} (e₁ : l₁ ≡ cond (eqb y m) (registered n m T area) area) where
-            target : Stands load n (with-target st T) area l₁
-            target =
-                subst (Stands load n (with-target st T) area)
-                (sym (e₁ ∙ ap (λ k. cond (eqb y k) (registered n k T area) area) registered-many ∙ ap (λ b. cond b (registered n (length (setsIn n area)) T area) area) (target-new try-stands T y first) ∙ turned (has T (setsIn n area))))
-                (stands-target try-stands T (sym row13 ∙ free) (higher T (load .E) 256 (can .range) (can .loadable .sizes .bits)))
+          -- the graph before is the same with the target registered
+          present : cyclic (nodeEdge load (nodesIn load n area) (register T (setsIn n area))) (below n) ≡ cyclic (nodeEdge load (nodesIn load n area) (setsIn n area)) (below n)
+          present = rw (sources-register (try-stands .placing) T, targets-register (try-stands .placing) T) refl
+
+          abbrev tested : Nodes → Nodes
+          tested z = with-test load n z atom y (cyclic (nodeEdge load (z .nodes) (z .sets)) (below n))
+
+          module _ {l₂ : List ℕ} where
+            pub try-accepted : Settled load n l₁ atom y true l₂ → Answers load n area atom T (answerOf Accepted) l₂
+            unfolding decode
+            try-accepted z = record {
+              of = λ w e legal.
+                  let x = trial-accepted trial w e legal (can .other) (sym s1 ∙ left) (sym row13 ∙ free) says in
+                  (sym (x .0), stands-encode held ∙ ap (λ u. encode load n u area) (rw present (sym (x .1))));
+            }
               where
-                turned : (b : Bool) → cond (not b) (registered n (length (setsIn n area)) T area) area ≡ cond b area (registered n (length (setsIn n area)) T area)
-                turned true = refl
-                turned false = refl
+                says : cyclic (nodeEdge load (set (nodesIn load n area) atom y) (register T (setsIn n area))) (below n) ≡ false
+                says = subst (λ z. cyclic (nodeEdge load (set (z .nodes) atom y) (z .sets)) (below n) ≡ false) named (z .says)
 
-            node : (y < length (register T (setsIn n area))) × (at (register T (setsIn n area)) y ≡ T)
-            node = target-node try-stands T y first
+                held : Stands load n (with-node (tested (with-target st T)) atom y) area l₂
+                held = stands-over target (subst (λ z. Stands load n (with-node (tested z) atom y) l₁ l₂) named (z .stands)) (omega arith)
 
-            trial : Trial load n st atom T y
-            trial =
-                record {
-                  order = try-stands .order;
-                  placing = try-stands .placing;
-                  small = try-stands .small;
-                  wide = target .few;
-                  long = try-stands .long;
-                  atom = can .there;
-                  node = node .0;
-                  set = node .1;
-                }
-
-            named : nodesState load n l₁ ≡ with-target st T
-            named = stands-named target
-
-            pub try-settle : CanSettle load n l₁ atom y s t
-            try-settle =
-                record {
-                  loadable = rw (stands-long target) (can .loadable);
-                  stands = stands-own target;
-                  there = can .there;
-                  node = subst (λ z. y < length (z .sets)) (sym named) (node .0);
-                  slots = subst (λ z. Slotted load (z .nodes) (z .sets) s t) (sym named) slots;
-                  sources-long = can .sources-long;
-                  targets-long = can .targets-long;
-                }
+            pub try-stays : Settled load n l₁ atom y false l₂ → Answers load n area atom T (answerOf Rejected) l₂
+            unfolding decode
+            try-stays z = record {
+              of = λ w e legal.
+                  let x = trial-rejected trial w e legal (can .other) (sym s1 ∙ left) (sym row13 ∙ free) says in
+                  (sym (x .0), stands-encode held ∙ ap (λ u. encode load n u area) (rw present (sym (x .1))));
+            }
               where
-                slots : Slotted load (nodesIn load n area) (register T (setsIn n area)) s t
-                slots =
-                    record {
-                      source-at = λ k h. can .slots .source-at k h ∙ ap (λ (u : List ℕ). getD u k 0) (sym (sources-register (try-stands .placing) T));
-                      target-at = λ k h. can .slots .target-at k h ∙ ap (λ (u : List ℕ). getD u k 0) (sym (targets-register (try-stands .placing) T));
-                    }
+                says : cyclic (nodeEdge load (set (nodesIn load n area) atom y) (register T (setsIn n area))) (below n) ≡ true
+                says = subst (λ z. cyclic (nodeEdge load (set (z .nodes) atom y) (z .sets)) (below n) ≡ true) named (z .says)
 
-            -- the graph before is the same with the target registered
-            present : cyclic (nodeEdge load (nodesIn load n area) (register T (setsIn n area))) (below n) ≡ cyclic (nodeEdge load (nodesIn load n area) (setsIn n area)) (below n)
-            present = rw (sources-register (try-stands .placing) T, targets-register (try-stands .placing) T) refl
+                held : Stands load n (tested (with-target st T)) area l₂
+                held = stands-over target (subst (λ z. Stands load n (tested z) l₁ l₂) named (z .stands)) (omega arith)
 
-            abbrev tested : Nodes → Nodes
-            tested z = with-test load n z atom y (cyclic (nodeEdge load (z .nodes) (z .sets)) (below n))
-
-            module _ {l₂ : List ℕ} where
-              pub try-accepted : Settled load n l₁ atom y true l₂ → Answers load n area atom T (answerOf Accepted) l₂
-              unfolding decode
-              try-accepted z = record {
-                of = λ w e legal.
-                    let x = trial-accepted trial w e legal (can .other) (sym s1 ∙ left) (sym row13 ∙ free) says in
-                    (sym (x .0), stands-encode held ∙ ap (λ u. encode load n u area) (rw present (sym (x .1))));
-              }
-                where
-                  says : cyclic (nodeEdge load (set (nodesIn load n area) atom y) (register T (setsIn n area))) (below n) ≡ false
-                  says = subst (λ z. cyclic (nodeEdge load (set (z .nodes) atom y) (z .sets)) (below n) ≡ false) named (z .says)
-
-                  held : Stands load n (with-node (tested (with-target st T)) atom y) area l₂
-                  held = stands-over target (subst (λ z. Stands load n (with-node (tested z) atom y) l₁ l₂) named (z .stands)) (omega arith)
-
-              pub try-stays : Settled load n l₁ atom y false l₂ → Answers load n area atom T (answerOf Rejected) l₂
-              unfolding decode
-              try-stays z = record {
-                of = λ w e legal.
-                    let x = trial-rejected trial w e legal (can .other) (sym s1 ∙ left) (sym row13 ∙ free) says in
-                    (sym (x .0), stands-encode held ∙ ap (λ u. encode load n u area) (rw present (sym (x .1))));
-              }
-                where
-                  says : cyclic (nodeEdge load (set (nodesIn load n area) atom y) (register T (setsIn n area))) (below n) ≡ true
-                  says = subst (λ z. cyclic (nodeEdge load (set (z .nodes) atom y) (z .sets)) (below n) ≡ true) named (z .says)
-
-                  held : Stands load n (tested (with-target st T)) area l₂
-                  held = stands-over target (subst (λ z. Stands load n (tested z) l₁ l₂) named (z .stands)) (omega arith)
+-- an unseen target has a place where row 13 doesn't fit
+pub try-register : {load : Load} {n : ℕ} {area : List ℕ} {atom T : ℕ} {s t : List ℕ} → CanTry load n area atom T s t → {m y : ℕ} {q : Bool} → m ≡ getD area (n * n) 0 → q ≡ eqb y m && eqb m n → q ≡ false
+    → y ≡ m → CanRegister n m area
+try-register {n = n} can {m} {y} many room free e =
+    record {
+      free = go (eqb m n) refl;
+      small = try-stands can .small;
+      room = omega (arith, try-room can);
+    }
+  where
+    go : (b : Bool) → eqb m n ≡ b → m < n
+    go true h = absurd (true≢false (sym (room ∙ rw (eq-eqb y m e, h) refl) ∙ free))
+    go false h = let ne : m ≡ n → ⊥ = eqb-false m n h in omega (arith, many ∙ registered-at (try-stands can), try-stands can .few)

@@ -1,7 +1,6 @@
 // A move on a consistent area, after the checks up to row 12: steps 1 to 3 and row 13.
 ghost use Rattle.ledger.specs.Graph.{lent};
 ghost use Rattle.entry_set.specs.Sets.{number};
-ghost use Rattle.moving.specs.Settle.{CanSettle, Settled};
 ghost use Rattle.moving.specs.Tried.{answerOf, CanTry, Answers};
 
 // What a move on a checked area comes to.
@@ -12,64 +11,10 @@ pub enum Tried {
 }
 
 mod early;
+mod settle;
 mod test;
 mod trial;
 mod writes;
-
-// Step 3, with the target in node `to`: the atom is moved on trial, and for good where the graph then has no cycle.
-fn settle(
-    a: usize,
-    d: usize,
-    e: usize,
-    n: usize,
-    starts: &[u32],
-    dependencies: &[u32],
-    hosts: &[u32],
-    area: &mut [u32],
-    atom: usize,
-    to: usize,
-    sources: &[u32],
-    targets: &[u32],
-) -> bool
-    requires { ⌜ CanSettle (lent a d e (now starts) (now dependencies) (now hosts)) n (now area) atom to (now sources) (now targets) ⌝ }
-    ensures { λ r. ⌜ Settled (lent a d e (now (starts .entry)) (now (dependencies .entry)) (now (hosts .entry))) n (now (area .entry)) atom to r (now (area .exit)) ⌝ }
-{
-    let mut counts = [0u32; 1024];
-    let mut heads = [0u32; 8448];
-    let mut ends = [0u32; 8448];
-    trial::trial(
-        a,
-        d,
-        e,
-        n,
-        starts,
-        dependencies,
-        hosts,
-        area,
-        atom,
-        to,
-        &mut counts,
-        &mut heads,
-        &mut ends,
-    );
-    let m = d + e;
-    if test::closes_cycle(area, n, to, &heads, &ends, m) {
-        return false;
-    }
-    writes::commit(
-        area,
-        n,
-        atom,
-        to,
-        sources,
-        targets,
-        &heads,
-        &ends,
-        m,
-        &counts,
-    );
-    true
-}
 
 // A move of the atom to the target set. The area is consistent, rows 10 to 12 don't fit, and `sources` and `targets` are the
 // slots of its placement.
@@ -92,16 +37,18 @@ pub fn try_checked(
 {
     let square = n * n;
     let from = area[square + 24 + 24 * n + atom] as usize;
-    if early::outside(area, n, from) {
-        return Tried::Rejected;
-    }
     let registered = area[square] as usize;
     let to = set_order::find(area, square + 24, n, registered, target);
-    if early::no_room(to, registered, n) {
+    let outside = early::outside(area, n, from);
+    let full = early::no_room(to, registered, n);
+    if outside {
+        return Tried::Rejected;
+    }
+    if full {
         return Tried::Full;
     }
     writes::register(area, n, registered, to, target);
-    if settle(
+    if settle::settle(
         a,
         d,
         e,

@@ -4,42 +4,54 @@ ghost use Rattle.graphs.specs.Lists.{below};
 ghost use Rattle.graphs.specs.Walk.{via, cyclic};
 ghost use Rattle.graphs.specs.Slots.{slotEdge};
 ghost use Rattle.neighbours.specs.Lists.{edge};
-ghost use Rattle.moving.specs.Test.{CanAsk, CanMark, CanReachItself, CanTest, walk-area, tested, closes};
+ghost use Rattle.moving.specs.Test.{CanAsk, CanMark, CanReachItself, CanTest, WalkRoom, Room, walk-area, tested, closes};
 use super::writes::raise;
 
-// Whether the graph of the m slots has a cycle, by a full search.
-fn has_cycle(n: usize, sources: &[u32], targets: &[u32], m: usize) -> bool
-    requires { ⌜ CanAsk (now sources) (now targets) m n ⌝ }
+// Whether the graph of the m slots has a cycle, by a full search. `starts` and `list` become the neighbour lists; the others are scratch.
+fn has_cycle(
+    n: usize,
+    sources: &[u32],
+    targets: &[u32],
+    m: usize,
+    starts: &mut [u32],
+    list: &mut [u32],
+    colour: &mut [u32],
+    cursor: &mut [u32],
+    stack: &mut [u32],
+    low: &mut [u32],
+    order: &mut [u32],
+) -> bool
+    requires { ⌜ CanAsk (now sources) (now targets) m n × Room n m (now starts) (now list) (now colour) (now cursor) (now stack) (now low) (now order) ⌝ }
     ensures { λ r. ⌜ r ≡ cyclic (slotEdge (now (sources .entry)) (now (targets .entry)) m) (below n) ⌝ }
 {
-    let mut starts = [0u32; 1025];
-    let mut list = [0u32; 8448];
-    let mut colour = [0u32; 1024];
-    let mut cursor = [0u32; 1024];
-    let mut stack = [0u32; 1024];
-    let mut low = [0u32; 1024];
-    let mut order = [0u32; 1024];
-    neighbours::group(sources, targets, m, n, &mut starts, &mut list);
+    neighbours::group(sources, targets, m, n, starts, list);
     depth_first::has_cycle(
         neighbours::Direction::Dependencies,
-        &starts,
-        &list,
-        &list,
+        starts,
+        list,
+        list,
         n,
-        &mut colour,
-        &mut cursor,
-        &mut stack,
-        &mut low,
-        &mut order,
+        colour,
+        cursor,
+        stack,
+        low,
+        order,
     )
 }
 
 // The nodes that `to` reaches in one step or more have the counter as their mark.
-fn mark(area: &mut [u32], n: usize, counter: u32, to: usize, starts: &[u32], list: &[u32])
-    requires { ⌜ CanMark (now area) n counter to (now starts) (now list) ⌝ }
+fn mark(
+    area: &mut [u32],
+    n: usize,
+    counter: u32,
+    to: usize,
+    starts: &[u32],
+    list: &[u32],
+    stack: &mut [u32],
+)
+    requires { ⌜ CanMark (now area) n counter to (now starts) (now list) (now stack) ⌝ }
     ensures { λ _. ⌜ now (area .exit) ≡ walk-area (edge (now (starts .entry)) (now (list .entry)) n) n counter to (now (area .entry)) ⌝ }
 {
-    let mut stack = [0u32; 1024];
     let at = n * n + 24 + 9 * n;
     let end = at + n;
     walks::reach(
@@ -51,7 +63,7 @@ fn mark(area: &mut [u32], n: usize, counter: u32, to: usize, starts: &[u32], lis
         counter,
         to,
         &mut area[at..end],
-        &mut stack,
+        stack,
     );
 }
 
@@ -64,19 +76,20 @@ fn reaches_itself(
     sources: &[u32],
     targets: &[u32],
     m: usize,
+    starts: &mut [u32],
+    list: &mut [u32],
+    stack: &mut [u32],
 ) -> bool
-    requires { ⌜ CanReachItself (now area) n counter to (now sources) (now targets) m ⌝ }
+    requires { ⌜ CanReachItself (now area) n counter to (now sources) (now targets) m × WalkRoom n m (now starts) (now list) (now stack) ⌝ }
     ensures { λ r. ⌜ r ≡ via (slotEdge (now (sources .entry)) (now (targets .entry)) m) (below n) to to ⌝ }
     ensures { λ _. ⌜ now (area .exit) ≡ walk-area (slotEdge (now (sources .entry)) (now (targets .entry)) m) n counter to (now (area .entry)) ⌝ }
 {
-    let mut starts = [0u32; 1025];
-    let mut list = [0u32; 8448];
-    neighbours::group(sources, targets, m, n, &mut starts, &mut list);
-    mark(area, n, counter, to, &starts, &list);
+    neighbours::group(sources, targets, m, n, starts, list);
+    mark(area, n, counter, to, starts, list, stack);
     area[n * n + 24 + 9 * n + to] == counter
 }
 
-// Where the graph had no cycle before, a new one passes `to`. Else every old one may have gone.
+// Where the graph had no cycle before, a new one passes `to`. Else every old one may have gone. The last seven lists are scratch.
 pub fn closes_cycle(
     area: &mut [u32],
     n: usize,
@@ -84,14 +97,44 @@ pub fn closes_cycle(
     sources: &[u32],
     targets: &[u32],
     m: usize,
+    starts: &mut [u32],
+    list: &mut [u32],
+    colour: &mut [u32],
+    cursor: &mut [u32],
+    stack: &mut [u32],
+    low: &mut [u32],
+    order: &mut [u32],
 ) -> bool
-    requires { ⌜ CanTest (now area) n to (now sources) (now targets) m ⌝ }
+    requires { ⌜ CanTest (now area) n to (now sources) (now targets) m × Room n m (now starts) (now list) (now colour) (now cursor) (now stack) (now low) (now order) ⌝ }
     ensures { λ r. ⌜ r ≡ closes (slotEdge (now (sources .entry)) (now (targets .entry)) m) n to (now (area .entry)) ⌝ }
     ensures { λ _. ⌜ now (area .exit) ≡ tested (slotEdge (now (sources .entry)) (now (targets .entry)) m) n to (now (area .entry)) ⌝ }
 {
     if area[n * n + 2] == 0 {
-        return has_cycle(n, sources, targets, m);
+        return has_cycle(
+            n,
+            sources,
+            targets,
+            m,
+            starts,
+            list,
+            colour,
+            cursor,
+            stack,
+            low,
+            order,
+        );
     }
     let counter = raise(area, n);
-    reaches_itself(area, n, counter, to, sources, targets, m)
+    reaches_itself(
+        area,
+        n,
+        counter,
+        to,
+        sources,
+        targets,
+        m,
+        starts,
+        list,
+        stack,
+    )
 }

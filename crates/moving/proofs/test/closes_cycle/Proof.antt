@@ -20,20 +20,54 @@ slice-read-if1 c = search needs
 has-cycle-requires : tie.Need-has-cycle-requires
 has-cycle-requires c κs = search needs
 
+same-length : tie.Need-same-length
+same-length c = search needs
+
+same-length-2 : tie.Need-same-length-2
+same-length-2 c = search needs
+
+same-length-3 : tie.Need-same-length-3
+same-length-3 c = search needs
+
+same-length-4 : tie.Need-same-length-4
+same-length-4 c = search needs
+
+same-length-5 : tie.Need-same-length-5
+same-length-5 c = search needs
+
+same-length-6 : tie.Need-same-length-6
+same-length-6 c = search needs
+
+same-length-7 : tie.Need-same-length-7
+same-length-7 c = search needs
+
 returns : tie.Need-returns
-returns c = search-done (slotEdge (c .before .before .before .before .before .before .args .sources .now) (c .before .before .before .before .before .before .args .targets .now) (c .before .before .before .before .before .before .args .m)) (c .before .before .before .before .before .before .args .n) (c .before .before .before .before .before .before .args .to) (c .before .before .before .before .before .before .args .area .now) (c .before .if1 .taken) (c .has-cycle .ensures)
+returns c =
+    let a = c .before .before .before .before .before .before .before .before .before .before .before .before .before .before .before .before .before .before .before .before .before .before .before .before .before .before .before .before .before .before .before .before .before .before .args in
+    search-done (slotEdge (a .sources .now) (a .targets .now) (a .m)) (a .n) (a .to) (a .area .now) (c .before .before .before .before .before .before .before .before .before .before .before .before .before .before .before .before .before .before .before .before .before .before .if1 .taken) (c .before .before .before .before .before .before .before .before .before .before .before .before .before .before .has-cycle .ensures)
 
 raise-requires : tie.Need-raise-requires
 raise-requires c κs = search needs
 
 reaches-itself-requires : tie.Need-reaches-itself-requires
-reaches-itself-requires c κs = walk-can (c .before .before .before .before .before .before .before .before .before .before .pre) (c .before .before .before .raise .ensures .0) (c .before .before .before .raise .ensures .1)
+reaches-itself-requires c κs = (walk-can (c .before .before .before .before .before .before .before .before .before .before .before .before .before .before .before .before .before .before .before .before .pre .0) (c .before .before .before .before .before .before .raise .ensures .0) (c .before .before .before .before .before .before .raise .ensures .1), c .before .before .before .before .before .before .before .before .before .before .before .before .before .before .before .before .before .before .before .before .pre .1 .walk)
 
-same-length : tie.Need-same-length
-same-length c = search needs
+same-length-8 : tie.Need-same-length-8
+same-length-8 c = search needs
+
+same-length-9 : tie.Need-same-length-9
+same-length-9 c = search needs
+
+same-length-10 : tie.Need-same-length-10
+same-length-10 c = search needs
+
+same-length-11 : tie.Need-same-length-11
+same-length-11 c = search needs
 
 returns-2 : tie.Need-returns-2
-returns-2 c = walk-done (slotEdge (c .before .before .before .before .before .before .before .before .before .before .before .before .before .args .sources .now) (c .before .before .before .before .before .before .before .before .before .before .before .before .before .args .targets .now) (c .before .before .before .before .before .before .before .before .before .before .before .before .before .args .m)) (c .before .before .before .before .before .before .before .before .before .before .before .before .before .args .n) (c .before .before .before .before .before .before .before .before .before .before .before .before .before .args .to) (c .before .before .before .before .before .before .before .before .before .before .before .before .before .args .area .now) (c .before .before .before .before .before .before .before .before .if1 .left) (c .before .before .before .before .before .before .raise .ensures .0) (c .before .before .before .before .before .before .raise .ensures .1) (c .before .before .reaches-itself .ensures)
+returns-2 c =
+    let a = c .before .before .before .before .before .before .before .before .before .before .before .before .before .before .before .before .before .before .before .before .before .before .before .before .before .before .before .before .before .args in
+    walk-done (slotEdge (a .sources .now) (a .targets .now) (a .m)) (a .n) (a .to) (a .area .now) (c .before .before .before .before .before .before .before .before .before .before .before .before .before .before .before .before .before .if1 .left) (c .before .before .before .before .before .before .before .before .before .before .before .before .before .before .before .raise .ensures .0) (c .before .before .before .before .before .before .before .before .before .before .before .before .before .before .before .raise .ensures .1) (c .before .before .before .before .before .before .before .before .reaches-itself .ensures)
 
 pub closes-cycle-spec : {M : Type 1} → statement M
 closes-cycle-spec =
@@ -44,8 +78,18 @@ closes-cycle-spec =
     mul-if1-2
     slice-read-if1
     has-cycle-requires
+    same-length
+    same-length-2
+    same-length-3
+    same-length-4
+    same-length-5
+    same-length-6
+    same-length-7
     returns
     raise-requires
     reaches-itself-requires
-    same-length
+    same-length-8
+    same-length-9
+    same-length-10
+    same-length-11
     returns-2)

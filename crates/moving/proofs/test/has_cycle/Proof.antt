@@ -11,69 +11,58 @@ use borrow.Author.Needs.{needs}
 use Rattle.moving.proofs.test.has_cycle.Statement.{statement}
 use Rattle.moving.proofs.test.has_cycle.Tie as tie
 
-slice-aggregate-group : tie.Need-slice-aggregate-group
-slice-aggregate-group c = search needs
-
-slice-aggregate-group-2 : tie.Need-slice-aggregate-group-2
-slice-aggregate-group-2 c = search needs
-
 group-requires : tie.Need-group-requires
-group-requires c κs = group-can (c .before .before .before .before .pre) (omega arith) (omega arith)
-
-slice-aggregate-has-cycle : tie.Need-slice-aggregate-has-cycle
-slice-aggregate-has-cycle c = search needs
-
-slice-aggregate-has-cycle-2 : tie.Need-slice-aggregate-has-cycle-2
-slice-aggregate-has-cycle-2 c = search needs
-
-slice-aggregate-has-cycle-3 : tie.Need-slice-aggregate-has-cycle-3
-slice-aggregate-has-cycle-3 c = search needs
-
-slice-aggregate-has-cycle-4 : tie.Need-slice-aggregate-has-cycle-4
-slice-aggregate-has-cycle-4 c = search needs
-
-slice-aggregate-has-cycle-5 : tie.Need-slice-aggregate-has-cycle-5
-slice-aggregate-has-cycle-5 c = search needs
-
-slice-aggregate-has-cycle-6 : tie.Need-slice-aggregate-has-cycle-6
-slice-aggregate-has-cycle-6 c = search needs
-
-slice-aggregate-has-cycle-7 : tie.Need-slice-aggregate-has-cycle-7
-slice-aggregate-has-cycle-7 c = search needs
-
-slice-aggregate-has-cycle-8 : tie.Need-slice-aggregate-has-cycle-8
-slice-aggregate-has-cycle-8 c = search needs
+group-requires c κs = search needs
 
 has-cycle-requires : tie.Need-has-cycle-requires
 has-cycle-requires c κs =
-    let can = c .before .before .before .before .before .before .before .before .before .before .before .before .before .before .before .pre in
+    let can = c .before .before .before .before .before .before .before .before .before .before .before .before .before .before .before .before .before .before .before .before .before .before .before .pre in
+    let w = can .1 in
     record {
-      graph = ask-graph can (omega arith) (omega arith) (c .before .before .before .before .before .before .before .before .before .before .group .ensures);
-      colours = omega (arith, can .rows);
-      cursors = omega (arith, can .rows);
-      places = omega (arith, can .rows);
-      lows = omega (arith, can .rows);
-      orders = omega (arith, can .rows);
-      small = omega (arith, can .rows);
+      graph = ask-graph (can .0) (w .walk) (c .before .before .before .before .before .before .before .before .before .before .before .group .ensures);
+      colours = w .colours;
+      cursors = w .cursors;
+      places = w .walk .places;
+      lows = w .lows;
+      orders = w .orders;
+      small = omega (arith, can .0 .rows);
     }
 
+same-length : tie.Need-same-length
+same-length c = search needs
+
+same-length-2 : tie.Need-same-length-2
+same-length-2 c = search needs
+
+same-length-3 : tie.Need-same-length-3
+same-length-3 c = search needs
+
+same-length-4 : tie.Need-same-length-4
+same-length-4 c = search needs
+
+same-length-5 : tie.Need-same-length-5
+same-length-5 c = search needs
+
+same-length-6 : tie.Need-same-length-6
+same-length-6 c = search needs
+
+same-length-7 : tie.Need-same-length-7
+same-length-7 c = search needs
+
 returns : tie.Need-returns
-returns c = c .before .before .before .before .before .has-cycle .ensures ∙ ap (λ (f : ℕ → ℕ → Bool). cyclic f (below (c .before .before .before .before .before .before .before .before .before .before .before .before .before .before .before .before .before .before .before .before .before .args .n))) (group-edges (c .before .before .before .before .before .before .before .before .before .before .before .before .before .before .before .before .group .ensures) (c .before .before .before .before .before .before .before .before .before .before .before .before .before .before .before .before .before .before .before .before .before .pre .ends))
+returns c = c .before .before .before .before .before .before .before .before .before .before .has-cycle .ensures ∙ ap (λ (f : ℕ → ℕ → Bool). cyclic f (below (c .before .before .before .before .before .before .before .before .before .before .before .before .before .before .before .before .before .before .before .before .before .before .before .before .before .before .before .before .before .before .before .before .before .before .args .n))) (group-edges (c .before .before .before .before .before .before .before .before .before .before .before .before .before .before .before .before .before .before .before .before .before .before .group .ensures) (c .before .before .before .before .before .before .before .before .before .before .before .before .before .before .before .before .before .before .before .before .before .before .before .before .before .before .before .before .before .before .before .before .before .before .pre .0 .ends))
 
 pub has-cycle-spec : {M : Type 1} → statement M
 has-cycle-spec =
     tie.close
     (tie.spec
-    slice-aggregate-group
-    slice-aggregate-group-2
     group-requires
-    slice-aggregate-has-cycle
-    slice-aggregate-has-cycle-2
-    slice-aggregate-has-cycle-3
-    slice-aggregate-has-cycle-4
-    slice-aggregate-has-cycle-5
-    slice-aggregate-has-cycle-6
-    slice-aggregate-has-cycle-7
-    slice-aggregate-has-cycle-8
     has-cycle-requires
+    same-length
+    same-length-2
+    same-length-3
+    same-length-4
+    same-length-5
+    same-length-6
+    same-length-7
     returns)

@@ -1,5 +1,4 @@
 -- `mark` meets its contract: the marks lane is lent to the walk, and comes back as a patch. Assumes nothing.
-use native.Mathlib.Omega.{arith}
 use Rattle.neighbours.specs.Lists.{edge}
 use Rattle.moving.specs.Test.{mark-can, mark-done}
 use borrow.Author.Needs.{needs}
@@ -33,17 +32,17 @@ part-reach-start c = search needs
 part-reach-end : tie.Need-part-reach-end
 part-reach-end c = search needs
 
-slice-aggregate-reach : tie.Need-slice-aggregate-reach
-slice-aggregate-reach c = search needs
-
 reach-requires : tie.Need-reach-requires
-reach-requires c κs = mark-can (c .before .before .before .before .before .pre) (omega (arith, c .before .before .before .before .before .pre .rows))
+reach-requires c κs = mark-can (c .before .before .before .before .before .before .pre)
 
 same-length : tie.Need-same-length
 same-length c = search needs
 
+same-length-2 : tie.Need-same-length-2
+same-length-2 c = search needs
+
 returns : tie.Need-returns
-returns c = mark-done (c .before .before .before .before .before .before .before .before .before .pre) (edge (c .before .before .before .before .before .before .before .before .before .args .starts .now) (c .before .before .before .before .before .before .before .before .before .args .list .now) (c .before .before .before .before .before .before .before .before .before .args .n)) (c .before .before .before .reach .ensures)
+returns c = mark-done (c .before .before .before .before .before .before .before .before .before .before .before .pre) (edge (c .before .before .before .before .before .before .before .before .before .before .before .args .starts .now) (c .before .before .before .before .before .before .before .before .before .before .before .args .list .now) (c .before .before .before .before .before .before .before .before .before .before .before .args .n)) (c .before .before .before .before .reach .ensures)
 
 pub mark-spec : {M : Type 1} → statement M
 mark-spec =
@@ -58,7 +57,7 @@ mark-spec =
     sub-reach
     part-reach-start
     part-reach-end
-    slice-aggregate-reach
     reach-requires
     same-length
+    same-length-2
     returns)

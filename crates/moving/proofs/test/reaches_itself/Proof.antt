@@ -1,30 +1,17 @@
 -- `reaches_itself` meets its contract. Assumes nothing.
-use native.Mathlib.Omega.{arith}
 use Rattle.neighbours.specs.Grouped.{group-edges}
 use Rattle.moving.specs.Test.{group-can, ask-graph, itself-done}
 use borrow.Author.Needs.{needs}
 use Rattle.moving.proofs.test.reaches_itself.Statement.{statement}
 use Rattle.moving.proofs.test.reaches_itself.Tie as tie
 
-slice-aggregate-group : tie.Need-slice-aggregate-group
-slice-aggregate-group c = search needs
-
-slice-aggregate-group-2 : tie.Need-slice-aggregate-group-2
-slice-aggregate-group-2 c = search needs
-
 group-requires : tie.Need-group-requires
-group-requires c κs = group-can (c .before .before .before .before .before .pre .ask) (omega arith) (omega arith)
-
-slice-aggregate-mark : tie.Need-slice-aggregate-mark
-slice-aggregate-mark c = search needs
-
-slice-aggregate-mark-2 : tie.Need-slice-aggregate-mark-2
-slice-aggregate-mark-2 c = search needs
+group-requires c κs = search needs
 
 mark-requires : tie.Need-mark-requires
 mark-requires c κs =
-    let can = c .before .before .before .before .before .before .before .before .before .before .before .pre in
-    record { rows = can .ask .rows; node = can .node; graph = ask-graph (can .ask) (omega arith) (omega arith) (c .before .before .before .before .before .group .ensures); fresh = can .fresh }
+    let can = c .before .before .before .before .before .before .before .before .before .before .before .before .before .before .before .before .before .pre in
+    record { node = can .0 .node; places = can .1 .places; graph = ask-graph (can .0 .ask) (can .1) (c .before .before .before .before .before .before .before .before .group .ensures); fresh = can .0 .fresh }
 
 mul-result : tie.Need-mul-result
 mul-result c = search needs
@@ -50,18 +37,23 @@ slice-read-result c = search needs
 same-length : tie.Need-same-length
 same-length c = search needs
 
+same-length-2 : tie.Need-same-length-2
+same-length-2 c = search needs
+
+same-length-3 : tie.Need-same-length-3
+same-length-3 c = search needs
+
+same-length-4 : tie.Need-same-length-4
+same-length-4 c = search needs
+
 returns : tie.Need-returns
-returns c = itself-done (c .before .before .before .before .before .before .before .before .before .before .before .before .before .before .before .pre) (group-edges (c .before .before .before .before .before .before .before .before .before .group .ensures) (c .before .before .before .before .before .before .before .before .before .before .before .before .before .before .before .pre .ask .ends)) (c .before .before .before .mark .ensures)
+returns c = itself-done (c .before .before .before .before .before .before .before .before .before .before .before .before .before .before .before .before .before .before .before .before .before .before .before .pre .0) (group-edges (c .before .before .before .before .before .before .before .before .before .before .before .before .before .before .group .ensures) (c .before .before .before .before .before .before .before .before .before .before .before .before .before .before .before .before .before .before .before .before .before .before .before .pre .0 .ask .ends)) (c .before .before .before .before .before .mark .ensures)
 
 pub reaches-itself-spec : {M : Type 1} → statement M
 reaches-itself-spec =
     tie.close
     (tie.spec
-    slice-aggregate-group
-    slice-aggregate-group-2
     group-requires
-    slice-aggregate-mark
-    slice-aggregate-mark-2
     mark-requires
     mul-result
     add-result
@@ -71,4 +63,7 @@ reaches-itself-spec =
     mul-result-3
     slice-read-result
     same-length
+    same-length-2
+    same-length-3
+    same-length-4
     returns)
