@@ -1,6 +1,6 @@
 // Step 3: the atom is moved on trial, and for good where the graph then has no cycle.
 ghost use Prim.Native.Nat.{_≤_};
-ghost use Rattle.placement.specs.Slots.{lent};
+ghost use Rattle.ledger.specs.Graph.{lent};
 ghost use Rattle.moving.specs.Settle.{CanSettle, SettleRoom, Settled};
 use super::test;
 use super::trial;
