@@ -27,7 +27,7 @@ use Rattle.merge_loading.specs.Loading.{first-key, cleared-area, headed-area, b
 use Rattle.merge_loading.specs.Bare.{cleared-long, cleared-flag, cleared-side, cleared-need, cleared-key, cleared-home, headed-far, headed-initial, headed-made, headed-created, headed-sets, headed-used, named-chunk, named-value, base-long, bare-far}
 use Rattle.merge_loading.specs.Listing.{entry-can}
 use Rattle.merge_loading.specs.Rows.{CanLoad, can-load, load-list}
-use Rattle.merge_reads.specs.Fields.{depends-parts}
+use Rattle.merge_laws.specs.Ordering.{depends-parts}
 use Rattle.merge_reads.specs.Reads.{read-append}
 use Rattle.merge_reads.specs.Order.{ordered-consistent}
 
