@@ -1,5 +1,7 @@
 // The merge graph's calls at their limits. Each line is a case and what is answered: 100 done, 200 no, 201 yes, 300 and the number of candidates for a pass,
 // else the row that refuses; or a number of the area or of an answer list.
+mod loads; // loads.rt: loadings
+
 use chunk_optimizer::Done;
 use chunk_optimizer::PassAnswer;
 use chunk_optimizer::Said;
@@ -285,4 +287,5 @@ fn main() {
     lists();
     smallest();
     all_initial();
+    loads::cases();
 }
