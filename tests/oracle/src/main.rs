@@ -39,8 +39,8 @@ fn every_small(library: Option<&dyn Library>, amount: Amount, counts: &mut Count
     let mut found = Ok(());
     for a in 0..4 {
         moves_made_up::every_small_load(a, &mut |case| {
-            // The largest size in full only in a long run.
-            if found.is_err() || (a == 3 && random.below(400) >= amount.percent) {
+            // Less than a whole run takes a part of the largest size.
+            if found.is_err() || (a == 3 && random.below(100) >= amount.percent) {
                 return;
             }
             for atom in 0..a as u32 {

@@ -111,7 +111,7 @@ fn random_call(random: &mut Random, shape: Shape, state: &MergeState, wrong: u64
 
 fn damaged_size(random: &mut Random, mut size: Size) -> Size {
     let odd = |random: &mut Random, number: u64| match random.below(3) {
-        0 => number + 1,
+        0 => number.wrapping_add(1),
         1 => number.saturating_sub(1),
         _ => random.pick(&[0, 257, 1025, 4097, 8193, u64::MAX, 1 << 32, 1 << 63]),
     };
