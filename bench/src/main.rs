@@ -6,20 +6,27 @@ use std::time::Instant;
 
 use oracle::library::Library;
 
-/// Runs of which the best counts.
+/// Runs of which, for each call, the best counts.
 const RUNS: usize = 7;
 
-/// Best time in nanoseconds of one call, where `run` makes `calls` of them on what `prepare` gives.
-fn best<T>(calls: usize, mut prepare: impl FnMut() -> T, mut run: impl FnMut(&mut T)) -> f64 {
-    let mut best = f64::INFINITY;
+/// What reading the clock costs.
+fn clock() -> f64 {
+    (0..1000).map(|_| Instant::now().elapsed().as_nanos()).min().unwrap() as f64
+}
+
+/// Mean over `calls` calls of each one's best time in nanoseconds; `run` makes call k on what `prepare` gives.
+fn best<T>(calls: usize, mut prepare: impl FnMut() -> T, mut run: impl FnMut(&mut T, usize)) -> f64 {
+    let mut best = vec![f64::INFINITY; calls];
     for _ in 0..RUNS {
         let mut input = prepare();
-        let start = Instant::now();
-        run(&mut input);
-        best = best.min(start.elapsed().as_nanos() as f64 / calls as f64);
+        for (k, best) in best.iter_mut().enumerate() {
+            let start = Instant::now();
+            run(&mut input, k);
+            *best = best.min(start.elapsed().as_nanos() as f64);
+        }
         std::hint::black_box(&input);
     }
-    best
+    best.iter().sum::<f64>() / calls as f64 - clock()
 }
 
 /// A time with three figures or so.

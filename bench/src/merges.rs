@@ -96,22 +96,20 @@ fn original_times(input: &Input) -> [f64; 3] {
     let warning = best(
         WARNINGS,
         || original(input),
-        |graph| {
-            for &(source, target) in &input.pairs {
-                std::hint::black_box(graph.would_create_circular_dependency(source, target));
-            }
+        |graph, k| {
+            let (source, target) = input.pairs[k];
+            std::hint::black_box(graph.would_create_circular_dependency(source, target));
         },
     );
     let merge = best(
         WARNINGS,
         || original(input),
-        |graph| {
-            for &(source, target) in &input.pairs {
-                graph.merge_chunk_dependencies(target, source);
-            }
+        |graph, k| {
+            let (source, target) = input.pairs[k];
+            graph.merge_chunk_dependencies(target, source);
         },
     );
-    let pass = best(1, || original(input), |graph| drop(std::hint::black_box(graph.pass(&proposals, &none))));
+    let pass = best(1, || original(input), |graph, _| drop(std::hint::black_box(graph.pass(&proposals, &none))));
     [warning, merge, pass]
 }
 
@@ -123,25 +121,23 @@ fn library_times(library: &dyn Library, input: &Input) -> [f64; 3] {
     let warning = best(
         WARNINGS,
         || start.clone(),
-        |area| {
-            for &(source, target) in &input.pairs {
-                assert_eq!(library.warning(size, area, source, target).refusal, 0);
-            }
+        |area, k| {
+            let (source, target) = input.pairs[k];
+            assert_eq!(library.warning(size, area, source, target).refusal, 0);
         },
     );
     let merge = best(
         WARNINGS,
         || start.clone(),
-        |area| {
-            for &(source, target) in &input.pairs {
-                assert_eq!(library.merge(size, area, target, source).refusal, 0);
-            }
+        |area, k| {
+            let (source, target) = input.pairs[k];
+            assert_eq!(library.merge(size, area, target, source).refusal, 0);
         },
     );
     let pass = best(
         1,
         || (start.clone(), vec![0; count], vec![0; count]),
-        |(area, kinds, numbers)| {
+        |(area, kinds, numbers), _| {
             assert_eq!(library.pass(size, area, &input.proposals, &none, kinds, numbers).refusal, 0);
         },
     );

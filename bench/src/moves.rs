@@ -20,7 +20,7 @@ struct Input {
     flat: Vec<u64>,
     /// None goes to the atom's present set, none registers more sets than N.
     moves: Vec<(u32, Vec<u64>)>,
-    accepted: usize,
+    accepted: u64,
 }
 
 /// An acyclic load and moves that answer alike for both.
@@ -70,20 +70,21 @@ fn loaded(library: &dyn Library, input: &Input) -> Vec<u32> {
 fn library_times(library: &dyn Library, input: &Input) -> Vec<(&'static str, f64)> {
     let load = &input.load;
     let new = best(
-        1,
+        20,
         || vec![0; load.layout().length()],
-        |area| {
+        |area, _| {
             std::hint::black_box(library.move_new(load, &input.flat, area));
         },
     );
     let moves = best(
         MOVES,
-        || loaded(library, input),
-        |area| {
-            let accepted = (input.moves.iter())
-                .filter(|(atom, bits)| library.try_move(load, area, *atom, bits).value == 1)
-                .count();
-            assert_eq!(accepted, input.accepted, "the same answers");
+        || (loaded(library, input), 0),
+        |(area, accepted), k| {
+            let (atom, bits) = &input.moves[k];
+            *accepted += library.try_move(load, area, *atom, bits).value;
+            if k + 1 == MOVES {
+                assert_eq!(*accepted, input.accepted, "the same answers");
+            }
         },
     );
     let bits: Vec<Vec<u64>> = input.sets.iter().map(|&set| words(set, load.e)).collect();
@@ -91,10 +92,8 @@ fn library_times(library: &dyn Library, input: &Input) -> Vec<(&'static str, f64
         best(
             ASKED,
             || loaded(library, input),
-            |area| {
-                for k in 0..ASKED {
-                    std::hint::black_box(question(area, k));
-                }
+            |area, k| {
+                std::hint::black_box(question(area, k));
             },
         )
     };
@@ -118,16 +117,14 @@ pub fn table(library: Option<&dyn Library>) {
         for n in [2 * a, a] {
             let input = input(a, d, e, n);
             let lists = original_lists(&input.load, &input.flat);
-            let new = best(1, || (), |()| drop(std::hint::black_box(OriginalMoves::new(&lists))));
+            let new = best(20, || (), |(), _| drop(std::hint::black_box(OriginalMoves::new(&lists))));
             let targets: Vec<(u32, BitSet)> =
                 input.moves.iter().map(|(atom, bits)| (*atom, BitSet::from_words(bits))).collect();
             let moves = best(
                 MOVES,
                 || OriginalMoves::new(&lists),
-                |graph| {
-                    for (atom, bits) in &targets {
-                        std::hint::black_box(graph.try_move(*atom, bits));
-                    }
+                |graph, k| {
+                    std::hint::black_box(graph.try_move(targets[k].0, &targets[k].1));
                 },
             );
             let ours = library.map_or(vec![("new", 0.0), ("try_move", 0.0)], |library| library_times(library, &input));

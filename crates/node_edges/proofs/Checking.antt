@@ -2,7 +2,7 @@
 use mathlib.Core.Path.{_≡_, refl, sym, ap, _∙_, subst}
 use mathlib.Core.List.{List}
 use mathlib.Core.Bool.{Bool, true, false, not}
-use Prim.Native.Nat.{ℕ, suc, _+_, _-_, _*_, _≤_, _<_}
+use Prim.Native.Nat.{ℕ, zero, suc, _+_, _-_, _*_, _≤_, _<_}
 use native.Mathlib.Omega.{arith}
 use native.Mathlib.Decide.{decLt}
 use native.Mathlib.Nat.{mul-le-mul-right, suc-mul, zero-add}
@@ -10,7 +10,7 @@ use lib.Dec.{eqb, ltb, T}
 use lib.ListN.{length, getD, set, length-set, take, replicate, length-replicate, getD-replicate}
 use lib.Seq.{getD-set-same, getD-set-other, take-length, length-take-le}
 use borrow.Author.Count.{below-more}
-use borrow.Author.Tests.{eq-eqb, ne-eqb, eqb-true, eqb-false, not-false}
+use borrow.Author.Tests.{lt-ltb, le-ltb, eq-eqb, ne-eqb, eqb-true, eqb-false, not-false}
 use Rattle.graphs.specs.Bools.{Decides, Same, it, other, same?}
 use Rattle.graphs.specs.Count.{ind, count, ind-le, count-none, count-more, count-le, count-ext, count-pos, count-all-no}
 use Rattle.neighbours.specs.Groups.{occ, occ-more, occ-le}
@@ -19,23 +19,62 @@ use Rattle.neighbours.specs.Lists.{Graph, deg, nb, part-long}
 use Rattle.layout.specs.Patch.{patch, patch-in, patch-long}
 use Rattle.node_edges.specs.Rows.{CanBump, CanTally, Tallied, CanWipe, Wiped, differing, nonzero, CanCompare, Compared, Clean, CanCheckRow, RowChecked, RowsAre, CanCheck, Checked}
 
+-- two counts of tests that differ at v alone
+count-change : (p q : ℕ → Bool) (v : ℕ) → ((y : ℕ) → (y ≡ v → ⊥) → q y ≡ p y) → (n : ℕ) → v < n → count q n + ind (p v) ≡ count p n + ind (q v)
+unfolding count
+count-change p q v h zero z = absurd (omega arith)
+count-change p q v h (suc n) z = go (same? n v) (λ b. count-change p q v h n b)
+  where
+    go : Same n v → (v < n → count q n + ind (p v) ≡ count p n + ind (q v)) → count q n + ind (q n) + ind (p v) ≡ count p n + ind (p n) + ind (q v)
+    go (it e) r = omega (arith, count-ext q p n (λ j b. h j (omega (arith, b, e))), ap (λ (k : ℕ). ind (p k)) e, ap (λ (k : ℕ). ind (q k)) e)
+    go (other e) r = omega (arith, r (omega (arith, z, e)), ap ind (h n e))
+
+some-or-none : (x : ℕ) → ind (ltb 0 x) + ind (eqb x 0) ≡ 1
+some-or-none x = go (decLt 0 x)
+  where
+    go : Dec (0 < x) → ind (ltb 0 x) + ind (eqb x 0) ≡ 1
+    go (yes h) = rw (lt-ltb 0 x h, ne-eqb x 0 (omega arith)) refl
+    go (no h) = rw (le-ltb 0 x (omega arith), eq-eqb x 0 (omega arith)) refl
+
+-- one more at v is one more number that isn't 0, if it was 0
+nonzero-more : (row : List ℕ) (v n : ℕ) → v < n → v < length row
+    → nonzero (λ y. getD (set row v (getD row v 0 + 1)) y 0) n ≡ nonzero (λ y. getD row y 0) n + ind (eqb (getD row v 0) 0)
+nonzero-more row v n z w =
+    let c = count-change (λ y. ltb 0 (getD row y 0)) (λ y. ltb 0 (getD (set row v (getD row v 0 + 1)) y 0)) v
+    (λ y d. ap (ltb 0) (getD-set-other row v y (getD row v 0 + 1) 0 d)) n z in
+    let one : ind (ltb 0 (getD (set row v (getD row v 0 + 1)) v 0)) ≡ 1 =
+    ap ind (lt-ltb 0 (getD (set row v (getD row v 0 + 1)) v 0) (omega (arith, getD-set-same row v (getD row v 0 + 1) 0 w))) in
+    omega (arith, c, one, some-or-none (getD row v 0))
+
 -- the first k neighbours are counted
-pub record Some (part row₀ row : List ℕ) (k : ℕ) : Type 0 where
+pub record Some (part row₀ row : List ℕ) (k found : ℕ) : Type 0 where
   pub at : (y : ℕ) → getD row y 0 ≡ getD row₀ y 0 + occ y (take k part)
+  pub more : (n : ℕ) → ((j : ℕ) → j < length part → getD part j 0 < n) → nonzero (λ y. getD row y 0) n ≡ nonzero (λ y. getD row₀ y 0) n + found
+  pub few : found ≤ k
   pub long : length row ≡ length row₀
 
-pub some-none : (part row : List ℕ) → Some part row row 0
-some-none part row = record { at = λ y. omega (arith, occ-le y (take 0 part)); long = refl }
+pub some-none : (part row : List ℕ) → Some part row row 0 0
+some-none part row = record { at = λ y. omega (arith, occ-le y (take 0 part)); more = λ n h. omega arith; few = omega arith; long = refl }
 
-module _ {part row₀ row : List ℕ} {k : ℕ} (can : CanTally part row₀) (h : Some part row₀ row k) (z : k < length part) where
+module _ {part row₀ row : List ℕ} {k f : ℕ} (can : CanTally part row₀) (h : Some part row₀ row k f) (z : k < length part) where
   pub some-can : CanBump row (getD part k 0)
   some-can = record {
     within = omega (arith, can .within k z, h .long);
     room = omega (arith, can .room k z, h .at (getD part k 0), occ-le (getD part k 0) (take k part), length-take-le k part (omega arith));
   }
 
-  pub some-more : {row′ : List ℕ} → row′ ≡ set row (getD part k 0) (getD row (getD part k 0) 0 + 1) → Some part row₀ row′ (k + 1)
-  some-more {row′} q = record { at = λ y. rw (q, occ-more y part k z) (go y (same? y v)); long = rw q (length-set row v (getD row v 0 + 1) ∙ h .long) }
+  -- found stays a number of 32 bits
+  pub some-room : f < 4294967295
+  some-room = omega (arith, h .few, can .room k z)
+
+  pub some-more : {row′ : List ℕ} {b : ℕ} → b ≡ ind (eqb (getD row (getD part k 0) 0) 0) → row′ ≡ set row (getD part k 0) (getD row (getD part k 0) 0 + 1)
+      → Some part row₀ row′ (k + 1) (f + b)
+  some-more {row′} {b} p q = record {
+    at = λ y. rw (q, occ-more y part k z) (go y (same? y v));
+    more = λ n w. ap (λ (l : List ℕ). nonzero (λ y. getD l y 0) n) q ∙ omega (arith, nonzero-more row v n (w k z) (some-can .within), h .more n w, p);
+    few = omega (arith, h .few, p, ind-le (eqb (getD row (getD part k 0) 0) 0));
+    long = rw q (length-set row v (getD row v 0 + 1) ∙ h .long);
+  }
     where
       v : ℕ
       v = getD part k 0
@@ -47,8 +86,8 @@ module _ {part row₀ row : List ℕ} {k : ℕ} (can : CanTally part row₀) (h 
 all-of : (part : List ℕ) (k y : ℕ) → k ≡ length part → occ y (take k part) ≡ occ y part
 all-of part k y e = ap (occ y) (ap (λ (i : ℕ). take i part) e ∙ take-length part)
 
-pub some-done : {part row₀ row : List ℕ} {k : ℕ} → Some part row₀ row k → k ≡ length part → Tallied part row₀ row
-some-done {part} {row₀} {row} {k} h e = record { at = λ y. h .at y ∙ ap (λ (v : ℕ). getD row₀ y 0 + v) (all-of part k y e); long = h .long }
+pub some-done : {part row₀ row : List ℕ} {k f : ℕ} → Some part row₀ row k f → k ≡ length part → Tallied part row₀ row f
+some-done {part} {row₀} {row} {k} h e = record { at = λ y. h .at y ∙ ap (λ (v : ℕ). getD row₀ y 0 + v) (all-of part k y e); more = h .more; long = h .long }
 
 -- the first k neighbours are wiped
 pub record Less (part row₀ row : List ℕ) (k : ℕ) : Type 0 where
@@ -85,27 +124,17 @@ less-done {part} {row₀} {row} {k} h e = record {
 }
 
 -- the first k numbers are compared
-pub compare-none : (e : List ℕ) (at : ℕ) (row : List ℕ) → Compared e at row 0 0 0
-compare-none e at row = record {
-  differ = sym (count-none (λ y. not (eqb (getD e (at + y) 0) (getD row y 0))));
-  found = sym (count-none (λ y. ltb 0 (getD row y 0)));
-}
+pub compare-none : (e : List ℕ) (at : ℕ) (row : List ℕ) → Compared e at row 0 0
+compare-none e at row = record { differ = sym (count-none (λ y. not (eqb (getD e (at + y) 0) (getD row y 0)))) }
 
-pub compare-more : {e : List ℕ} {at : ℕ} {row : List ℕ} {k u f d g : ℕ} → Compared e at row k u f → d ≡ ind (not (eqb (getD e (at + k) 0) (getD row k 0))) → g ≡ ind (ltb 0 (getD row k 0))
-    → Compared e at row (k + 1) (u + d) (f + g)
-compare-more {e} {at} {row} {k} h p q = record {
-  differ = omega (arith, h .differ, p, count-more (λ y. not (eqb (getD e (at + y) 0) (getD row y 0))) k);
-  found = omega (arith, h .found, q, count-more (λ y. ltb 0 (getD row y 0)) k);
-}
+pub compare-more : {e : List ℕ} {at : ℕ} {row : List ℕ} {k u d : ℕ} → Compared e at row k u → d ≡ ind (not (eqb (getD e (at + k) 0) (getD row k 0))) → Compared e at row (k + 1) (u + d)
+compare-more {e} {at} {row} {k} h p = record { differ = omega (arith, h .differ, p, count-more (λ y. not (eqb (getD e (at + y) 0) (getD row y 0))) k) }
 
-pub compare-le : {e : List ℕ} {at : ℕ} {row : List ℕ} {k u f : ℕ} → Compared e at row k u f → (u ≤ k) × (f ≤ k)
-compare-le {e} {at} {row} {k} h = (
-  omega (arith, h .differ, count-le (λ y. not (eqb (getD e (at + y) 0) (getD row y 0))) k),
-  omega (arith, h .found, count-le (λ y. ltb 0 (getD row y 0)) k),
-)
+pub compare-le : {e : List ℕ} {at : ℕ} {row : List ℕ} {k u : ℕ} → Compared e at row k u → u ≤ k
+compare-le {e} {at} {row} {k} h = omega (arith, h .differ, count-le (λ y. not (eqb (getD e (at + y) 0) (getD row y 0))) k)
 
-pub compare-done : {e : List ℕ} {at : ℕ} {row : List ℕ} {k n u f : ℕ} → Compared e at row k u f → k ≡ n → Compared e at row n u f
-compare-done {e} {at} {row} {k} {n} {u} {f} h q = subst (λ (j : ℕ). Compared e at row j u f) q h
+pub compare-done : {e : List ℕ} {at : ℕ} {row : List ℕ} {k n u : ℕ} → Compared e at row k u → k ≡ n → Compared e at row n u
+compare-done {e} {at} {row} {k} {n} {u} h q = subst (λ (j : ℕ). Compared e at row j u) q h
 
 -- one row
 module _ {e : List ℕ} {n x : ℕ} {part row : List ℕ} (can : CanCheckRow e n x part row) where
@@ -118,7 +147,7 @@ module _ {e : List ℕ} {n x : ℕ} {part row : List ℕ} (can : CanCheckRow e n
   pub row-fits : x * n + n ≤ length e
   row-fits = omega (arith, mul-le-mul-right {m = suc x} {n = n} n (can .row-of), suc-mul x n, can .square)
 
-  module _ {row₁ : List ℕ} (t : Tallied part row row₁) where
+  module _ {row₁ : List ℕ} {f : ℕ} (t : Tallied part row row₁ f) where
     pub row-compare : CanCompare e (x * n) row₁ n
     row-compare = record { fits = row-fits; rows = omega (arith, t .long, can .rows); few = can .nodes }
 
@@ -128,13 +157,20 @@ module _ {e : List ℕ} {n x : ℕ} {part row : List ℕ} (can : CanCheckRow e n
     counts : (y : ℕ) → y < n → getD row₁ y 0 ≡ occ y part
     counts y z = omega (arith, t .at y, can .clean .at y z)
 
-    pub row-done : {row₂ : List ℕ} {u f : ℕ} → Compared e (x * n) row₁ n u f → Wiped part row₁ row₂ → RowChecked e n x part row₂ u f
-    row-done {row₂} {u} {f} c w = record {
+    pub row-done : {row₂ : List ℕ} {u : ℕ} → Compared e (x * n) row₁ n u → Wiped part row₁ row₂ → RowChecked e n x part row₂ u f
+    row-done {row₂} {u} c w = record {
       differ = c .differ ∙ count-ext _ _ n (λ y z. ap (λ (v : ℕ). not (eqb (getD e (x * n + y) 0) v)) (counts y z));
-      found = c .found ∙ count-ext _ _ n (λ y z. ap (λ (v : ℕ). ltb 0 v) (counts y z));
+      found = found-all;
       clean = record { at = λ y z. go y z (decLt 0 (occ y part)) };
     }
       where
+        -- nothing was counted in the row before
+        found-all : f ≡ nonzero (λ y. occ y part) n
+        found-all =
+            let before : nonzero (λ y. getD row y 0) n ≡ 0 = count-all-no (λ y. ltb 0 (getD row y 0)) n (λ y z. ap (ltb 0) (can .clean .at y z) ∙ le-ltb 0 0 (omega arith)) in
+            let after : nonzero (λ y. getD row₁ y 0) n ≡ nonzero (λ y. occ y part) n = count-ext _ _ n (λ y z. ap (λ (v : ℕ). ltb 0 v) (counts y z)) in
+            omega (arith, t .more n (can .within), before, after)
+
         go : (y : ℕ) → y < n → Dec (0 < occ y part) → getD row₂ y 0 ≡ 0
         go y z (yes p) = w .zero y p
         go y z (no p) = w .kept y (omega arith) ∙ counts y z ∙ omega arith

@@ -22,10 +22,6 @@ pub record CanTally (part row : List ℕ) : Type 0 where
   pub within : (k : ℕ) → k < length part → getD part k 0 < length row
   pub room : (k : ℕ) → k < length part → getD row (getD part k 0) 0 + length part < 4294967295
 
-pub record Tallied (part row row′ : List ℕ) : Type 0 where
-  pub at : (y : ℕ) → getD row′ y 0 ≡ getD row y 0 + occ y part
-  pub long : length row′ ≡ length row
-
 pub record CanWipe (part row : List ℕ) : Type 0 where
   pub within : (k : ℕ) → k < length part → getD part k 0 < length row
 
@@ -41,14 +37,19 @@ differing f g n = count (λ y. not (eqb (f y) (g y))) n
 abbrev pub nonzero : (ℕ → ℕ) → ℕ → ℕ
 nonzero f n = count (λ y. ltb 0 (f y)) n
 
+-- found more numbers are not 0, wherever that is looked at with every neighbour
+pub record Tallied (part row row′ : List ℕ) (found : ℕ) : Type 0 where
+  pub at : (y : ℕ) → getD row′ y 0 ≡ getD row y 0 + occ y part
+  pub more : (n : ℕ) → ((k : ℕ) → k < length part → getD part k 0 < n) → nonzero (λ y. getD row′ y 0) n ≡ nonzero (λ y. getD row y 0) n + found
+  pub long : length row′ ≡ length row
+
 pub record CanCompare (e : List ℕ) (at : ℕ) (row : List ℕ) (n : ℕ) : Type 0 where
   pub fits : at + n ≤ length e
   pub rows : n ≤ length row
   pub few : n < 2 ^ 32
 
-pub record Compared (e : List ℕ) (at : ℕ) (row : List ℕ) (n unequal edges : ℕ) : Type 0 where
+pub record Compared (e : List ℕ) (at : ℕ) (row : List ℕ) (n unequal : ℕ) : Type 0 where
   pub differ : unequal ≡ differing (λ y. getD e (at + y) 0) (λ y. getD row y 0) n
-  pub found : edges ≡ nonzero (λ y. getD row y 0) n
 
 -- the first n numbers are 0
 pub record Clean (row : List ℕ) (n : ℕ) : Type 0 where

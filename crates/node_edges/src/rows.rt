@@ -1,7 +1,7 @@
 // Whether the kept matrix is that of grouped slots, row by row. Each row is read once, without a way out in it.
 ghost use mathlib.Core.Path.{_≡_};
 ghost use mathlib.Core.Bool.{not};
-ghost use lib.Dec.{eqb, ltb};
+ghost use lib.Dec.{eqb};
 ghost use Prim.Native.Nat.{_+_};
 ghost use lib.ListN.{getD, set};
 ghost use Rattle.graphs.specs.Count.{ind};
@@ -13,25 +13,40 @@ struct Row {
     edges: u32,
 }
 
-// One more at v.
-fn bump(row: &mut [u32], v: u32)
+// 1 where a number is 0, else 0.
+fn none(a: u32) -> u32
+    ensures { λ r. ⌜ r ≡ ind (eqb a 0) ⌝ }
+{
+    if a == 0 {
+        return 1;
+    }
+    0
+}
+
+// One more at v; the answer is 1 where nothing was counted there before, else 0.
+fn bump(row: &mut [u32], v: u32) -> u32
     requires { ⌜ CanBump (now row) v ⌝ }
+    ensures { λ r. ⌜ r ≡ ind (eqb (getD (now (row .entry)) v 0) 0) ⌝ }
     ensures { λ _. ⌜ now (row .exit) ≡ set (now (row .entry)) v (getD (now (row .entry)) v 0 + 1) ⌝ }
 {
     let i = v as usize;
-    row[i] = row[i] + 1;
+    let old = row[i];
+    row[i] = old + 1;
+    none(old)
 }
 
-// Each neighbour is counted on top of what stands at it.
-fn tally(part: &[u32], row: &mut [u32])
+// Each neighbour is counted on top of what stands at it; the answer is how many of them had nothing there.
+fn tally(part: &[u32], row: &mut [u32]) -> u32
     requires { ⌜ CanTally (now part) (now row) ⌝ }
-    ensures { λ _. ⌜ Tallied (now (part .entry)) (now (row .entry)) (now (row .exit)) ⌝ }
+    ensures { λ r. ⌜ Tallied (now (part .entry)) (now (row .entry)) (now (row .exit)) r ⌝ }
 {
+    let mut found = 0;
     let mut k = 0;
     while k < part.len() {
-        bump(row, part[k]);
+        found += bump(row, part[k]);
         k += 1;
     }
+    found
 }
 
 // 0 at each neighbour.
@@ -57,33 +72,18 @@ fn differ(a: u32, b: u32) -> u32
     0
 }
 
-// 1 where a number is not 0, else 0.
-fn some(a: u32) -> u32
-    ensures { λ r. ⌜ r ≡ ind (ltb 0 a) ⌝ }
-{
-    if 0 < a {
-        return 1;
-    }
-    0
-}
-
-// The n numbers of edges from `at` on against those of row.
-fn compare(edges: &[u32], at: usize, row: &[u32], n: usize) -> Row
+// How many of the n numbers of edges from `at` on differ from those of row.
+fn compare(edges: &[u32], at: usize, row: &[u32], n: usize) -> u32
     requires { ⌜ CanCompare (now edges) at (now row) n ⌝ }
-    ensures { λ r. ⌜ Compared (now (edges .entry)) at (now (row .entry)) n (r .unequal) (r .edges) ⌝ }
+    ensures { λ r. ⌜ Compared (now (edges .entry)) at (now (row .entry)) n r ⌝ }
 {
     let mut unequal = 0;
-    let mut found = 0;
     let mut k = 0;
     while k < n {
         unequal += differ(edges[at + k], row[k]);
-        found += some(row[k]);
         k += 1;
     }
-    Row {
-        unequal: unequal,
-        edges: found,
-    }
+    unequal
 }
 
 // Row x of the matrix against the neighbours of x. The first n numbers of row are 0 before and after.
@@ -91,10 +91,13 @@ fn check_row(edges: &[u32], n: usize, x: usize, part: &[u32], row: &mut [u32]) -
     requires { ⌜ CanCheckRow (now edges) n x (now part) (now row) ⌝ }
     ensures { λ r. ⌜ RowChecked (now (edges .entry)) n x (now (part .entry)) (now (row .exit)) (r .unequal) (r .edges) ⌝ }
 {
-    tally(part, row);
-    let got = compare(edges, x * n, row, n);
+    let found = tally(part, row);
+    let unequal = compare(edges, x * n, row, n);
     wipe(part, row);
-    got
+    Row {
+        unequal: unequal,
+        edges: found,
+    }
 }
 
 // Whether each row of the matrix counts its neighbours; if so, degrees has how many edges start at each node.

@@ -2,23 +2,19 @@
 use Prim.Native.Nat.{_+_, _-_, _≤_}
 use native.Mathlib.Omega.{arith}
 use mathlib.Core.Bool.{not}
-use lib.Dec.{eqb, ltb}
+use lib.Dec.{eqb}
 use lib.ListN.{getD}
 use Rattle.graphs.specs.Count.{ind-le}
 use Rattle.node_edges.specs.Rows.{Compared}
 use Rattle.node_edges.proofs.Checking.{compare-none, compare-more, compare-le, compare-done}
 use Rattle.node_edges.proofs.rows.compare.Statement.{statement}
 use Rattle.node_edges.proofs.rows.compare.Tie as tie
-use Rattle.node_edges.proofs.rows.compare.Reads as reads
-use Rattle.node_edges.proofs.rows.compare.Lts as lts
-use Rattle.node_edges.proofs.rows.differ.Reads as differ-reads
-use Rattle.node_edges.proofs.rows.some.Reads as some-reads
 
 abbrev Inv-loop : tie.InvT-loop
-Inv-loop edges at row n unequal₀ found₀ k₀ unequal found k = (k ≤ n) × Compared edges at row k unequal found
+Inv-loop edges at row n unequal₀ k₀ unequal k = (k ≤ n) × Compared edges at row k unequal
 
 abbrev μ-loop : tie.MeasureT-loop
-μ-loop edges at row n unequal₀ found₀ k₀ unequal found k = n - k
+μ-loop edges at row n unequal₀ k₀ unequal k = n - k
 
 loop-holds : tie.Need-loop-holds Inv-loop μ-loop
 loop-holds c = (omega arith, compare-none _ _ _)
@@ -42,19 +38,7 @@ differ-requires : tie.Need-differ-requires Inv-loop μ-loop
 differ-requires c κs = tt
 
 add-unequal : tie.Need-add-unequal Inv-loop μ-loop
-add-unequal c = omega (arith, compare-le (c .before .before .before .before .loop .inv .1) .0, c .differ .ensures, ind-le (not (eqb (getD (c .before .before .before .before .before .before .before .args .edges .now) (c .before .before .before .before .before .before .before .args .at + c .before .before .before .before .loop .k) 0) (getD (c .before .before .before .before .before .before .before .args .row .now) (c .before .before .before .before .loop .k) 0))))
-
-mul-some : tie.Need-mul-some Inv-loop μ-loop
-mul-some c = omega arith
-
-shared-slice-read-some : tie.Need-shared-slice-read-some Inv-loop μ-loop
-shared-slice-read-some c = omega arith
-
-some-requires : tie.Need-some-requires Inv-loop μ-loop
-some-requires c κs = tt
-
-add-found : tie.Need-add-found Inv-loop μ-loop
-add-found c = omega (arith, compare-le (c .before .before .before .before .before .before .loop .inv .1) .1, c .some .ensures, ind-le (ltb 0 (getD (c .before .before .before .before .before .before .before .before .before .args .row .now) (c .before .before .before .before .before .before .loop .k) 0)))
+add-unequal c = omega (arith, compare-le (c .before .before .before .before .loop .inv .1), c .differ .ensures, ind-le (not (eqb (getD (c .before .before .before .before .before .before .before .args .edges .now) (c .before .before .before .before .before .before .before .args .at + c .before .before .before .before .loop .k) 0) (getD (c .before .before .before .before .before .before .before .args .row .now) (c .before .before .before .before .loop .k) 0))))
 
 add-k : tie.Need-add-k Inv-loop μ-loop
 add-k c = omega arith
@@ -63,7 +47,7 @@ loop-less : tie.Need-loop-less Inv-loop μ-loop
 loop-less c = omega arith
 
 loop-again : tie.Need-loop-again Inv-loop μ-loop
-loop-again c = (omega arith, compare-more (c .before .before .before .before .before .before .loop .inv .1) (c .before .before .differ .ensures) (c .some .ensures))
+loop-again c = (omega arith, compare-more (c .before .before .before .before .loop .inv .1) (c .differ .ensures))
 
 returns : tie.Need-returns Inv-loop μ-loop
 returns c = compare-done (c .before .loop .inv .1) (omega arith)
@@ -82,10 +66,6 @@ compare-spec =
     shared-slice-read-differ-2
     differ-requires
     add-unequal
-    mul-some
-    shared-slice-read-some
-    some-requires
-    add-found
     add-k
     loop-less
     loop-again
