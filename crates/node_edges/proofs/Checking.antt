@@ -17,7 +17,7 @@ use Rattle.neighbours.specs.Groups.{occ, occ-more, occ-le}
 use Rattle.neighbours.specs.Parts.{partOf}
 use Rattle.neighbours.specs.Lists.{Graph, deg, nb, part-long}
 use Rattle.layout.specs.Patch.{patch, patch-in, patch-long}
-use Rattle.node_edges.specs.Rows.{CanBump, CanTally, Tallied, CanWipe, Wiped, differing, nonzero, CanCompare, Compared, Clean, CanCheckRow, RowChecked, RowsAre, CanCheck, Checked}
+use Rattle.node_edges.specs.Rows.{CanBump, CanTally, Tallied, CanWipe, Wiped, differing, nonzero, numbersOf, CanCompare, CanCount, Compared, Clean, CanCheckRow, RowChecked, RowsAre, CanCheck, Checked}
 
 -- two counts of tests that differ at v alone
 count-change : (p q : ℕ → Bool) (v : ℕ) → ((y : ℕ) → (y ≡ v → ⊥) → q y ≡ p y) → (n : ℕ) → v < n → count q n + ind (p v) ≡ count p n + ind (q v)
@@ -124,17 +124,17 @@ less-done {part} {row₀} {row} {k} h e = record {
 }
 
 -- the first k numbers are compared
-pub compare-none : (e : List ℕ) (at : ℕ) (row : List ℕ) → Compared e at row 0 0
-compare-none e at row = record { differ = sym (count-none (λ y. not (eqb (getD e (at + y) 0) (getD row y 0)))) }
+pub compare-none : (e : List ℕ) (at : ℕ) (g : ℕ → ℕ) → Compared e at g 0 0
+compare-none e at g = record { differ = sym (count-none (λ y. not (eqb (getD e (at + y) 0) (g y)))) }
 
-pub compare-more : {e : List ℕ} {at : ℕ} {row : List ℕ} {k u d : ℕ} → Compared e at row k u → d ≡ ind (not (eqb (getD e (at + k) 0) (getD row k 0))) → Compared e at row (k + 1) (u + d)
-compare-more {e} {at} {row} {k} h p = record { differ = omega (arith, h .differ, p, count-more (λ y. not (eqb (getD e (at + y) 0) (getD row y 0))) k) }
+pub compare-more : {e : List ℕ} {at : ℕ} (g : ℕ → ℕ) {k u d : ℕ} → Compared e at g k u → d ≡ ind (not (eqb (getD e (at + k) 0) (g k))) → Compared e at g (k + 1) (u + d)
+compare-more {e} {at} g {k} h p = record { differ = omega (arith, h .differ, p, count-more (λ y. not (eqb (getD e (at + y) 0) (g y))) k) }
 
-pub compare-le : {e : List ℕ} {at : ℕ} {row : List ℕ} {k u : ℕ} → Compared e at row k u → u ≤ k
-compare-le {e} {at} {row} {k} h = omega (arith, h .differ, count-le (λ y. not (eqb (getD e (at + y) 0) (getD row y 0))) k)
+pub compare-le : {e : List ℕ} {at : ℕ} {g : ℕ → ℕ} {k u : ℕ} → Compared e at g k u → u ≤ k
+compare-le {e} {at} {g} {k} h = omega (arith, h .differ, count-le (λ y. not (eqb (getD e (at + y) 0) (g y))) k)
 
-pub compare-done : {e : List ℕ} {at : ℕ} {row : List ℕ} {k n u : ℕ} → Compared e at row k u → k ≡ n → Compared e at row n u
-compare-done {e} {at} {row} {k} {n} {u} h q = subst (λ (j : ℕ). Compared e at row j u) q h
+pub compare-done : {e : List ℕ} {at : ℕ} {g : ℕ → ℕ} {k n u : ℕ} → Compared e at g k u → k ≡ n → Compared e at g n u
+compare-done {e} {at} {g} {k} {n} {u} h q = subst (λ (j : ℕ). Compared e at g j u) q h
 
 -- one row
 module _ {e : List ℕ} {n x : ℕ} {part row : List ℕ} (can : CanCheckRow e n x part row) where
@@ -147,6 +147,20 @@ module _ {e : List ℕ} {n x : ℕ} {part row : List ℕ} (can : CanCheckRow e n
   pub row-fits : x * n + n ≤ length e
   row-fits = omega (arith, mul-le-mul-right {m = suc x} {n = n} n (can .row-of), suc-mul x n, can .square)
 
+  pub row-count : CanCount e (x * n) n
+  row-count = record { fits = row-fits; few = can .nodes }
+
+  -- no neighbours, so the row is right where it is empty
+  pub row-bare : {u : ℕ} → length part ≡ 0 → Compared e (x * n) (λ y. 0) n u → RowChecked e n x part row u 0
+  row-bare q c = record {
+    differ = c .differ ∙ count-ext _ _ n (λ y z. ap (λ (v : ℕ). not (eqb (getD e (x * n + y) 0) v)) (sym (none-of y)));
+    found = sym (count-all-no (λ y. ltb 0 (occ y part)) n (λ y z. ap (ltb 0) (none-of y) ∙ le-ltb 0 0 (omega arith)));
+    clean = can .clean;
+  }
+    where
+      none-of : (y : ℕ) → occ y part ≡ 0
+      none-of y = omega (arith, occ-le y part, q)
+
   module _ {row₁ : List ℕ} {f : ℕ} (t : Tallied part row row₁ f) where
     pub row-compare : CanCompare e (x * n) row₁ n
     row-compare = record { fits = row-fits; rows = omega (arith, t .long, can .rows); few = can .nodes }
@@ -157,7 +171,7 @@ module _ {e : List ℕ} {n x : ℕ} {part row : List ℕ} (can : CanCheckRow e n
     counts : (y : ℕ) → y < n → getD row₁ y 0 ≡ occ y part
     counts y z = omega (arith, t .at y, can .clean .at y z)
 
-    pub row-done : {row₂ : List ℕ} {u : ℕ} → Compared e (x * n) row₁ n u → Wiped part row₁ row₂ → RowChecked e n x part row₂ u f
+    pub row-done : {row₂ : List ℕ} {u : ℕ} → Compared e (x * n) (numbersOf row₁) n u → Wiped part row₁ row₂ → RowChecked e n x part row₂ u f
     row-done {row₂} {u} c w = record {
       differ = c .differ ∙ count-ext _ _ n (λ y z. ap (λ (v : ℕ). not (eqb (getD e (x * n + y) 0) v)) (counts y z));
       found = found-all;

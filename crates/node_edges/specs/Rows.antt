@@ -48,8 +48,16 @@ pub record CanCompare (e : List ℕ) (at : ℕ) (row : List ℕ) (n : ℕ) : Typ
   pub rows : n ≤ length row
   pub few : n < 2 ^ 32
 
-pub record Compared (e : List ℕ) (at : ℕ) (row : List ℕ) (n unequal : ℕ) : Type 0 where
-  pub differ : unequal ≡ differing (λ y. getD e (at + y) 0) (λ y. getD row y 0) n
+pub record CanCount (e : List ℕ) (at n : ℕ) : Type 0 where
+  pub fits : at + n ≤ length e
+  pub few : n < 2 ^ 32
+
+abbrev pub numbersOf : List ℕ → ℕ → ℕ
+numbersOf row y = getD row y 0
+
+-- so many of the n numbers from `at` on differ from those of g
+pub record Compared (e : List ℕ) (at : ℕ) (g : ℕ → ℕ) (n unequal : ℕ) : Type 0 where
+  pub differ : unequal ≡ differing (λ y. getD e (at + y) 0) g n
 
 -- the first n numbers are 0
 pub record Clean (row : List ℕ) (n : ℕ) : Type 0 where

@@ -5,7 +5,7 @@ ghost use lib.Dec.{eqb};
 ghost use Prim.Native.Nat.{_+_};
 ghost use lib.ListN.{getD, set};
 ghost use Rattle.graphs.specs.Count.{ind};
-ghost use Rattle.node_edges.specs.Rows.{CanBump, CanTally, Tallied, CanWipe, Wiped, CanCompare, Compared, CanCheckRow, RowChecked, CanCheck, Checked};
+ghost use Rattle.node_edges.specs.Rows.{CanBump, CanTally, Tallied, CanWipe, Wiped, numbersOf, CanCompare, CanCount, Compared, CanCheckRow, RowChecked, CanCheck, Checked};
 
 // How many numbers of a row differ, and how many edges it has.
 struct Row {
@@ -75,7 +75,7 @@ fn differ(a: u32, b: u32) -> u32
 // How many of the n numbers of edges from `at` on differ from those of row.
 fn compare(edges: &[u32], at: usize, row: &[u32], n: usize) -> u32
     requires { ⌜ CanCompare (now edges) at (now row) n ⌝ }
-    ensures { λ r. ⌜ Compared (now (edges .entry)) at (now (row .entry)) n r ⌝ }
+    ensures { λ r. ⌜ Compared (now (edges .entry)) at (numbersOf (now (row .entry))) n r ⌝ }
 {
     let mut unequal = 0;
     let mut k = 0;
@@ -86,11 +86,32 @@ fn compare(edges: &[u32], at: usize, row: &[u32], n: usize) -> u32
     unequal
 }
 
+// How many of the n numbers of edges from `at` on aren't 0.
+fn count_filled(edges: &[u32], at: usize, n: usize) -> u32
+    requires { ⌜ CanCount (now edges) at n ⌝ }
+    ensures { λ r. ⌜ Compared (now (edges .entry)) at (λ y. 0) n r ⌝ }
+{
+    let mut filled = 0;
+    let mut y = 0;
+    while y < n {
+        filled += differ(edges[at + y], 0);
+        y += 1;
+    }
+    filled
+}
+
 // Row x of the matrix against the neighbours of x. The first n numbers of row are 0 before and after.
 fn check_row(edges: &[u32], n: usize, x: usize, part: &[u32], row: &mut [u32]) -> Row
     requires { ⌜ CanCheckRow (now edges) n x (now part) (now row) ⌝ }
     ensures { λ r. ⌜ RowChecked (now (edges .entry)) n x (now (part .entry)) (now (row .exit)) (r .unequal) (r .edges) ⌝ }
 {
+    if part.len() == 0 {
+        let filled = count_filled(edges, x * n, n);
+        return Row {
+            unequal: filled,
+            edges: 0,
+        };
+    }
     let found = tally(part, row);
     let unequal = compare(edges, x * n, row, n);
     wipe(part, row);

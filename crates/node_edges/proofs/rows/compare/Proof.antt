@@ -5,13 +5,13 @@ use mathlib.Core.Bool.{not}
 use lib.Dec.{eqb}
 use lib.ListN.{getD}
 use Rattle.graphs.specs.Count.{ind-le}
-use Rattle.node_edges.specs.Rows.{Compared}
+use Rattle.node_edges.specs.Rows.{numbersOf, Compared}
 use Rattle.node_edges.proofs.Checking.{compare-none, compare-more, compare-le, compare-done}
 use Rattle.node_edges.proofs.rows.compare.Statement.{statement}
 use Rattle.node_edges.proofs.rows.compare.Tie as tie
 
 abbrev Inv-loop : tie.InvT-loop
-Inv-loop edges at row n unequal₀ k₀ unequal k = (k ≤ n) × Compared edges at row k unequal
+Inv-loop edges at row n unequal₀ k₀ unequal k = (k ≤ n) × Compared edges at (numbersOf row) k unequal
 
 abbrev μ-loop : tie.MeasureT-loop
 μ-loop edges at row n unequal₀ k₀ unequal k = n - k
@@ -47,7 +47,7 @@ loop-less : tie.Need-loop-less Inv-loop μ-loop
 loop-less c = omega arith
 
 loop-again : tie.Need-loop-again Inv-loop μ-loop
-loop-again c = (omega arith, compare-more (c .before .before .before .before .loop .inv .1) (c .differ .ensures))
+loop-again c = (omega arith, compare-more _ (c .before .before .before .before .loop .inv .1) (c .differ .ensures))
 
 returns : tie.Need-returns Inv-loop μ-loop
 returns c = compare-done (c .before .loop .inv .1) (omega arith)
