@@ -2,9 +2,9 @@
 use mathlib.Core.Path.{_≡_, refl, sym, ap, ap₂, subst, _∙_}
 use mathlib.Core.Bool.{Bool, true, false, not, _&&_}
 use mathlib.Core.List.{List}
-use Prim.Native.Nat.{ℕ, _+_, _*_, _<_}
+use Prim.Native.Nat.{ℕ, _+_, _*_, _≤_, _<_}
 use native.Mathlib.Omega.{arith}
-use native.Mathlib.Decide.{decLt}
+use native.Mathlib.Decide.{ℕ-discrete, decLt}
 use lib.Dec.{eqb, leb}
 use lib.ListN.{length, getD}
 use borrow.Author.Tests.{eq-eqb, ne-eqb, le-leb, lt-leb}
@@ -28,6 +28,20 @@ use Rattle.moving.specs.Settle.{flag-tells}
 flag-none : (t : Bool) → eqb (ind t) 0 ≡ not t
 flag-none true = refl
 flag-none false = refl
+
+-- the target's place, of n: its node of r, or the next one
+pub record Place (area : List ℕ) (n r T x : ℕ) : Type 0 where
+  pub first : First (laneSet area (n * n + 24) n) r T x
+  pub within : x ≤ n
+
+-- it is n where it is the next one and all n are taken
+place-last : (x r n : ℕ) → x ≤ r → r ≤ n → eqb x n ≡ (eqb x r && eqb r n)
+place-last x r n a b = go (ℕ-discrete x n) (ℕ-discrete x r)
+  where
+    go : Dec (x ≡ n) → Dec (x ≡ r) → eqb x n ≡ (eqb x r && eqb r n)
+    go (yes e) z = rw (eq-eqb x n e, eq-eqb x r (omega arith), eq-eqb r n (omega arith)) refl
+    go (no e) (yes z) = rw (ne-eqb x n e, eq-eqb x r z, ne-eqb r n (omega arith)) refl
+    go (no e) (no z) = rw (ne-eqb x n e, ne-eqb x r z) refl
 
 module _ {load : Load} {N : ℕ} {s : Nodes} {l₀ l : List ℕ} (v : Stands load N s l₀ l) where
   -- step 1 for atom a in node x
@@ -70,9 +84,9 @@ module _ {load : Load} {N : ℕ} {s : Nodes} {l₀ l : List ℕ} (v : Stands loa
             let e : y ≡ length (s .sets) = omega (arith, f .most) in
             rw (register-new T (s .sets) (target-unseen e)) (omega (arith, snoc-length (s .sets) T), snoc-new (s .sets) T y e)
 
-    -- row 13
-    pub room-full : (eqb y (length (s .sets)) && eqb (length (s .sets)) N) ≡ full N (s .sets) T
-    room-full = ap₂ _&&_ target-new (go (decLt (length (s .sets)) N))
+    -- row 13: no place is left for it
+    pub room-full : eqb y N ≡ full N (s .sets) T
+    room-full = place-last y (length (s .sets)) N (f .most) (v .few) ∙ ap₂ _&&_ target-new (go (decLt (length (s .sets)) N))
       where
         go : Dec (length (s .sets) < N) → eqb (length (s .sets)) N ≡ leb N (length (s .sets))
         go (yes h) = ne-eqb (length (s .sets)) N (omega arith) ∙ sym (lt-leb N (length (s .sets)) h)

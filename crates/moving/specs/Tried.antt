@@ -1,12 +1,12 @@
 -- The answers of a move on a checked area, and that they are the ledger's. Assumes nothing.
 use mathlib.Core.Path.{_≡_, refl, sym, ap, subst, _∙_}
-use mathlib.Core.Bool.{Bool, true, false, not, cond, _&&_, true≢false}
+use mathlib.Core.Bool.{Bool, true, false, not, cond, _&&_}
 use mathlib.Core.List.{List}
 use Prim.Native.Nat.{ℕ, _+_, _*_, _^_, _≤_, _<_}
 use native.Mathlib.Omega.{arith}
 use lib.Dec.{eqb}
 use lib.ListN.{length, getD, set}
-use borrow.Author.Tests.{eqb-false, eq-eqb}
+use borrow.Author.Tests.{eq-eqb, ne-eqb}
 use Rattle.graphs.specs.Lists.{has, below}
 use Rattle.graphs.specs.Walk.{cyclic}
 use Rattle.entry_set.specs.Sets.{value, legal}
@@ -28,12 +28,12 @@ use Rattle.move_area.specs.Calls.{after}
 use Rattle.moving.specs.declared.Tried.{Tried}
 use Rattle.moving.specs.declared.Tried.the-variants.{Accepted, Rejected, Full}
 use Rattle.moving.specs.Stands.{Stands, stands-sized, stands-long, registered-at, counter-at, sets-in, node-at, marks-part, nodes-part, stands-encode, higher, consistent-stands}
-use Rattle.moving.specs.Areas.{registered, CanRegister}
+use Rattle.moving.specs.Areas.{registered}
 use Rattle.moving.specs.Changes.{with-node}
 use Rattle.moving.specs.Grown.{write-over}
 use Rattle.moving.specs.Registering.{sources-register, targets-register}
 use Rattle.moving.specs.Outcome.{Trial, with-target, with-test, stands-target, trial-rejected, trial-accepted, early-rejected, early-full}
-use Rattle.moving.specs.Early.{outside-step1, target-new, target-node, room-full}
+use Rattle.moving.specs.Early.{Place, outside-step1, target-new, target-node, room-full}
 use Rattle.moving.specs.Settle.{CanSettle, Settled}
 
 -- the ledger's answer: `Full` is row 13
@@ -138,118 +138,103 @@ module _ {load : Load} {n : ℕ} {area : List ℕ} {atom T : ℕ} {s t : List �
           numbers = omega (arith, try-stands .small);
         }
 
-    module _ {y : ℕ} (f : First (laneSet area (n * n + 24) n) m T y) {r q : Bool} (s1 : r ≡ step1 load (placed (nodesIn load n area) (setsIn n area)) atom) (room : q ≡ eqb y m && eqb m n) (left : r ≡ false) where
+    module _ {y : ℕ} (f : Place area n m T y) {r : Bool} (s1 : r ≡ step1 load (placed (nodesIn load n area) (setsIn n area)) atom) (left : r ≡ false) where
       first : First (laneSet area (n * n + 24) n) (length (setsIn n area)) T y
-      first = subst (λ k. First (laneSet area (n * n + 24) n) k T y) registered-many f
+      first = subst (λ k. First (laneSet area (n * n + 24) n) k T y) registered-many (f .first)
 
-      row13 : q ≡ full n (setsIn n area) T
-      row13 = room ∙ ap (λ k. eqb y k && eqb k n) registered-many ∙ room-full try-stands T y first
+      row13 : eqb y n ≡ full n (setsIn n area) T
+      row13 = room-full try-stands T y first
 
       -- row 13
-      pub try-full : q ≡ true → Answers load n area atom T (answerOf Full) area
+      pub try-full : y ≡ n → Answers load n area atom T (answerOf Full) area
       unfolding decode
       try-full h = record {
         of = λ w e legal.
-            let z = early-full load n (decode load n area) atom w (can .there) legal (same w e) (sym s1 ∙ left) (rw e (sym row13 ∙ h)) in
+            let z = early-full load n (decode load n area) atom w (can .there) legal (same w e) (sym s1 ∙ left) (rw e (sym row13 ∙ eq-eqb y n h)) in
             (sym (z .0), sym (consistent-whole load n area (can .sane)) ∙ ap (λ u. encode load n u area) (sym (z .1)));
       }
 
-      module _ (free : q ≡ false) where
-        module _ {l₁ : List ℕ} (e₁ : l₁ ≡ cond (eqb y m) (registered n m T area) area) where
-          target : Stands load n (with-target st T) area l₁
-          target =
-              subst (Stands load n (with-target st T) area)
-              (sym (e₁ ∙ ap (λ k. cond (eqb y k) (registered n k T area) area) registered-many ∙ ap (λ b. cond b (registered n (length (setsIn n area)) T area) area) (target-new try-stands T y first) ∙ turned (has T (setsIn n area))))
-              (stands-target try-stands T (sym row13 ∙ free) (higher T (load .E) 256 (can .range) (can .loadable .sizes .bits)))
-            where
-              turned : (b : Bool) → cond (not b) (registered n (length (setsIn n area)) T area) area ≡ cond b area (registered n (length (setsIn n area)) T area)
-              turned true = refl
-              turned false = refl
+      module _ (free : y ≡ n → ⊥) {l₁ : List ℕ} (e₁ : l₁ ≡ cond (eqb y m) (registered n m T area) area) where
+        target : Stands load n (with-target st T) area l₁
+        target =
+            subst (Stands load n (with-target st T) area)
+            (sym (e₁ ∙ ap (λ k. cond (eqb y k) (registered n k T area) area) registered-many ∙ ap (λ b. cond b (registered n (length (setsIn n area)) T area) area) (target-new try-stands T y first) ∙ turned (has T (setsIn n area))))
+            (stands-target try-stands T (sym row13 ∙ ne-eqb y n free) (higher T (load .E) 256 (can .range) (can .loadable .sizes .bits)))
+          where
+            turned : (b : Bool) → cond (not b) (registered n (length (setsIn n area)) T area) area ≡ cond b area (registered n (length (setsIn n area)) T area)
+            turned true = refl
+            turned false = refl
 
-          node : (y < length (register T (setsIn n area))) × (at (register T (setsIn n area)) y ≡ T)
-          node = target-node try-stands T y first
+        node : (y < length (register T (setsIn n area))) × (at (register T (setsIn n area)) y ≡ T)
+        node = target-node try-stands T y first
 
-          trial : Trial load n st atom T y
-          trial =
-              record {
-                order = try-stands .order;
-                placing = try-stands .placing;
-                small = try-stands .small;
-                wide = target .few;
-                long = try-stands .long;
-                atom = can .there;
-                node = node .0;
-                set = node .1;
-              }
-
-          named : nodesState load n l₁ ≡ with-target st T
-          named = stands-named target
-
-          pub try-settle : CanSettle load n l₁ atom y s t
-          try-settle =
-              record {
-                loadable = rw (stands-long target) (can .loadable);
-                stands = stands-own target;
-                there = can .there;
-                node = subst (λ z. y < length (z .sets)) (sym named) (node .0);
-                slots = subst (λ z. Slotted load (z .nodes) (z .sets) s t) (sym named) slots;
-                sources-long = can .sources-long;
-                targets-long = can .targets-long;
-              }
-            where
-              slots : Slotted load (nodesIn load n area) (register T (setsIn n area)) s t
-              slots =
-                  record {
-                    source-at = λ k h. can .slots .source-at k h ∙ ap (λ (u : List ℕ). getD u k 0) (sym (sources-register (try-stands .placing) T));
-                    target-at = λ k h. can .slots .target-at k h ∙ ap (λ (u : List ℕ). getD u k 0) (sym (targets-register (try-stands .placing) T));
-                  }
-
-          -- the graph before is the same with the target registered
-          present : cyclic (nodeEdge load (nodesIn load n area) (register T (setsIn n area))) (below n) ≡ cyclic (nodeEdge load (nodesIn load n area) (setsIn n area)) (below n)
-          present = rw (sources-register (try-stands .placing) T, targets-register (try-stands .placing) T) refl
-
-          abbrev tested : Nodes → Nodes
-          tested z = with-test load n z atom y (cyclic (nodeEdge load (z .nodes) (z .sets)) (below n))
-
-          module _ {l₂ : List ℕ} where
-            pub try-accepted : Settled load n l₁ atom y true l₂ → Answers load n area atom T (answerOf Accepted) l₂
-            unfolding decode
-            try-accepted z = record {
-              of = λ w e legal.
-                  let x = trial-accepted trial w e legal (can .other) (sym s1 ∙ left) (sym row13 ∙ free) says in
-                  (sym (x .0), stands-encode held ∙ ap (λ u. encode load n u area) (rw present (sym (x .1))));
+        trial : Trial load n st atom T y
+        trial =
+            record {
+              order = try-stands .order;
+              placing = try-stands .placing;
+              small = try-stands .small;
+              wide = target .few;
+              long = try-stands .long;
+              atom = can .there;
+              node = node .0;
+              set = node .1;
             }
-              where
-                says : cyclic (nodeEdge load (set (nodesIn load n area) atom y) (register T (setsIn n area))) (below n) ≡ false
-                says = subst (λ z. cyclic (nodeEdge load (set (z .nodes) atom y) (z .sets)) (below n) ≡ false) named (z .says)
 
-                held : Stands load n (with-node (tested (with-target st T)) atom y) area l₂
-                held = stands-over target (subst (λ z. Stands load n (with-node (tested z) atom y) l₁ l₂) named (z .stands)) (omega arith)
+        named : nodesState load n l₁ ≡ with-target st T
+        named = stands-named target
 
-            pub try-stays : Settled load n l₁ atom y false l₂ → Answers load n area atom T (answerOf Rejected) l₂
-            unfolding decode
-            try-stays z = record {
-              of = λ w e legal.
-                  let x = trial-rejected trial w e legal (can .other) (sym s1 ∙ left) (sym row13 ∙ free) says in
-                  (sym (x .0), stands-encode held ∙ ap (λ u. encode load n u area) (rw present (sym (x .1))));
+        pub try-settle : CanSettle load n l₁ atom y s t
+        try-settle =
+            record {
+              loadable = rw (stands-long target) (can .loadable);
+              stands = stands-own target;
+              there = can .there;
+              node = subst (λ z. y < length (z .sets)) (sym named) (node .0);
+              slots = subst (λ z. Slotted load (z .nodes) (z .sets) s t) (sym named) slots;
+              sources-long = can .sources-long;
+              targets-long = can .targets-long;
             }
-              where
-                says : cyclic (nodeEdge load (set (nodesIn load n area) atom y) (register T (setsIn n area))) (below n) ≡ true
-                says = subst (λ z. cyclic (nodeEdge load (set (z .nodes) atom y) (z .sets)) (below n) ≡ true) named (z .says)
+          where
+            slots : Slotted load (nodesIn load n area) (register T (setsIn n area)) s t
+            slots =
+                record {
+                  source-at = λ k h. can .slots .source-at k h ∙ ap (λ (u : List ℕ). getD u k 0) (sym (sources-register (try-stands .placing) T));
+                  target-at = λ k h. can .slots .target-at k h ∙ ap (λ (u : List ℕ). getD u k 0) (sym (targets-register (try-stands .placing) T));
+                }
 
-                held : Stands load n (tested (with-target st T)) area l₂
-                held = stands-over target (subst (λ z. Stands load n (tested z) l₁ l₂) named (z .stands)) (omega arith)
+        -- the graph before is the same with the target registered
+        present : cyclic (nodeEdge load (nodesIn load n area) (register T (setsIn n area))) (below n) ≡ cyclic (nodeEdge load (nodesIn load n area) (setsIn n area)) (below n)
+        present = rw (sources-register (try-stands .placing) T, targets-register (try-stands .placing) T) refl
 
--- an unseen target has a place where row 13 doesn't fit
-pub try-register : {load : Load} {n : ℕ} {area : List ℕ} {atom T : ℕ} {s t : List ℕ} → CanTry load n area atom T s t → {m y : ℕ} {q : Bool} → m ≡ getD area (n * n) 0 → q ≡ eqb y m && eqb m n → q ≡ false
-    → y ≡ m → CanRegister n m area
-try-register {n = n} can {m} {y} many room free e =
-    record {
-      free = go (eqb m n) refl;
-      small = try-stands can .small;
-      room = omega (arith, try-room can);
-    }
-  where
-    go : (b : Bool) → eqb m n ≡ b → m < n
-    go true h = absurd (true≢false (sym (room ∙ rw (eq-eqb y m e, h) refl) ∙ free))
-    go false h = let ne : m ≡ n → ⊥ = eqb-false m n h in omega (arith, many ∙ registered-at (try-stands can), try-stands can .few)
+        abbrev tested : Nodes → Nodes
+        tested z = with-test load n z atom y (cyclic (nodeEdge load (z .nodes) (z .sets)) (below n))
+
+        module _ {l₂ : List ℕ} where
+          pub try-accepted : Settled load n l₁ atom y true l₂ → Answers load n area atom T (answerOf Accepted) l₂
+          unfolding decode
+          try-accepted z = record {
+            of = λ w e legal.
+                let x = trial-accepted trial w e legal (can .other) (sym s1 ∙ left) (sym row13 ∙ ne-eqb y n free) says in
+                (sym (x .0), stands-encode held ∙ ap (λ u. encode load n u area) (rw present (sym (x .1))));
+          }
+            where
+              says : cyclic (nodeEdge load (set (nodesIn load n area) atom y) (register T (setsIn n area))) (below n) ≡ false
+              says = subst (λ z. cyclic (nodeEdge load (set (z .nodes) atom y) (z .sets)) (below n) ≡ false) named (z .says)
+
+              held : Stands load n (with-node (tested (with-target st T)) atom y) area l₂
+              held = stands-over target (subst (λ z. Stands load n (with-node (tested z) atom y) l₁ l₂) named (z .stands)) (omega arith)
+
+          pub try-stays : Settled load n l₁ atom y false l₂ → Answers load n area atom T (answerOf Rejected) l₂
+          unfolding decode
+          try-stays z = record {
+            of = λ w e legal.
+                let x = trial-rejected trial w e legal (can .other) (sym s1 ∙ left) (sym row13 ∙ ne-eqb y n free) says in
+                (sym (x .0), stands-encode held ∙ ap (λ u. encode load n u area) (rw present (sym (x .1))));
+          }
+            where
+              says : cyclic (nodeEdge load (set (nodesIn load n area) atom y) (register T (setsIn n area))) (below n) ≡ true
+              says = subst (λ z. cyclic (nodeEdge load (set (z .nodes) atom y) (z .sets)) (below n) ≡ true) named (z .says)
+
+              held : Stands load n (tested (with-target st T)) area l₂
+              held = stands-over target (subst (λ z. Stands load n (tested z) l₁ l₂) named (z .stands)) (omega arith)

@@ -4,7 +4,10 @@ ghost use mathlib.Core.Bool.{_&&_};
 ghost use Prim.Native.Nat.{_+_, _*_, _≤_, _<_};
 ghost use lib.Dec.{eqb};
 ghost use lib.ListN.{length, getD};
+ghost use Rattle.entry_set.specs.Sets.{number};
+ghost use Rattle.set_order.specs.Steps.{CanFind};
 ghost use Rattle.move_area.specs.Bodies.{laneAt};
+ghost use Rattle.moving.specs.Early.{Place};
 
 // Step 1: the graph has a cycle, and node x is outside the stored component.
 pub fn outside(area: &[u32], n: usize, x: usize) -> bool
@@ -18,12 +21,10 @@ pub fn outside(area: &[u32], n: usize, x: usize) -> bool
     area[square + 24 + 10 * n + x] == 0
 }
 
-// Row 13: the target is unseen, and n sets are registered.
-pub fn no_room(to: usize, registered: usize, n: usize) -> bool
-    ensures { λ r. ⌜ r ≡ eqb to registered && eqb registered n ⌝ }
+// The target's place: its node, or the next one. Where that is n, row 13 fits: the target is unseen, and n sets are registered.
+pub fn place(area: &[u32], n: usize, registered: usize, target: entry_set::EntrySet) -> usize
+    requires { ⌜ CanFind (now area) (n * n + 24) n registered ⌝ }
+    ensures { λ x. ⌜ Place (now (area .entry)) n registered (number target) x ⌝ }
 {
-    if to != registered {
-        return false;
-    }
-    registered == n
+    set_order::find(area, n * n + 24, n, registered, target)
 }

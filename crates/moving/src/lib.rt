@@ -38,13 +38,12 @@ pub fn try_checked(
     let square = n * n;
     let from = area[square + 24 + 24 * n + atom] as usize;
     let registered = area[square] as usize;
-    let to = set_order::find(area, square + 24, n, registered, target);
+    let to = early::place(area, n, registered, target);
     let outside = early::outside(area, n, from);
-    let full = early::no_room(to, registered, n);
     if outside {
         return Tried::Rejected;
     }
-    if full {
+    if to == n {
         return Tried::Full;
     }
     writes::register(area, n, registered, to, target);

@@ -24,7 +24,7 @@ fn add_node(area: &mut [u32], n: usize, r: usize, s: entry_set::EntrySet)
 
 // It does if `to` is no registered node.
 pub fn register(area: &mut [u32], n: usize, r: usize, to: usize, s: entry_set::EntrySet)
-    requires { ⌜ (to ≡ r → CanRegister n r (now area)) ⌝ }
+    requires { ⌜ CanRegister n to (now area) ⌝ }
     ensures { λ _. ⌜ now (area .exit) ≡ cond (eqb to r) (registered n r (number s) (now (area .entry))) (now (area .entry)) ⌝ }
 {
     if to == r {
