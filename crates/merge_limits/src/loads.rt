@@ -2,8 +2,8 @@
 use crate::done_code;
 use crate::four;
 use crate::said_code;
-use crate::say;
-use crate::wide;
+use case_lines::say;
+use case_lines::wide;
 use merge_state::ChunkIdx;
 
 // Module 3 is listed with both chunks, and has side effects.

@@ -2,16 +2,14 @@
 // else the row that refuses; or a number of the area or of an answer list.
 mod loads; // loads.rt: loadings
 
+use case_lines::say;
+use case_lines::wide;
 use chunk_optimizer::Done;
 use chunk_optimizer::PassAnswer;
 use chunk_optimizer::Said;
 use merge_state::ChunkIdx;
 use merge_state::ModuleIdx;
 use merge_state::Sizes;
-
-fn wide(x: u32) -> u64 {
-    x as u64
-}
 
 fn done_code(r: Done) -> u64 {
     match r {
@@ -41,14 +39,7 @@ fn pass_code(r: PassAnswer) -> u64 {
     }
 }
 
-// A line.
-fn say(name: &[u8], x: u64) {
-    io::write_all(1, name);
-    io::print_decimal(1, x);
-    io::write_all(1, b"\n");
-}
-
-// Four chunks, two of them initial, four modules, four list entries and four bits.
+// Four chunks, four modules, four list entries and four bits.
 fn four() -> Sizes {
     Sizes {
         chunks: 4,
@@ -58,36 +49,30 @@ fn four() -> Sizes {
     }
 }
 
-// The area of four() before any module is listed: two chunks, keys 0 and 1 registered for them, no module assigned.
+// Two initial chunks: module 0 in the one, module 1 in the other, and bit 0 the first one's set.
 fn begin(area: &mut [u32; 432]) {
-    area[16] = 2;
-    area[17] = 2;
-    area[129] = 1;
-    area[130] = 4294967295;
-    area[131] = 4294967295;
-    area[176] = 4294967295;
-    area[177] = 4294967295;
-    area[178] = 4294967295;
-    area[179] = 4294967295;
+    let starts = [0u32, 1, 2];
+    let modules = [0u32, 1];
+    let sets = [1u64; 1];
+    let chunks = [0u32; 1];
+    let effects = [0u32, 0, 0, 5];
+    let r = chunk_optimizer::new(four(), 2, &starts, &modules, &sets, &chunks, &effects, area);
+    say(b"two initial chunks: ", done_code(r));
 }
 
-// Modules 0 and 1 in the initial chunks, 2 and 3 in chunks that need creation; 0 depends on 1, and 3 on 2.
+// Modules 2 and 3 in chunks that need creation; 0 depends on 1, and 3 on 2.
 fn two_candidates(area: &mut [u32; 432]) {
-    let effects = [0u32; 4];
+    let effects = [0u32, 0, 0, 5];
     let third = [4u64; 1];
     let fourth = [8u64; 1];
     let starts = [0u32, 1, 1, 1, 2];
     let dependencies = [1u32, 2];
-    let a = chunk_optimizer::add_module_to_chunk(four(), area, ModuleIdx(0), ChunkIdx(0), &effects);
-    say(b"a module in chunk 0: ", done_code(a));
-    let b = chunk_optimizer::add_module_to_chunk(four(), area, ModuleIdx(1), ChunkIdx(1), &effects);
-    say(b"a module in chunk 1: ", done_code(b));
-    let c = chunk_optimizer::init_module_assignment(four(), area, ModuleIdx(2), &third, &effects);
-    say(b"a set of its own: ", done_code(c));
-    let d = chunk_optimizer::init_module_assignment(four(), area, ModuleIdx(3), &fourth, &effects);
-    say(b"another: ", done_code(d));
-    let e = chunk_optimizer::calc_chunk_dependencies(four(), area, &starts, &dependencies);
-    say(b"dependencies: ", done_code(e));
+    let a = chunk_optimizer::init_module_assignment(four(), area, ModuleIdx(2), &third, &effects);
+    say(b"a set of its own: ", done_code(a));
+    let b = chunk_optimizer::init_module_assignment(four(), area, ModuleIdx(3), &fourth, &effects);
+    say(b"another: ", done_code(b));
+    let c = chunk_optimizer::calc_chunk_dependencies(four(), area, &starts, &dependencies);
+    say(b"dependencies: ", done_code(c));
 }
 
 // The warning says no although a loop runs through a chunk that was merged away: 2 is merged into 0, then 3 into 1, while 0 depends on 1 and 3 on 2.
@@ -146,49 +131,48 @@ fn again(area: &mut [u32; 432]) {
 fn listed_twice(area: &mut [u32; 432]) {
     let effects = [0u32, 0, 0, 5];
     let set = [4u64; 1];
-    let starts = [0u32, 1, 2, 2, 2];
-    let dependencies = [1u32, 0];
-    let a = chunk_optimizer::add_module_to_chunk(four(), area, ModuleIdx(0), ChunkIdx(0), &effects);
-    say(b"module 0 in chunk 0: ", done_code(a));
-    let b = chunk_optimizer::add_module_to_chunk(four(), area, ModuleIdx(0), ChunkIdx(1), &effects);
-    say(b"and in chunk 1: ", done_code(b));
-    let c = chunk_optimizer::init_module_assignment(four(), area, ModuleIdx(1), &set, &effects);
-    say(b"module 1 in chunk 2: ", done_code(c));
-    let d = chunk_optimizer::calc_chunk_dependencies(four(), area, &starts, &dependencies);
-    say(b"each depends on the other: ", done_code(d));
+    let starts = [0u32, 1, 1, 2, 2];
+    let dependencies = [2u32, 0];
+    let a = chunk_optimizer::add_module_to_chunk(four(), area, ModuleIdx(0), ChunkIdx(1), &effects);
+    say(b"module 0 in chunk 1 too: ", done_code(a));
+    let b = chunk_optimizer::init_module_assignment(four(), area, ModuleIdx(2), &set, &effects);
+    say(b"the last list entry, module 2 in chunk 2: ", done_code(b));
+    let c = chunk_optimizer::calc_chunk_dependencies(four(), area, &starts, &dependencies);
+    say(b"each depends on the other: ", done_code(c));
     say(b"0 depends on 2: ", wide(area[2]));
     say(b"1 depends on 2: ", wide(area[6]));
     say(b"2 depends on 0: ", wide(area[8]));
     say(b"2 depends on 1: ", wide(area[9]));
-}
-
-// L list entries are in use, and one more is asked for.
-fn last_entry(area: &mut [u32; 432]) {
-    let effects = [0u32, 0, 0, 5];
-    let set = [4u64; 1];
-    let a = chunk_optimizer::init_module_assignment(four(), area, ModuleIdx(3), &set, &effects);
-    say(b"the last list entry: ", done_code(a));
-    say(b"side effects of chunk 2: ", wide(area[122]));
-    let b = chunk_optimizer::init_module_assignment(four(), area, ModuleIdx(3), &set, &effects);
-    say(b"one past it: ", done_code(b));
-    let c = chunk_optimizer::add_module_to_chunk(four(), area, ModuleIdx(4), ChunkIdx(0), &effects);
-    say(b"a module that isn't there: ", done_code(c));
+    let d = chunk_optimizer::init_module_assignment(four(), area, ModuleIdx(3), &set, &effects);
+    say(b"one entry past the last: ", done_code(d));
 }
 
 // One chunk, which is initial.
 fn one_chunk(area: &mut [u32; 129], one: Sizes) {
-    area[1] = 1;
-    area[2] = 1;
+    let starts = [0u32; 2];
+    let modules = [0u32; 1];
+    let sets = [1u64; 1];
+    let chunks = [0u32; 1];
     let effects = [0u32; 1];
-    let set = [1u64; 1];
-    let a = chunk_optimizer::init_module_assignment(one, area, ModuleIdx(0), &set, &effects);
-    say(b"C = 1, a set of its own: ", done_code(a));
-    let b = chunk_optimizer::add_module_to_chunk(one, area, ModuleIdx(0), ChunkIdx(0), &effects);
-    say(b"a module in the chunk: ", done_code(b));
-    let c = chunk_optimizer::is_reachable(one, area, ChunkIdx(0), ChunkIdx(0));
-    say(b"it reaches itself: ", said_code(c));
-    let d = chunk_optimizer::would_create_circular_dependency(one, area, ChunkIdx(0), ChunkIdx(0));
-    say(b"it is merged into itself: ", said_code(d));
+    let a = chunk_optimizer::new(
+        one,
+        1,
+        &starts,
+        &modules[1..],
+        &sets[1..],
+        &chunks[1..],
+        &effects,
+        area,
+    );
+    say(b"C = 1: ", done_code(a));
+    let b = chunk_optimizer::init_module_assignment(one, area, ModuleIdx(0), &sets, &effects);
+    say(b"a set of its own: ", done_code(b));
+    let c = chunk_optimizer::add_module_to_chunk(one, area, ModuleIdx(0), ChunkIdx(0), &effects);
+    say(b"a module in the chunk: ", done_code(c));
+    let d = chunk_optimizer::is_reachable(one, area, ChunkIdx(0), ChunkIdx(0));
+    say(b"it reaches itself: ", said_code(d));
+    let e = chunk_optimizer::would_create_circular_dependency(one, area, ChunkIdx(0), ChunkIdx(0));
+    say(b"it is merged into itself: ", said_code(e));
 }
 
 // A pass where no chunk needs creation.
@@ -208,54 +192,50 @@ fn no_candidates(area: &mut [u32; 129], one: Sizes) {
     say(b"a pass over no candidate: ", pass_code(r));
 }
 
+// Four initial chunks, without a module or a set.
+fn load_all(area: &mut [u32; 432]) {
+    let starts = [0u32; 5];
+    let modules = [0u32; 1];
+    let sets = [1u64; 1];
+    let chunks = [0u32; 1];
+    let effects = [0u32; 4];
+    let r = chunk_optimizer::new(
+        four(),
+        4,
+        &starts,
+        &modules[1..],
+        &sets[1..],
+        &chunks[1..],
+        &effects,
+        area,
+    );
+    say(b"initial = C: ", done_code(r));
+}
+
 // All four chunks are initial.
-fn all_initial() {
-    let mut area = [0u32; 432];
-    area[16] = 4;
-    area[17] = 4;
+fn all_initial(area: &mut [u32; 432]) {
     let effects = [0u32; 4];
     let set = [4u64; 1];
-    let a = chunk_optimizer::init_module_assignment(
-        four(),
-        &mut area,
-        ModuleIdx(0),
-        &set,
-        &effects,
-    );
-    say(b"initial = C, a set of its own: ", done_code(a));
-    let b = chunk_optimizer::register_chunk_graph_index(
-        four(),
-        &mut area,
-        ChunkIdx(3),
-        ChunkIdx(3),
-    );
+    let a = chunk_optimizer::init_module_assignment(four(), area, ModuleIdx(0), &set, &effects);
+    say(b"a set of its own: ", done_code(a));
+    let b = chunk_optimizer::register_chunk_graph_index(four(), area, ChunkIdx(3), ChunkIdx(0));
     say(b"the last key: ", done_code(b));
-    let c = chunk_optimizer::register_chunk_graph_index(
-        four(),
-        &mut area,
-        ChunkIdx(4),
-        ChunkIdx(3),
-    );
+    let c = chunk_optimizer::register_chunk_graph_index(four(), area, ChunkIdx(4), ChunkIdx(0));
     say(b"one past it: ", done_code(c));
     area[124] = 1;
-    let d = chunk_optimizer::register_chunk_graph_index(
-        four(),
-        &mut area,
-        ChunkIdx(3),
-        ChunkIdx(3),
-    );
+    let d = chunk_optimizer::register_chunk_graph_index(four(), area, ChunkIdx(3), ChunkIdx(0));
     say(b"an initial chunk that needs creation: ", done_code(d));
 }
 
 fn merges() {
-    let mut area = [0u32; 432];
+    let mut area = [7u32; 432];
     begin(&mut area);
     two_candidates(&mut area);
     stale(&mut area);
 }
 
 fn passes() {
-    let mut area = [0u32; 432];
+    let mut area = [7u32; 432];
     begin(&mut area);
     two_candidates(&mut area);
     merging_pass(&mut area);
@@ -263,10 +243,9 @@ fn passes() {
 }
 
 fn lists() {
-    let mut area = [0u32; 432];
+    let mut area = [7u32; 432];
     begin(&mut area);
     listed_twice(&mut area);
-    last_entry(&mut area);
 }
 
 fn smallest() {
@@ -276,9 +255,15 @@ fn smallest() {
         entries: 1,
         bits: 1,
     };
-    let mut area = [0u32; 129];
+    let mut area = [7u32; 129];
     one_chunk(&mut area, one);
     no_candidates(&mut area, one);
+}
+
+fn whole() {
+    let mut area = [7u32; 432];
+    load_all(&mut area);
+    all_initial(&mut area);
 }
 
 fn main() {
@@ -286,6 +271,6 @@ fn main() {
     passes();
     lists();
     smallest();
-    all_initial();
+    whole();
     loads::cases();
 }

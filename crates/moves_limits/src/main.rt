@@ -1,5 +1,7 @@
 // The move graph's calls at their limits. Each line is a case and what is answered: 100 for acyclic or accepted, 200 for cyclic or rejected, else
 // the row that refuses; or a number of the area.
+use case_lines::say;
+use case_lines::wide;
 use reduced_chunk_graph::LoadAnswer;
 use reduced_chunk_graph::MoveAnswer;
 
@@ -17,17 +19,6 @@ fn move_code(r: MoveAnswer) -> u64 {
         MoveAnswer::Rejected => 200,
         MoveAnswer::Refused(row) => wide(row),
     }
-}
-
-fn wide(x: u32) -> u64 {
-    x as u64
-}
-
-// A line.
-fn say(name: &[u8], x: u64) {
-    io::write_all(1, name);
-    io::print_decimal(1, x);
-    io::write_all(1, b"\n");
 }
 
 // 0, 1, 2, ..
