@@ -1,7 +1,8 @@
 // Recorded numbers in base ten: read from bytes, and taken one by one. Behind the last there are zeros.
 ghost use mathlib.Core.Path.{_≡_};
 ghost use Prim.Native.Nat.{_+_, _≤_, _<_};
-ghost use lib.ListN.{length};
+ghost use lib.ListN.{length, getD};
+ghost use Rattle.replay.specs.Compared.{Skipped};
 
 fn is_digit(b: u8) -> bool {
     if b < 48 {
@@ -93,7 +94,9 @@ pub fn parse(input: &[u8], numbers: &mut [u64]) -> usize
 }
 
 // The number at a place.
-pub fn one(numbers: &[u64], at: usize) -> u64 {
+pub fn one(numbers: &[u64], at: usize) -> u64
+    ensures { λ r. ⌜ r ≡ getD (now (numbers .entry)) at 0 ⌝ }
+{
     if numbers.len() <= at {
         return 0;
     }
@@ -102,7 +105,7 @@ pub fn one(numbers: &[u64], at: usize) -> u64 {
 
 // The place behind `count` numbers from a place on, the end at most.
 pub fn skip(numbers: &[u64], at: usize, count: usize) -> usize
-    ensures { λ r. ⌜ r ≤ length (now (numbers .entry)) ⌝ }
+    ensures { λ r. ⌜ Skipped (length (now (numbers .entry))) at count r ⌝ }
 {
     let n = numbers.len();
     if n <= at {
@@ -115,7 +118,9 @@ pub fn skip(numbers: &[u64], at: usize, count: usize) -> usize
 }
 
 // The number i places further.
-pub fn further(numbers: &[u64], at: usize, i: usize) -> u64 {
+pub fn further(numbers: &[u64], at: usize, i: usize) -> u64
+    ensures { λ r. ⌜ r ≡ getD (now (numbers .entry)) (at + i) 0 ⌝ }
+{
     one(numbers, skip(numbers, at, i))
 }
 

@@ -1,0 +1,2 @@
+-- What the replay takes of its list. Assumes nothing.
+pub mod Compared
