@@ -1,22 +1,21 @@
 -- The call of the pass, refused or not. Assumes nothing.
-use Prim.Native.Nat.{ℕ, _+_, _<_, _≤_}
+use Prim.Native.Nat.{ℕ, _≤_}
 use native.Mathlib.Omega.{arith}
 use mathlib.Core.Path.{_≡_, refl, sym, ap, ap₂, _∙_}
-use mathlib.Core.Bool.{Bool, not, _||_}
+use mathlib.Core.Bool.{not}
 use mathlib.Core.List.{List}
 use lib.ListN.{length}
-use lib.Dec.{eqb, ltb}
+use lib.Dec.{eqb}
 use borrow.Author.Tests.{eqb-true, ltb-false, not-false}
 use Rattle.graphs.specs.Bools.{or-false-left, or-false-right}
 use Rattle.graphs.specs.Count.{count, count-le}
 use Rattle.merge_state.specs.declared.Sizes.{Sizes}
-use Rattle.merge_state.specs.Methods.{passed}
-use Rattle.merge_state.specs.Table.{Answer, refused, lists, pass, later, acted}
+use Rattle.merge_state.specs.Table.{refused, lists, pass, later, acted}
 use Rattle.merge_state.specs.Kept.{none-fits}
 use Rattle.merge_area.specs.Layout.{cell, head}
 use Rattle.merge_area.specs.Read.{needs-in, read}
 use Rattle.merge_area.specs.Writes.{write}
-use Rattle.merge_area.specs.Calls.{refusal, Called, lists-after, candidates, PassCalled}
+use Rattle.merge_area.specs.Calls.{refusal, lists-after, candidates, PassCalled}
 use Rattle.merge_laws.specs.Rows.{free, refused-called, acted-called}
 use Rattle.merge_pass.specs.Turns.{kind-of, CanPass, PassedIn}
 use Rattle.merge_pass.specs.Lists.{kinds-listed, list-length}

@@ -1,5 +1,5 @@
 use native.Mathlib.Omega.{arith}
-use mathlib.Core.Path.{_≡_, refl, sym, ap, _∙_}
+use mathlib.Core.Path.{refl, sym, _∙_}
 use Rattle.merge_reads.specs.Pass.{proposed, place-merge}
 use Rattle.merge_pass.specs.Placing.{placed-merged, placed-created}
 use borrow.Author.Needs.{needs}
