@@ -1,10 +1,7 @@
 // The rows 1 to 6 and 9, which come before a later call's own.
 ghost use mathlib.Core.Path.{_≡_};
 ghost use Prim.Native.Nat.{_≤_};
-ghost use lib.ListN.{length};
 ghost use Rattle.ledger.specs.Graph.{lent};
-ghost use Rattle.ledger.specs.Loading.{refusal};
-ghost use Rattle.move_area.specs.Area.{consistent};
 ghost use Rattle.reduced_chunk_graph.specs.Later.{later, CanSlot, Sane};
 
 // Row 9 for a load of any size within the limits. Where the area is consistent, `sources` and `targets` then have its slots.
@@ -127,66 +124,6 @@ pub fn check_small(
     )
 }
 
-// Row 9, without the slots.
-fn is_consistent_large(
-    a: usize,
-    d: usize,
-    e: usize,
-    n: usize,
-    starts: &[u32],
-    dependencies: &[u32],
-    hosts: &[u32],
-    area: &[u32],
-) -> bool
-    requires { ⌜ refusal (lent a d e (now starts) (now dependencies) (now hosts)) n (length (now area)) ≡ 0 ⌝ }
-    ensures { λ r. ⌜ r ≡ consistent (lent a d e (now (starts .entry)) (now (dependencies .entry)) (now (hosts .entry))) n (now (area .entry)) ⌝ }
-{
-    let mut sources = [0u32; 8448];
-    let mut targets = [0u32; 8448];
-    check_large(
-        a,
-        d,
-        e,
-        n,
-        starts,
-        dependencies,
-        hosts,
-        area,
-        &mut sources,
-        &mut targets,
-    )
-}
-
-// Row 9 for a small load, without the slots.
-fn is_consistent_small(
-    a: usize,
-    d: usize,
-    e: usize,
-    n: usize,
-    starts: &[u32],
-    dependencies: &[u32],
-    hosts: &[u32],
-    area: &[u32],
-) -> bool
-    requires { ⌜ (refusal (lent a d e (now starts) (now dependencies) (now hosts)) n (length (now area)) ≡ 0) × (n ≤ 128) × (d ≤ 768) ⌝ }
-    ensures { λ r. ⌜ r ≡ consistent (lent a d e (now (starts .entry)) (now (dependencies .entry)) (now (hosts .entry))) n (now (area .entry)) ⌝ }
-{
-    let mut sources = [0u32; 1024];
-    let mut targets = [0u32; 1024];
-    check_small(
-        a,
-        d,
-        e,
-        n,
-        starts,
-        dependencies,
-        hosts,
-        area,
-        &mut sources,
-        &mut targets,
-    )
-}
-
 // The first of the rows 1 to 6 and 9 that fits, 0 where none does.
 pub fn later_row(
     a: usize,
@@ -200,20 +137,18 @@ pub fn later_row(
 ) -> u32
     ensures { λ r. ⌜ r ≡ later (lent a d e (now (starts .entry)) (now (dependencies .entry)) (now (hosts .entry))) n (now (area .entry)) ⌝ }
 {
-    let q = load_checks::refusal(a, d, e, n, starts, dependencies, hosts, true, area.len());
-    if q != 0 {
-        return q;
-    }
-    if n <= 128 {
-        if d <= 768 {
-            if is_consistent_small(a, d, e, n, starts, dependencies, hosts, area) {
-                return 0;
-            }
-            return 9;
-        }
-    }
-    if is_consistent_large(a, d, e, n, starts, dependencies, hosts, area) {
-        return 0;
-    }
-    9
+    let mut degrees = [0u32; 1024];
+    let mut order = [0u32; 1024];
+    super::listed::listed_row(
+        a,
+        d,
+        e,
+        n,
+        starts,
+        dependencies,
+        hosts,
+        area,
+        &mut degrees,
+        &mut order,
+    )
 }
