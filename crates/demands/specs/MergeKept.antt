@@ -50,7 +50,7 @@ write-holds z a (init-module-assignment m set effs) h =
 write-holds z a (add-module-to-chunk m x effs) h =
     let hd = free z a (add-module-to-chunk m x effs) refl h .stood .headed in
     let c = may-add z a m x effs refl h .0 in
-    record { graph = read-append z a x m effs c (omega (arith, hd .named, hd .fits)); same = append-length z a x m (flag effs m) c }
+    record { graph = read-append z a x m effs c (omega (arith, hd .named, hd .fits)); same = append-length z a x m (flag effs m) }
 write-holds z a (register-chunk-graph-index k x) h =
     let hd = free z a (register-chunk-graph-index k x) refl h .stood .headed in
     let c = may-register z a k x refl h in

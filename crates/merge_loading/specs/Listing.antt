@@ -6,18 +6,18 @@ use native.Mathlib.Decide.{ℕ-discrete}
 use mathlib.Core.Path.{_≡_, refl, sym, ap, _∙_}
 use mathlib.Core.Bool.{Bool, true, false}
 use mathlib.Core.List.{List}
-use lib.ListN.{getD, length, set, length-set}
-use lib.Seq.{getD-set-same, getD-set-other}
+use lib.ListN.{getD, length}
 use lib.Dec.{leb}
 use borrow.Author.Tests.{le-leb, lt-leb}
 use Rattle.graphs.specs.Count.{count, count-add, count-all-no}
 use Rattle.merge_state.specs.declared.Sizes.{Sizes}
 use Rattle.merge_state.specs.State.{flag}
 use Rattle.merge_state.specs.Loading.{lister}
-use Rattle.merge_area.specs.Layout.{room, cell, head, home, side, entry-chunk, entry-module}
+use Rattle.merge_area.specs.Layout.{room, cell, head}
 use Rattle.merge_area.specs.Writes.{append-area}
 use Rattle.merge_area.specs.Within.{Within}
 use Rattle.merge_laws.specs.Can.{CanAppend}
+use Rattle.merge_reads.specs.Reads.{append-length, append-used}
 use Rattle.merge_loading.specs.Loading.{listed-area}
 
 -- the lists of the chunks below x end at or before k
@@ -95,22 +95,6 @@ module _ {starts : List ℕ} {n k : ℕ} {x : ℕ} (can : CanSeek starts n x k) 
       after : (j : ℕ) → j < n - x → p (x + j) ≡ false
       after j b = lt-leb (getD starts (x + j + 1) 0) k (omega (arith, up j (omega arith)))
 
--- an entry more
-module _ (z : Sizes) (a : List ℕ) (x m : ℕ) (e : Bool) where
-  append-long : length (append-area z a x m e) ≡ length a
-  unfolding append-area
-  append-long = simp length-set
-
-  append-one : room z ≤ length a → cell (append-area z a x m e) (head z 4) ≡ cell a (head z 4) + 1
-  unfolding append-area
-  append-one long =
-      let u = cell a (head z 4) in
-      let a₁ = set a (entry-chunk z u) x in
-      let a₂ = set a₁ (entry-module z u) m in
-      let a₃ = set a₂ (head z 4) (u + 1) in
-      getD-set-other (set a₃ (home z m) x) (side z x) (head z 4) _ 0 (omega arith) ∙ getD-set-other a₃ (home z m) (head z 4) x 0 (omega arith)
-      ∙ getD-set-same a₂ (head z 4) (u + 1) 0 (simp length-set (omega arith))
-
 -- k entries
 module _ (z : Sizes) (i : ℕ) (starts modules effects a : List ℕ) where
   abbrev listed : ℕ → List ℕ
@@ -119,13 +103,13 @@ module _ (z : Sizes) (i : ℕ) (starts modules effects a : List ℕ) where
   pub listed-long : (k : ℕ) → length (listed k) ≡ length a
   unfolding listed-area
   listed-long zero = refl
-  listed-long (suc k) = append-long z (listed k) (lister starts i k) (getD modules k 0) (flag effects (getD modules k 0)) ∙ listed-long k
+  listed-long (suc k) = append-length z (listed k) (lister starts i k) (getD modules k 0) (flag effects (getD modules k 0)) ∙ listed-long k
 
   pub listed-used : (k : ℕ) → room z ≤ length a → cell (listed k) (head z 4) ≡ cell a (head z 4) + k
   unfolding listed-area
   listed-used zero long = omega arith
   listed-used (suc k) long =
-      omega (arith, append-one z (listed k) (lister starts i k) (getD modules k 0) (flag effects (getD modules k 0)) (omega (arith, listed-long k)), listed-used k long)
+      omega (arith, append-used z (listed k) (lister starts i k) (getD modules k 0) (flag effects (getD modules k 0)) (omega (arith, listed-long k)), listed-used k long)
 
 -- every entry of the module list can be listed
 pub record CanList (z : Sizes) (i : ℕ) (starts modules effects a : List ℕ) : Type 0 where

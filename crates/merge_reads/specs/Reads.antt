@@ -97,7 +97,23 @@ module _ (z : Sizes) (a : List ℕ) (x : ℕ) (can : CanCreate z a) where
       b : List ℕ
       b = create-area z a x
 
--- a module is listed with a chunk
+-- a module is listed with a chunk: the area is as long, and has one entry more
+module _ (z : Sizes) (a : List ℕ) (x m : ℕ) (e : Bool) where
+  pub append-length : length (append-area z a x m e) ≡ length a
+  unfolding append-area
+  append-length = simp length-set
+
+  pub append-used : room z ≤ length a → cell (append-area z a x m e) (head z 4) ≡ cell a (head z 4) + 1
+  unfolding append-area
+  append-used long =
+      let u = cell a (head z 4) in
+      let a₁ = set a (entry-chunk z u) x in
+      let a₂ = set a₁ (entry-module z u) m in
+      let a₃ = set a₂ (head z 4) (u + 1) in
+      getD-set-other (set a₃ (home z m) x) (side z x) (head z 4) _ 0 (omega arith) ∙ getD-set-other a₃ (home z m) (head z 4) x 0 (omega arith)
+      ∙ getD-set-same a₂ (head z 4) (u + 1) 0 (simp length-set (omega arith))
+
+-- and each number
 module _ (z : Sizes) (a : List ℕ) (x m : ℕ) (e : Bool) (can : CanAppend z a x m) where
   abbrev used : ℕ
   used = cell a (head z 4)
@@ -132,12 +148,6 @@ module _ (z : Sizes) (a : List ℕ) (x m : ℕ) (e : Bool) (can : CanAppend z a 
   append-home =
       getD-set-other a₄ (side z x) (home z m) effect 0 (omega (arith, can .chunk)) ∙ getD-set-same a₃ (home z m) x 0 (rw (length-set, length-set, length-set) (omega (arith, can .long, can .listed)))
 
-  append-used : cell (append-area z a x m e) (head z 4) ≡ used + 1
-  unfolding append-area
-  append-used =
-      getD-set-other a₄ (side z x) (head z 4) effect 0 (omega arith) ∙ getD-set-other a₃ (home z m) (head z 4) x 0 (omega arith)
-      ∙ getD-set-same a₂ (head z 4) (used + 1) 0 (rw (length-set, length-set) (omega (arith, can .long)))
-
   append-module : cell (append-area z a x m e) (entry-module z used) ≡ m
   unfolding append-area
   append-module =
@@ -150,10 +160,6 @@ module _ (z : Sizes) (a : List ℕ) (x m : ℕ) (e : Bool) (can : CanAppend z a 
       getD-set-other a₄ (side z x) (entry-chunk z used) effect 0 (omega (arith, can .chunk)) ∙ getD-set-other a₃ (home z m) (entry-chunk z used) x 0 (omega (arith, can .listed))
       ∙ getD-set-other a₂ (head z 4) (entry-chunk z used) (used + 1) 0 (omega arith) ∙ getD-set-other a₁ (entry-module z used) (entry-chunk z used) m 0 (omega (arith, can .left))
       ∙ getD-set-same a (entry-chunk z used) x 0 (omega (arith, can .long, can .left))
-
-  pub append-length : length (append-area z a x m e) ≡ length a
-  unfolding append-area
-  append-length = simp length-set
 
   -- below the lists and beyond the side effects
   early : (i : ℕ) → i < z .chunks * z .chunks + 32 + 18 * z .chunks → (i ≡ head z 4 → ⊥) → cell (append-area z a x m e) i ≡ cell a i
@@ -170,7 +176,7 @@ module _ (z : Sizes) (a : List ℕ) (x m : ℕ) (effs : List ℕ) (can : CanAppe
     effects = effects-put z a b x (effects-in z a x || e) (can .chunk) (rw (lt-ltb x (z .chunks) (can .chunk)) (append-side z a x m e can))
         (λ u l n. append-far z a x m e can (side z u) (omega arith) (omega arith) (omega arith) (omega arith) (omega arith)) i;
     needs = needs-same z a b (λ u l. append-far z a x m e can (need z u) (omega arith) (omega arith) (omega arith) (omega arith) (omega (arith, can .chunk))) i;
-    log = log-more z a b x m (append-used z a x m e can)
+    log = log-more z a b x m (append-used z a x m e (can .long))
         (λ u l. (
           append-far z a x m e can (entry-chunk z u) (omega arith) (omega (arith, can .left)) (omega arith) (omega (arith, can .listed)) (omega (arith, can .chunk)),
           append-far z a x m e can (entry-module z u) (omega (arith, can .left)) (omega arith) (omega arith) (omega (arith, can .listed)) (omega (arith, can .chunk)),
@@ -331,5 +337,5 @@ module _ (z : Sizes) (a : List ℕ) (m v : ℕ) (effs : List ℕ) (can : CanAssi
   init-length e = go (eqb found None) refl
     where
       go : (t : Bool) → eqb found None ≡ t → length (cond t (append-area z (open-area z a v) (cell a (head z 1)) m e) (append-area z a found m e)) ≡ length a
-      go true q = append-length z (open-area z a v) (cell a (head z 1)) m e (later (eqb-true found None q)) ∙ open-length z a v
-      go false q = append-length z a found m e (old (eqb-false found None q))
+      go true q = append-length z (open-area z a v) (cell a (head z 1)) m e ∙ open-length z a v
+      go false q = append-length z a found m e
