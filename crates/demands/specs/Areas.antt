@@ -19,7 +19,7 @@ use Rattle.move_area.specs.BodyLaws.{read-edges, read-counts}
 use Rattle.move_area.specs.Area.{State, bodies, encode, decode, consistent, nodewise}
 use Rattle.move_area.specs.Held.{Held, bodies-sized, consistent-held, consistent-whole}
 use Rattle.move_area.specs.Calls as on-area
-use Rattle.move_area.specs.History.{Holding, holding-consistent, call-area, call-step}
+use Rattle.move_area.specs.History.{Holding, holding-decode, holding-consistent, call-area, call-step}
 
 -- an area that no row from 1 to 9 turns back holds the ledger that is read from it
 pub holding : (load : Load) (N : ℕ) (area : List ℕ) → refusal load N (length area) ≡ 0 → consistent load N area ≡ true → Holding load N area (decode load N area)
@@ -69,6 +69,13 @@ pub step-answer : (load : Load) (N : ℕ) (area : List ℕ) (a : ℕ) (s : List 
     → on-area.try-move load N area a s .answer ≡ move load N (decode load N area .ledger) a s .answer
 unfolding call call-area
 step-answer load N area a s h = call-step load N area (decode load N area) (try-move a s) h .answers
+
+-- and leaves an area that says what the ledger's next state does
+pub step-after : (load : Load) (N : ℕ) (area : List ℕ) (a : ℕ) (s : List ℕ) → Holding load N area (decode load N area)
+    → decode load N (on-area.try-move load N area a s .area) .ledger ≡ move load N (decode load N area .ledger) a s .after
+unfolding call call-area
+step-after load N area a s h =
+    let p = call-step load N area (decode load N area) (try-move a s) h in ap (λ (u : State). u .ledger) (holding-decode (p .holds)) ∙ p .follows
 
 pub after-step : (load : Load) (N : ℕ) (area : List ℕ) (a : ℕ) (s : List ℕ) (b : ℕ) (t : List ℕ) → Holding load N area (decode load N area)
     → on-area.try-move load N (on-area.try-move load N area a s .area) b t .answer ≡ move load N (move load N (decode load N area .ledger) a s .after) b t .answer

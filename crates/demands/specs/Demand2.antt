@@ -1,6 +1,6 @@
 -- Demand 2 of the move graph: what an unrefused move answers and leaves. Assumes nothing.
 use Prim.Native.Nat.{ℕ}
-use mathlib.Core.Path.{_≡_, refl, sym, ap, subst, _∙_}
+use mathlib.Core.Path.{_≡_, refl, sym, ap, ap₂, subst}
 use mathlib.Core.Logic.{_↔_}
 use mathlib.Core.Bool.{true, false, not}
 use mathlib.Core.List.{List}
@@ -15,13 +15,13 @@ use Rattle.entry_set.specs.Sets.{value, legal}
 use Rattle.ledger.specs.Graph.{Load, at, mult, edge}
 use Rattle.ledger.specs.GraphLaws.{edge-source, outside-stays}
 use Rattle.ledger.specs.Answer.{accepted, rejected, is-refused}
-use Rattle.ledger.specs.Ledger.{Ledger, Answered, full, step1, step2, step3, move, Call}
+use Rattle.ledger.specs.Ledger.{Ledger, Answered, gives, full, step1, step2, step3, move, Call}
 use Rattle.ledger.specs.MoveLaws.{move-steps, steps-exact}
 use Rattle.ledger.specs.Loading.{refusal}
 use Rattle.move_area.specs.Area.{decode, consistent}
 use Rattle.move_area.specs.Calls as on-area
 use Rattle.demands.specs.History.{history, history-length}
-use Rattle.demands.specs.Areas.{holding, step-answer}
+use Rattle.demands.specs.Areas.{holding, step-answer, step-after}
 
 -- "has no cycle": "A cycle is a closed walk of at least one edge"
 abbrev pub no-cycle : Load → List ℕ → Type 0
@@ -69,13 +69,13 @@ pub moved-in-history : (load : Load) (N : ℕ) (sets : List ℕ) (calls : List C
     → is-refused (move load N (history load N sets calls) a s .answer) ≡ false → Decided load (history load N sets calls) a s (move load N (history load N sets calls) a s)
 moved-in-history load N sets calls a s = moved-exactly-acyclic load N (history load N sets calls) a s (history-length load N sets calls)
 
--- The same on the areas that the calls are lent: from any area that no row from 1 to 9 turns back, "a move that isn't refused is accepted exactly
--- when the moved chunk graph, facade edges included, has no cycle"
+-- The same on the areas that the calls are lent, from any area that no row from 1 to 9 turns back: what the area says of each atom and edge afterwards too
 pub moved-on-areas : (load : Load) (N : ℕ) (area : List ℕ) (a : ℕ) (s : List ℕ) → refusal load N (length area) ≡ 0 → consistent load N area ≡ true
-    → is-refused (on-area.try-move load N area a s .answer) ≡ false
-    → (on-area.try-move load N area a s .answer ≡ accepted) ↔ no-cycle load (moved (decode load N area .ledger) a s)
+    → let called = on-area.try-move load N area a s in
+    is-refused (called .answer) ≡ false → Decided load (decode load N area .ledger) a s (gives (called .answer) (decode load N (called .area) .ledger))
 moved-on-areas load N area a s q c u =
+    let l = decode load N area .ledger in
     let h = holding load N area q c in
     let e : on-area.try-move load N area a s .answer ≡ move load N (decode load N area .ledger) a s .answer = step-answer load N area a s h in
-    let d = moved-exactly-acyclic load N (decode load N area .ledger) a s (h .held .sound .atoms) (subst (λ x. is-refused x ≡ false) e u) in
-    (λ x. d .exactly .0 (sym e ∙ x), λ x. e ∙ d .exactly .1 x)
+    subst (Decided load l a s) (sym (ap₂ gives e (step-after load N area a s h)))
+    (moved-exactly-acyclic load N l a s (h .held .sound .atoms) (subst (λ x. is-refused x ≡ false) e u))

@@ -91,8 +91,8 @@ module _ (z : Sizes) (a : List ℕ) (c : Call) where
     | no q ↦ ap (inconsistent z) (stuck-step z a c q) ∙ h
   ]
 
--- and so do lists of calls: "each call is lent the area as the last one left it", so rows 14, 21 and the area's part of 15 can't fit within a
--- list that starts from a consistent area
+-- and so do lists of calls: "each call is lent the area as the last one left it", so row 21 can't fit within a list that starts from a consistent
+-- area. The area's part of row 15 fits at every call of a list or at none (`ends-short`).
 pub ends-consistent : (z : Sizes) (a : List ℕ) (calls : List Call) → inconsistent z a ≡ false → inconsistent z (ends z a calls) ≡ false
 unfolding ends
 ends-consistent z a [] h = h
