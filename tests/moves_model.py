@@ -4,8 +4,11 @@
     tests/moves_model.py < INPUT      what the program prints to INPUT, raw bytes
     tests/moves_model.py --write      writes crates/moves_cases/stdin and stdout from tests/moves_inputs.txt
     tests/moves_model.py --check      compares both files with what --write would write, and P1 with crates/moves
+    tests/moves_model.py --large MOVES
+                                      runs the program MOVES on an input of many blocks, and compares what it prints
 """
 import pathlib
+import subprocess
 import sys
 
 ATOMS, ROOM, ENTRIES, BITS = 48, 96, 128, 16
@@ -148,6 +151,19 @@ def cases(root):
     return data, text
 
 
+def large(example):
+    """P1's load, then 30,000 moves, questions and listings: input and output go through several blocks."""
+    data = bytearray(example[: example.index(0x13) + 1])
+    for k in range(30000):
+        if k % 100 == 99:
+            data.append(0x21)
+        elif k % 3 == 2:
+            data += bytes([0x22, k % 4, 0])
+        else:
+            data += bytes([0x20, k % 3, 0, k * 7 % 13, k % 5 // 4])
+    return bytes(data)
+
+
 def main():
     root = pathlib.Path(__file__).resolve().parent.parent
     folder, example = root / "crates/moves_cases", root / "crates/moves"
@@ -159,6 +175,12 @@ def main():
         same = cases(root) == ((folder / "stdin").read_bytes(), (folder / "stdout").read_text())
         same = same and printed((example / "stdin").read_bytes()) == (example / "stdout").read_text()
         print("moves model:", "agrees" if same else "DIFFERS")
+        sys.exit(not same)
+    elif sys.argv[1:2] == ["--large"]:
+        data = large((example / "stdin").read_bytes())
+        told = subprocess.run([sys.argv[2]], input=data, stdout=subprocess.PIPE, check=True).stdout.decode()
+        same = told == printed(data)
+        print(f"moves, {len(data)} bytes in and {len(told)} out:", "agrees" if same else "DIFFERS")
         sys.exit(not same)
     else:
         sys.stdout.write(printed(sys.stdin.buffer.read()))

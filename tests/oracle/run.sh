@@ -1,5 +1,5 @@
 #!/usr/bin/env bash
-# Compares the original, the plain model and, if crates/exports is there, the proved library.
+# Compares the original, the plain model and the proved library, which is built first unless NIDSKALM_LIB_DIR says where it lies.
 # Arguments go to the runner: --long, --seed NUMBER, --self-test, --record CASES (README.md).
 set -euo pipefail
 cd "$(dirname "$0")/../.."
@@ -10,14 +10,8 @@ if [ ! -f "$original/src/stages/generate_stage/reduced_chunk_graph.rs" ]; then
 fi
 NIDSKALM_ORIGINAL="$(realpath "$original")"
 export NIDSKALM_ORIGINAL
-if [ -d crates/exports ]; then
-    # What the library stands on is proved first, as many crates at a time as there are processors.
-    log="$(mktemp)"
-    if ! { rt check reduced_chunk_graph chunk_optimizer && rt staticlib exports; } > "$log" 2>&1; then
-        cat "$log"
-        exit 1
-    fi
-    rm -f "$log"
+if [ -z "${NIDSKALM_LIB_DIR:-}" ]; then
+    bash tests/build.sh
 fi
 features=()
 if [ -f "${NIDSKALM_LIB_DIR:-target/staticlib}/libexports.a" ]; then
@@ -28,11 +22,6 @@ fi
 cargo build --manifest-path tests/oracle/Cargo.toml --offline -j1 --quiet --profile checked "${features[@]}"
 runner=tests/oracle/target/checked/oracle
 if [ "${#features[@]}" -gt 0 ] && [ "${1:-}" != --record ]; then
-    if command -v cc > /dev/null; then
-        cc -std=c99 -Wall -Wextra -Iinclude tests/oracle/header.c -L"$NIDSKALM_LIB_DIR" -lexports \
-            -o tests/oracle/target/header
-        tests/oracle/target/header
-    fi
     "$runner" --replay tests/oracle/recorded.txt
 fi
 exec "$runner" "$@"

@@ -134,7 +134,7 @@ pub fn calc_chunk_dependencies(
     Done::Done
 }
 
-// Whether merging source into target would close a cycle.
+// Whether source depends directly on target, or the two fused would lie on a cycle with another chunk. What was merged away isn't followed.
 pub fn would_create_circular_dependency(
     sizes: Sizes,
     area: &[u32],

@@ -157,7 +157,7 @@ pub extern "C" fn chunk_optimization_graph_calc_chunk_dependencies(
     of_done(chunk_optimizer::calc_chunk_dependencies(sizes(c, m, l, e), area, starts, dependencies))
 }
 
-// 1 where merging source into target would close a cycle, else 0.
+// 1 where source depends directly on target, or the two fused would lie on a cycle with another chunk, else 0.
 #[no_mangle]
 pub extern "C" fn chunk_optimization_graph_would_create_circular_dependency(
     c: u64,

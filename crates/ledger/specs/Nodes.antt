@@ -1,5 +1,5 @@
--- For the code: node numbers instead of sets. A node is a place of the list of registered sets. No reader of the demands needs this file.
--- Assumes nothing.
+-- For the code: node numbers instead of sets. A node is a place of the list of registered sets. A reader of the demands needs `placed` alone,
+-- the placement that nodes stand for. Assumes nothing.
 use Prim.Native.Nat.{ℕ, zero, suc, _+_, _-_, _^_, _≤_, _<_}
 use mathlib.Core.Path.{_≡_}
 use mathlib.Core.Bool.{Bool, not, cond, _&&_}

@@ -30,7 +30,8 @@ pub record Faults (l : List ℕ) (at n top : ℕ) (free : Bool) (r : ℕ) : Type
   pub value : r ≡ faults l at n top free
   pub few : r ≤ n
 
--- the header: more initial chunks than made ones, more made than C, more sets than there is room for, "used entries within L"
+-- the header: more initial chunks than made ones, more made than C, more sets than leave a place for each chunk still to be made, "used entries
+-- within L"
 unfoldable pub head-fault : Sizes → List ℕ → Bool
 head-fault z a =
     ltb (cell a (head z 1)) (cell a (head z 0)) || (ltb (z .chunks) (cell a (head z 1)) || (ltb (z .chunks + cell a (head z 1)) (cell a (head z 3)) || ltb (z .entries) (cell a (head z 4))))

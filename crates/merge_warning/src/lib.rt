@@ -34,7 +34,7 @@ fn some_hit(flags: &[u32], c: usize, n: usize, source: usize, marks: &[u32]) -> 
     false
 }
 
-// Merging source into target would close a cycle, n of the c chunks made.
+// The warning about merging source into target, n of the c chunks made.
 pub fn warn(flags: &[u32], c: usize, n: usize, source: usize, target: usize) -> bool
     requires { ⌜ CanAsk (now flags) c n source target ⌝ }
     ensures { λ r. ⌜ r ≡ warns (flagEdge (now (flags .entry)) c n) n source target ⌝ }

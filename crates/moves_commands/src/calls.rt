@@ -1,4 +1,4 @@
-// The calls of the move graph on the lists that the program holds: of each only the part in use is lent.
+// The calls of the move graph on the lists that the program holds. Of starts, dependencies and sets only the part in use is lent.
 ghost use mathlib.Core.Path.{_≡_};
 ghost use mathlib.Core.List.{[], _∷_};
 ghost use Prim.Native.Nat.{_+_, _≤_};

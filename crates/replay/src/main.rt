@@ -1,4 +1,4 @@
-// Replays recorded answers of the original through the library. Standard input has a case to a line; tests/oracle/README.md has the format.
+// Replays recorded cases through the library: a model's answers, in which the original agrees. Standard input has a case to a line; tests/oracle/README.md has the format.
 mod chunks;
 mod merges;
 mod move_answers;
