@@ -2,8 +2,9 @@
  *
  * Two state machines. The move graph (reduced_chunk_graph_*) holds atoms, each in one set of entry bits; it tries to
  * move an atom to another set and accepts exactly when the chunk graph then has no cycle. The merge graph
- * (chunk_optimization_graph_*) holds chunks, their modules and their dependencies; it warns of merges that would close
- * a cycle, merges, and runs the pass that decides about every chunk needing creation.
+ * (chunk_optimization_graph_*) holds chunks, their modules and their dependencies; it warns of a merge exactly when the
+ * source depends directly on the target, or the two fused lie on a cycle with another chunk (chunks merged away are not
+ * followed), merges, and runs the pass that decides about every chunk needing creation.
  *
  * All state lies in a work area of 32-bit numbers that the caller lends. Between calls nobody else may write there.
  * Every list is a pointer and the count of its items. A pointer must be valid for that many items (any pointer for 0);
@@ -27,7 +28,8 @@
  *   14  C = 0 or > 1,024, M > 4,096, L > 8,192, E > 256, more than C initial chunks, more than C sets named at loading,
  *       more than 8,192 module dependencies
  *   15  a merge graph list's length is wrong, starts are faulty as in 4, or the area is too short
- *   16  no such module or key, a set as in 11, or a chunk that isn't initial (loading, proposals) or not yet made
+ *   16  no such module or key, a set as in 11, or a chunk that isn't initial (loading, proposals) or isn't made yet
+ *       (elsewhere)
  *   17  one set named twice (loading)
  *   18  no room for a new chunk; or initial + created so far + candidates > C (pass)
  *   19  no room for a list entry
@@ -144,8 +146,8 @@ nidskalm_edge_reply reduced_chunk_graph_edge_at(
 /* ---- The merge graph ----
  *
  * Every call is lent its sizes: room for C chunks, M modules, room for L list entries, E entry bits. The area has at
- * least NIDSKALM_MERGE_AREA(c, m, l) numbers; chunk x depends on chunk y where area[x * c + y] is 1. `side_effects` has
- * one number per module, nonzero means yes. A call without an answer gives value 0.
+ * least NIDSKALM_MERGE_AREA(c, m, l) numbers; chunk x depends on chunk y where area[x * c + y] isn't 0. `side_effects`
+ * has one number per module, nonzero means yes. A call without an answer gives value 0.
  */
 
 /* Loads `initial` chunks: `module_starts` (initial + 1) and `modules` list their modules; set i of `sets` (w numbers
@@ -194,7 +196,9 @@ nidskalm_reply chunk_optimization_graph_calc_chunk_dependencies(
     const uint32_t *starts, size_t starts_length,
     const uint32_t *dependencies, size_t dependencies_length);
 
-/* Value 1 where merging source into target would close a cycle, or source depends directly on target. */
+/* The warning before source is merged into target. Value 1 exactly when source depends directly on target, or the two
+ * fused lie on a cycle with another chunk. It follows the dependencies that chunks have now. A merge takes those of its
+ * source away, so no cycle through a chunk that was merged away is seen. */
 nidskalm_reply chunk_optimization_graph_would_create_circular_dependency(
     uint64_t c, uint64_t m, uint64_t l, uint64_t e,
     const uint32_t *area, size_t area_length,
@@ -206,7 +210,7 @@ nidskalm_reply chunk_optimization_graph_is_reachable(
     const uint32_t *area, size_t area_length,
     uint32_t from, uint32_t to);
 
-/* Gives target the dependencies of source, which loses them. */
+/* Gives target the dependencies of source, which loses them, whatever the warning would say. */
 nidskalm_reply chunk_optimization_graph_merge_chunk_dependencies(
     uint64_t c, uint64_t m, uint64_t l, uint64_t e,
     uint32_t *area, size_t area_length,
@@ -214,7 +218,8 @@ nidskalm_reply chunk_optimization_graph_merge_chunk_dependencies(
 
 /* The pass over the chunks needing creation, in rising order. All four lists have one item for each: a proposed initial
  * chunk or NIDSKALM_NONE, a bar (nonzero bars merging), and the answers: kind 0 merged into chunk `number`, kind 1
- * created and registered under `number`. Value: how many chunks needed creation. */
+ * created and registered under `number`. A chunk is merged into the proposed one if there is no bar and no warning, and
+ * else created. Value: how many chunks needed creation. */
 nidskalm_reply chunk_optimization_graph_pass(
     uint64_t c, uint64_t m, uint64_t l, uint64_t e,
     uint32_t *area, size_t area_length,

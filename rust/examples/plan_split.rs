@@ -23,21 +23,23 @@ fn main() -> Result<(), Refusal> {
         println!("chunk {} depends on {}, {} times", bits(edge.from), bits(edge.to), edge.multiplicity);
     }
 
-    // Two entry chunks, and modules 2 and 3 that both entries share: module 0 needs 2, module 1 needs 3, 3 needs 0.
+    // Two entry chunks hold modules 0 and 1. Both entries share module 2, and module 3 is for entry 1 alone: their sets
+    // name no chunk yet, so they get chunks 2 and 3, which need creation. Module 0 needs 2, 1 needs 3, and 3 needs 0.
     let size = Size { chunks: 8, modules: 4, entries: 16, entry_bits: 2 };
     let initial = InitialChunks { module_starts: &[0, 1, 2], modules: &[0, 1], sets: &[], set_chunks: &[] };
     let mut merges = MergeGraph::new(size, initial, &[0; 4])?;
     merges.init_module_assignment(ModuleIdx(2), EntrySet::from(3))?;
     merges.init_module_assignment(ModuleIdx(3), EntrySet::from(2))?;
     merges.calc_chunk_dependencies(&[0, 1, 2, 2, 3], &[2, 3, 0])?;
+    // Chunk 0 is proposed for both. Chunk 3 depends on it directly, so the warning keeps it apart.
     let decided = merges.pass(&[Some(ChunkIdx(0)), Some(ChunkIdx(0))], &[false, false])?;
-    for (chunk, assignment) in decided.into_iter().enumerate() {
+    for (chunk, assignment) in (2..).zip(decided) {
         match assignment {
             Assignment::Merged(ChunkIdx(into)) => {
-                println!("shared chunk {chunk}: merged into chunk {into}")
+                println!("chunk {chunk}: merged into chunk {into}")
             }
             Assignment::Created(ChunkIdx(number)) => {
-                println!("shared chunk {chunk}: created as chunk {number}")
+                println!("chunk {chunk}: created, registered under number {number}")
             }
         }
     }

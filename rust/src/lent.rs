@@ -1,7 +1,9 @@
 //! The calls on areas that the caller lends: safe, with the replies of [`raw`].
 //!
-//! An area is any slice of numbers; [`move_area_length`] and [`merge_area_length`] say how long it must be at least. What
-//! lies beyond is not touched. Sizes are taken from the lists, so that only wrong relations between them are refused.
+//! An area is any slice of numbers; [`move_area_length`] and [`merge_area_length`] say how long it must be at least.
+//! What lies beyond is not touched. A load's numbers of atoms, dependencies and entry bits, and the number of initial
+//! chunks, are taken from the lengths of the lists in [`Load`] and [`InitialChunks`]. Every row of refusals can still
+//! occur.
 use crate::raw::{self, EdgeReply, Reply, SetReply};
 use crate::{InitialChunks, Load, Size};
 
@@ -17,7 +19,7 @@ pub fn move_area_length(load: &Load, sets: u64) -> Option<usize> {
     Some(n * n + 24 * (a + n + d + e + 1))
 }
 
-/// Numbers that a merge graph's area must have, or none where the sizes are over the limits.
+/// Numbers that a merge graph's area must have, or none where chunks, modules or entries are over the limits.
 pub fn merge_area_length(size: Size) -> Option<usize> {
     if size.chunks > 1024 || size.modules > 4096 || size.entries > 8192 {
         return None;
@@ -30,7 +32,8 @@ pub fn merge_area_length(size: Size) -> Option<usize> {
 macro_rules! with_load {
     ($call:ident, $load:expr, $sets:expr $(, $more:expr)*) => {{
         let (load, sets): (&Load, u64) = ($load, $sets);
-        // SAFETY: every pointer comes from a slice and is followed by its length; a call writes only to `*mut` lists.
+        // SAFETY: every pointer comes from a slice and is followed by its length; a call writes only to `*mut` lists,
+        // which come from `&mut` slices and so overlap no other.
         unsafe {
             raw::$call(
                 load.atoms() as u64, load.dependencies.len() as u64, load.hosts.len() as u64, sets,

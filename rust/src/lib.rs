@@ -4,10 +4,11 @@
 //!
 //! - [`MoveGraph`] holds atoms (groups of modules), each in a set of entry bits. Atoms with equal sets form a chunk. A
 //!   move of an atom to another set is accepted exactly when the chunk graph then has no cycle.
-//! - [`MergeGraph`] holds chunks with modules and dependencies. It warns of merges that would close a cycle, merges, and
-//!   runs the pass that decides about each chunk that needs creation.
+//! - [`MergeGraph`] holds chunks with modules and dependencies. It warns of a merge exactly when the source depends
+//!   directly on the target, or the two fused lie on a cycle with another chunk; chunks merged away are not followed.
+//!   It merges, and runs the pass that decides about each chunk that needs creation.
 //!
-//! Nothing here panics on odd numbers: a call answers, or gives a [`Refusal`] and has changed nothing. Both types own
+//! No call on a graph panics on odd numbers: it answers, or gives a [`Refusal`] and has changed nothing. Both types own
 //! their work area; [`lent`] has the same calls on areas that you lend, and [`raw`] the C interface.
 //!
 //! ```

@@ -45,7 +45,11 @@ pub enum Assignment {
     Created(ChunkIdx),
 }
 
-/// Chunks with modules and dependencies, merged where no cycle comes of it.
+/// Chunks with modules and dependencies.
+///
+/// [`merge_chunk_dependencies`](Self::merge_chunk_dependencies) merges whatever the warning,
+/// [`would_create_circular_dependency`](Self::would_create_circular_dependency), would say; only the
+/// [`pass`](Self::pass) asks it first.
 ///
 /// ```
 /// use nidskalm::{Assignment, ChunkIdx, EntrySet, InitialChunks, MergeGraph, ModuleIdx, Size};
@@ -121,7 +125,11 @@ impl<'a> MergeGraph<'a> {
         Refusal::check(reply.refusal, ())
     }
 
-    /// Whether merging source into target would close a cycle, or source depends directly on target.
+    /// The warning before source is merged into target: true exactly when source depends directly on target, or the two
+    /// fused lie on a cycle with another chunk.
+    ///
+    /// It follows the dependencies that chunks have now. A merge takes those of its source away, so no cycle through a
+    /// chunk that was merged away is seen.
     pub fn would_create_circular_dependency(&self, source: ChunkIdx, target: ChunkIdx) -> Result<bool, Refusal> {
         let (size, area) = (self.size, &self.area);
         let reply = lent::chunk_optimization_graph_would_create_circular_dependency(size, area, source.0, target.0);
@@ -134,14 +142,15 @@ impl<'a> MergeGraph<'a> {
         Refusal::check(reply.refusal, reply.value == 1)
     }
 
-    /// Gives target the dependencies of source, which loses them.
+    /// Gives target the dependencies of source, which loses them, whatever the warning would say.
     pub fn merge_chunk_dependencies(&mut self, target: ChunkIdx, source: ChunkIdx) -> Result<(), Refusal> {
         let (size, area) = (self.size, &mut self.area);
         let reply = lent::chunk_optimization_graph_merge_chunk_dependencies(size, area, target.0, source.0);
         Refusal::check(reply.refusal, ())
     }
 
-    /// Decides about each chunk that needs creation, in rising order: one proposal and one bar for each.
+    /// Decides about each chunk that needs creation, in rising order: one proposal and one bar for each. A chunk is
+    /// merged into the proposed one if there is no bar and no warning, and else created.
     pub fn pass(&mut self, proposals: &[Option<ChunkIdx>], bars: &[bool]) -> Result<Vec<Assignment>, Refusal> {
         let proposals: Vec<u32> = proposals.iter().map(|chunk| chunk.map_or(NONE, |chunk| chunk.0)).collect();
         let bars: Vec<u32> = bars.iter().map(|&bar| bar.into()).collect();
@@ -158,6 +167,6 @@ impl<'a> MergeGraph<'a> {
     /// Whether one chunk depends directly on another; false where there is no such chunk.
     pub fn depends(&self, from: ChunkIdx, to: ChunkIdx) -> bool {
         let (chunks, from, to) = (self.size.chunks as usize, from.0 as usize, to.0 as usize);
-        from < chunks && to < chunks && self.area[from * chunks + to] == 1
+        from < chunks && to < chunks && self.area[from * chunks + to] != 0
     }
 }

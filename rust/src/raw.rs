@@ -1,7 +1,9 @@
 //! The C interface as it stands: lent areas, pointers and lengths. `include/nidskalm.h` says the same for C.
 //!
-//! A call writes only into its `*mut` lists. It reads `length` numbers at each pointer, so each pair must describe
-//! valid memory; nothing else is asked. Any numbers whatsoever get an answer or a refusal, and a refusal writes nothing.
+//! Every list is a pointer and the count of its numbers, and a call writes only into its `*mut` lists: areas and the
+//! pass's answers. Each pointer must be valid for that many numbers during the call (any pointer for 0), and a `*mut`
+//! list must not overlap any other list. Any numbers whatsoever get an answer or a refusal, and a refusal writes
+//! nothing.
 
 /// A refusal's row (0: not refused) and a value (0 where refused).
 #[repr(C)]

@@ -34,12 +34,12 @@ impl Refusal {
             8 => "two atoms have equal sets",
             9 => "the move graph's area is inconsistent",
             10 => "there is no such atom",
-            11 => "the set hasn't the right count of numbers, or a bit at or above the number of entry bits",
+            11 => "the set hasn't the right count of numbers, or has a bit at or above the number of entry bits",
             12 => "the target is the atom's present set",
             13 => "the target set is new and no more sets can be registered",
             14 => "a size of the merge graph is over its limit, or there is room for no chunk",
-            15 => "a list of the merge graph hasn't the right length or faulty starts, or its area is too short",
-            16 => "a module, chunk, key or set is out of range",
+            15 => "a list of the merge graph has a wrong length or faulty starts, or its area is too short",
+            16 => "a module, key or set is out of range, or a chunk isn't made yet, or isn't initial where it must be",
             17 => "one set is named twice",
             18 => "there is no room for so many chunks",
             19 => "there is no room for another list entry",
@@ -66,3 +66,21 @@ impl fmt::Display for Refusal {
 }
 
 impl Error for Refusal {}
+
+#[cfg(test)]
+mod tests {
+    use super::Refusal;
+    use std::collections::BTreeSet;
+
+    #[test]
+    fn every_row_has_words() {
+        let unknown = Refusal(22).condition();
+        let mut seen = BTreeSet::from([unknown]);
+        for row in 1..=21 {
+            let words = Refusal(row).condition();
+            assert!(!words.trim().is_empty(), "row {row} has no words");
+            assert!(seen.insert(words), "row {row} has no words of its own");
+            assert_eq!(Refusal(row).to_string(), format!("refused {row}: {words}"));
+        }
+    }
+}

@@ -118,9 +118,3 @@ fn refused_merges() {
     }
     assert_eq!(row(graph.add_module_to_chunk(ModuleIdx(0), one)), 19);
 }
-
-#[test]
-fn every_row_has_words() {
-    let refusal = MoveGraph::new(LOAD, 0, &[]).unwrap_err();
-    assert!(refusal.to_string().starts_with("refused 1: more than 512 atoms"));
-}
