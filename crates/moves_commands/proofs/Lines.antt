@@ -15,7 +15,7 @@ use Rattle.move_area.specs.Area.{decode, consistent}
 use Rattle.move_area.specs.Calls.{asked, checked}
 use Rattle.listing.specs.Answers.{placeIn, Listable}
 use Rattle.reduced_chunk_graph.specs.Asked.{asked-back, head-inside, edges-told, edge-told}
-use Rattle.reduced_chunk_graph.specs.Listed.{RowTold, listable-known, listable-some}
+use Rattle.later_rows.specs.Listed.{RowTold, listable-known, listable-some}
 use Rattle.replies.specs.Words.{reply}
 use Rattle.replies.specs.Room.{Put, put-then, put-none, reply-long}
 use Rattle.moves_commands.specs.Program.{N, areas, lines, lines-of, listing}

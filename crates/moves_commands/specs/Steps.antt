@@ -6,7 +6,7 @@ use Prim.Native.Nat.{ℕ, _+_, _*_, _-_, _≤_, _<_}
 use lib.Dec.{ltb, leb}
 use lib.ListN.{length, getD}
 use Rattle.ledger.specs.Graph.{Load}
-use Rattle.reduced_chunk_graph.specs.Listed.{RowTold}
+use Rattle.later_rows.specs.Listed.{RowTold}
 use Rattle.replies.specs.Room.{Put}
 use Rattle.load_commands.specs.declared.Machine.{Machine}
 use Rattle.load_commands.specs.Machine.{reading}

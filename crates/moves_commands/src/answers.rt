@@ -16,7 +16,7 @@ use replies::put_edge;
 use replies::put_refused;
 use replies::put_set;
 
-pub fn is_refused(r: LoadAnswer) -> bool
+pub(crate) fn is_refused(r: LoadAnswer) -> bool
     ensures { λ b. ⌜ b ≡ is-refused (ofLoad r) ⌝ }
 {
     match r {
@@ -26,7 +26,7 @@ pub fn is_refused(r: LoadAnswer) -> bool
     }
 }
 
-pub fn put_load(out: &mut [u8], at: usize, r: LoadAnswer) -> usize
+pub(crate) fn put_load(out: &mut [u8], at: usize, r: LoadAnswer) -> usize
     requires { ⌜ at + 128 ≤ length (now out) ⌝ }
     ensures { λ p. ⌜ Put (load-reply (ofLoad r)) (now (out .entry)) at (now (out .exit)) p ⌝ }
 {
@@ -38,7 +38,7 @@ pub fn put_load(out: &mut [u8], at: usize, r: LoadAnswer) -> usize
     }
 }
 
-pub fn put_move(out: &mut [u8], at: usize, r: MoveAnswer) -> usize
+pub(crate) fn put_move(out: &mut [u8], at: usize, r: MoveAnswer) -> usize
     requires { ⌜ at + 64 ≤ length (now out) ⌝ }
     ensures { λ p. ⌜ Put (reply (ofMove r)) (now (out .entry)) at (now (out .exit)) p ⌝ }
 {
@@ -50,7 +50,7 @@ pub fn put_move(out: &mut [u8], at: usize, r: MoveAnswer) -> usize
 }
 
 // With 16 bits a set is its first number.
-pub fn put_set_answer(out: &mut [u8], at: usize, r: SetAnswer) -> usize
+pub(crate) fn put_set_answer(out: &mut [u8], at: usize, r: SetAnswer) -> usize
     requires { ⌜ at + 64 ≤ length (now out) ⌝ }
     ensures { λ p. ⌜ Put (reply (ofSet r)) (now (out .entry)) at (now (out .exit)) p ⌝ }
 {
@@ -61,7 +61,7 @@ pub fn put_set_answer(out: &mut [u8], at: usize, r: SetAnswer) -> usize
 }
 
 // The line of an edge; nothing where there is none.
-pub fn put_listed(out: &mut [u8], at: usize, r: Listed) -> usize
+pub(crate) fn put_listed(out: &mut [u8], at: usize, r: Listed) -> usize
     requires { ⌜ at + 64 ≤ length (now out) ⌝ }
     ensures { λ p. ⌜ Put (reply (ofListed r)) (now (out .entry)) at (now (out .exit)) p ⌝ }
 {

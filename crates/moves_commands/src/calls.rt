@@ -5,7 +5,7 @@ ghost use Prim.Native.Nat.{_+_, _≤_};
 ghost use lib.ListN.{length, take};
 ghost use Rattle.ledger.specs.Ledger.{atom-set};
 ghost use Rattle.reduced_chunk_graph.specs.Answers.{ofLoad, ofMove, ofSet};
-ghost use Rattle.reduced_chunk_graph.specs.Listed.{NodeLists, RowTold};
+ghost use Rattle.later_rows.specs.Listed.{NodeLists, RowTold};
 ghost use Rattle.moves_commands.specs.Program.{areas, lent};
 ghost use Rattle.moves_commands.specs.Steps.{CanLend};
 use load_commands::Machine;
@@ -13,7 +13,7 @@ use reduced_chunk_graph::LoadAnswer;
 use reduced_chunk_graph::MoveAnswer;
 use reduced_chunk_graph::SetAnswer;
 
-pub fn new(
+pub(crate) fn new(
     m: Machine,
     sets: &[u64],
     dependencies: &[u32],
@@ -42,7 +42,7 @@ pub fn new(
     )
 }
 
-pub fn try_move(
+pub(crate) fn try_move(
     m: Machine,
     dependencies: &[u32],
     starts: &[u32],
@@ -71,7 +71,7 @@ pub fn try_move(
     )
 }
 
-pub fn atom_set(
+pub(crate) fn atom_set(
     m: Machine,
     dependencies: &[u32],
     starts: &[u32],
@@ -98,7 +98,7 @@ pub fn atom_set(
 }
 
 // The first of the rows 1 to 6 and 9 that fits, 0 where none does; then the edges can be listed by `degrees` and `order`.
-pub fn listed_row(
+pub(crate) fn listed_row(
     m: Machine,
     dependencies: &[u32],
     starts: &[u32],
@@ -114,7 +114,7 @@ pub fn listed_row(
     let a = m.atoms;
     let d = m.entries;
     let k = a + 1;
-    reduced_chunk_graph::listed_row(
+    later_rows::listed::listed_row(
         a,
         d,
         16,

@@ -123,7 +123,7 @@ fn set_of(
 }
 
 // A machine that has stopped is a refusal.
-pub fn quiet(m: Machine, out: &mut [u8], at: usize) -> usize
+pub(crate) fn quiet(m: Machine, out: &mut [u8], at: usize) -> usize
     requires { ⌜ at + 64 ≤ length (now out) ⌝ }
     ensures { λ r. ⌜ Put (cond (m .stopped) (reply (refused 22)) []) (now (out .entry)) at (now (out .exit)) r ⌝ }
 {
@@ -133,7 +133,7 @@ pub fn quiet(m: Machine, out: &mut [u8], at: usize) -> usize
     at
 }
 
-pub fn execute(
+pub(crate) fn execute(
     m: Machine,
     sets: &mut [u64],
     sources: &mut [u32],

@@ -9,8 +9,8 @@ ghost use Rattle.moves_commands.specs.Program.{areas, lent, lines, listi
 ghost use Rattle.moves_commands.specs.Steps.{CanLend, CanList, CanListAll};
 use crate::answers::put_listed;
 use crate::calls;
+use later_rows::registered;
 use load_commands::Machine;
-use reduced_chunk_graph::registered;
 use replies::put_edges;
 use replies::put_refused;
 
@@ -67,7 +67,7 @@ fn put_all(area: &[u32], order: &[u32], degrees: &[u32], out: &mut [u8], at: usi
     put_edges(out, p, n)
 }
 
-pub fn list_edges(
+pub(crate) fn list_edges(
     m: Machine,
     dependencies: &[u32],
     starts: &[u32],

@@ -22,7 +22,7 @@ use Rattle.move_area.specs.Bodies.{laneAt, atomAt}
 use Rattle.move_area.specs.Calls.{asked}
 use Rattle.move_area.specs.Checked.{nodesIn, sets-at, consistent-ranged, consistent-worked}
 use Rattle.listing.specs.Answers.{placeIn, Checked}
-use Rattle.reduced_chunk_graph.specs.Later.{later, turned-back, goes-on, later-legal, later-consistent}
+use Rattle.later_rows.specs.Later.{later, turned-back, goes-on, later-legal, later-consistent}
 
 -- what is read for the set of atom i
 pub record CanReadSet (area : List ℕ) (n i : ℕ) : Type 0 where

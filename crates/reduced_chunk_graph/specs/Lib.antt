@@ -1,7 +1,5 @@
 -- The definitions that the contracts of `reduced_chunk_graph` cite, and their laws. Assumes nothing.
 pub mod Answers
-pub mod Later
 pub mod Moves
 pub mod MoveLaws
 pub mod Asked
-pub mod Listed

@@ -1,6 +1,4 @@
 // `ReducedChunkGraph`: trial moves of atoms between chunks, accepted exactly when no cycle arises.
-mod check;
-mod listed;
 mod load;
 mod moves;
 mod questions;
@@ -12,10 +10,6 @@ pub use questions::atom_set;
 pub use questions::edge_at;
 pub use questions::edge_count;
 pub use questions::multiplicity;
-
-// No calls of the product: the check before a listing of all edges, which are then read by crate `listing`, and the number of registered sets.
-pub use listed::listed_row;
-pub use questions::registered;
 
 // What `new` answers. `Refused` names a row of the table of refusals, here and below.
 pub enum LoadAnswer {

@@ -78,7 +78,7 @@ fn try_large(
 {
     let mut sources = [0u32; 8448];
     let mut targets = [0u32; 8448];
-    if !super::check::check_large(
+    if !later_rows::check::check_large(
         a,
         d,
         e,
@@ -126,7 +126,7 @@ fn try_small(
 {
     let mut sources = [0u32; 1024];
     let mut targets = [0u32; 1024];
-    if !super::check::check_small(
+    if !later_rows::check::check_small(
         a,
         d,
         e,

@@ -3,9 +3,10 @@ use super::Edge;
 use super::EdgeAnswer;
 use super::NumberAnswer;
 use super::SetAnswer;
-use super::check::later_row;
-use super::listed::listed_row;
 use entry_set::EntrySet;
+use later_rows::check::later_row;
+use later_rows::listed::listed_row;
+use later_rows::registered;
 use listing::Listed;
 ghost use mathlib.Core.Path.{_≡_};
 ghost use Prim.Native.Nat.{_*_, _<_};
@@ -26,21 +27,6 @@ fn read_set(area: &[u32], n: usize, i: usize) -> EntrySet
     let lane = n * n + 24;
     let node = area[lane + 24 * n + i] as usize;
     entry_set::read_lanes(area, lane + node, n)
-}
-
-// A number of 32 bits as an index.
-fn index(x: u32) -> usize
-    ensures { λ r. ⌜ r ≡ x ⌝ }
-{
-    x as usize
-}
-
-// How many sets are registered.
-pub fn registered(area: &[u32], n: usize) -> usize
-    requires { ⌜ n * n < length (now area) ⌝ }
-    ensures { λ r. ⌜ r ≡ getD (now (area .entry)) (n * n) 0 ⌝ }
-{
-    index(area[n * n])
 }
 
 // x as a wider number.

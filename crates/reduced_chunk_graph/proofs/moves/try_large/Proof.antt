@@ -9,7 +9,7 @@ use Rattle.reduced_chunk_graph.proofs.moves.try_large.Statement.{statem
 use Rattle.reduced_chunk_graph.proofs.moves.try_large.Tie as tie
 use Rattle.reduced_chunk_graph.proofs.moves.try_large.Reads as reads
 use Rattle.reduced_chunk_graph.proofs.moves.try_large.Lts as lts
-use Rattle.reduced_chunk_graph.proofs.check.check_large.Reads as check-large-reads
+use Rattle.later_rows.proofs.check.check_large.Reads as check-large-reads
 use Rattle.reduced_chunk_graph.proofs.moves.go_on.Reads as go-on-reads
 
 -- src/moves.rt:91:9

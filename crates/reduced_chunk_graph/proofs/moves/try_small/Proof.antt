@@ -9,7 +9,7 @@ use Rattle.reduced_chunk_graph.proofs.moves.try_small.Statement.{statem
 use Rattle.reduced_chunk_graph.proofs.moves.try_small.Tie as tie
 use Rattle.reduced_chunk_graph.proofs.moves.try_small.Reads as reads
 use Rattle.reduced_chunk_graph.proofs.moves.try_small.Lts as lts
-use Rattle.reduced_chunk_graph.proofs.check.check_small.Reads as check-small-reads
+use Rattle.later_rows.proofs.check.check_small.Reads as check-small-reads
 use Rattle.reduced_chunk_graph.proofs.moves.go_on.Reads as go-on-reads
 
 -- src/moves.rt:139:9

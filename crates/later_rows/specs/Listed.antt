@@ -12,7 +12,7 @@ use Rattle.move_area.specs.Area.{consistent}
 use Rattle.consistency.specs.Ready.{Told}
 use Rattle.listing.specs.Answers.{Listable}
 use Rattle.listing.specs.Steps.{CanSum}
-use Rattle.reduced_chunk_graph.specs.Later.{later, later-first, later-none, later-nine}
+use Rattle.later_rows.specs.Later.{later, later-first, later-none, later-nine}
 
 -- room for a number of each node, of as many as there can be
 pub record NodeLists (degrees order : List ℕ) : Type 0 where

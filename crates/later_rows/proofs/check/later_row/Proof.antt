@@ -1,7 +1,7 @@
 -- `check::later_row` meets its contract. Assumes nothing.
 use borrow.Author.Needs.{needs}
-use Rattle.reduced_chunk_graph.proofs.check.later_row.Statement.{statement}
-use Rattle.reduced_chunk_graph.proofs.check.later_row.Tie as tie
+use Rattle.later_rows.proofs.check.later_row.Statement.{statement}
+use Rattle.later_rows.proofs.check.later_row.Tie as tie
 
 slice-aggregate-listed-row : tie.Need-slice-aggregate-listed-row
 slice-aggregate-listed-row c = search needs

@@ -2,7 +2,7 @@
 ghost use mathlib.Core.Path.{_≡_};
 ghost use Prim.Native.Nat.{_≤_};
 ghost use Rattle.ledger.specs.Graph.{lent};
-ghost use Rattle.reduced_chunk_graph.specs.Later.{later, CanSlot, Sane};
+ghost use Rattle.later_rows.specs.Later.{later, CanSlot, Sane};
 
 // Row 9 for a load of any size within the limits. Where the area is consistent, `sources` and `targets` then have its slots.
 pub fn check_large(
@@ -139,7 +139,7 @@ pub fn later_row(
 {
     let mut degrees = [0u32; 1024];
     let mut order = [0u32; 1024];
-    super::listed::listed_row(
+    crate::listed::listed_row(
         a,
         d,
         e,

@@ -1,9 +1,9 @@
 -- `listed::listed_row` meets its contract. Assumes nothing.
 use native.Mathlib.Omega.{arith}
-use Rattle.reduced_chunk_graph.specs.Listed.{can-list, row-first, row-none, row-nine}
+use Rattle.later_rows.specs.Listed.{can-list, row-first, row-none, row-nine}
 use borrow.Author.Needs.{needs}
-use Rattle.reduced_chunk_graph.proofs.listed.listed_row.Statement.{statement}
-use Rattle.reduced_chunk_graph.proofs.listed.listed_row.Tie as tie
+use Rattle.later_rows.proofs.listed.listed_row.Statement.{statement}
+use Rattle.later_rows.proofs.listed.listed_row.Tie as tie
 
 refusal-requires : tie.Need-refusal-requires
 refusal-requires c κs = search needs

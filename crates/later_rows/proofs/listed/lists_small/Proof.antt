@@ -1,9 +1,9 @@
 -- `listed::lists_small` meets its contract. Assumes nothing.
 use native.Mathlib.Omega.{arith}
-use Rattle.reduced_chunk_graph.specs.Listed.{list-told}
+use Rattle.later_rows.specs.Listed.{list-told}
 use borrow.Author.Needs.{needs}
-use Rattle.reduced_chunk_graph.proofs.listed.lists_small.Statement.{statement}
-use Rattle.reduced_chunk_graph.proofs.listed.lists_small.Tie as tie
+use Rattle.later_rows.proofs.listed.lists_small.Statement.{statement}
+use Rattle.later_rows.proofs.listed.lists_small.Tie as tie
 
 slice-aggregate-consistent : tie.Need-slice-aggregate-consistent
 slice-aggregate-consistent c = search needs

@@ -1,7 +1,7 @@
 // The rows 1 to 6 and 9 before a question about all edges: where none fits, each node's number of edges and the nodes by rising sets are left.
 ghost use Prim.Native.Nat.{_≤_};
 ghost use Rattle.ledger.specs.Graph.{lent};
-ghost use Rattle.reduced_chunk_graph.specs.Listed.{NodeLists, CanList, ListTold, RowTold};
+ghost use Rattle.later_rows.specs.Listed.{NodeLists, CanList, ListTold, RowTold};
 
 // Row 9 for a load of any size within the limits, with the lists for its edges.
 fn lists_large(

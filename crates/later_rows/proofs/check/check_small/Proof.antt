@@ -2,76 +2,76 @@ use native.Mathlib.Omega.{arith}
 use mathlib.Core.Bool.{true}
 use Rattle.ledger.specs.LoadLaws.{first-row-none}
 use borrow.Author.Needs.{needs}
-use Rattle.reduced_chunk_graph.proofs.check.check_large.Statement.{statement}
-use Rattle.reduced_chunk_graph.proofs.check.check_large.Tie as tie
-use Rattle.reduced_chunk_graph.proofs.check.check_large.Reads as reads
-use Rattle.reduced_chunk_graph.proofs.check.check_large.Lts as lts
+use Rattle.later_rows.proofs.check.check_small.Statement.{statement}
+use Rattle.later_rows.proofs.check.check_small.Tie as tie
+use Rattle.later_rows.proofs.check.check_small.Reads as reads
+use Rattle.later_rows.proofs.check.check_small.Lts as lts
 use Rattle.consistency.proofs.consistent.Reads as consistent-reads
 
--- src/check.rt:50:9
+-- src/check.rt:110:9
 slice-aggregate-consistent : tie.Need-slice-aggregate-consistent
 slice-aggregate-consistent c = search needs
 
--- src/check.rt:51:9
+-- src/check.rt:111:9
 slice-aggregate-consistent-2 : tie.Need-slice-aggregate-consistent-2
 slice-aggregate-consistent-2 c = search needs
 
--- src/check.rt:54:9
+-- src/check.rt:114:9
 slice-aggregate-consistent-3 : tie.Need-slice-aggregate-consistent-3
 slice-aggregate-consistent-3 c = search needs
 
--- src/check.rt:55:9
+-- src/check.rt:115:9
 slice-aggregate-consistent-4 : tie.Need-slice-aggregate-consistent-4
 slice-aggregate-consistent-4 c = search needs
 
--- src/check.rt:56:9
+-- src/check.rt:116:9
 slice-aggregate-consistent-5 : tie.Need-slice-aggregate-consistent-5
 slice-aggregate-consistent-5 c = search needs
 
--- src/check.rt:57:9
+-- src/check.rt:117:9
 slice-aggregate-consistent-6 : tie.Need-slice-aggregate-consistent-6
 slice-aggregate-consistent-6 c = search needs
 
--- src/check.rt:58:9
+-- src/check.rt:118:9
 slice-aggregate-consistent-7 : tie.Need-slice-aggregate-consistent-7
 slice-aggregate-consistent-7 c = search needs
 
--- src/check.rt:59:9
+-- src/check.rt:119:9
 slice-aggregate-consistent-8 : tie.Need-slice-aggregate-consistent-8
 slice-aggregate-consistent-8 c = search needs
 
--- src/check.rt:60:9
+-- src/check.rt:120:9
 slice-aggregate-consistent-9 : tie.Need-slice-aggregate-consistent-9
 slice-aggregate-consistent-9 c = search needs
 
--- src/check.rt:61:9
+-- src/check.rt:121:9
 slice-aggregate-consistent-10 : tie.Need-slice-aggregate-consistent-10
 slice-aggregate-consistent-10 c = search needs
 
--- src/check.rt:62:9
+-- src/check.rt:122:9
 slice-aggregate-consistent-11 : tie.Need-slice-aggregate-consistent-11
 slice-aggregate-consistent-11 c = search needs
 
--- src/check.rt:63:9
+-- src/check.rt:123:9
 slice-aggregate-consistent-12 : tie.Need-slice-aggregate-consistent-12
 slice-aggregate-consistent-12 c = search needs
 
--- src/check.rt:64:9
+-- src/check.rt:124:9
 slice-aggregate-consistent-13 : tie.Need-slice-aggregate-consistent-13
 slice-aggregate-consistent-13 c = search needs
 
--- src/check.rt:65:9
+-- src/check.rt:125:9
 slice-aggregate-consistent-14 : tie.Need-slice-aggregate-consistent-14
 slice-aggregate-consistent-14 c = search needs
 
--- src/check.rt:66:9
+-- src/check.rt:126:9
 slice-aggregate-consistent-15 : tie.Need-slice-aggregate-consistent-15
 slice-aggregate-consistent-15 c = search needs
 
--- src/check.rt:41:5
+-- src/check.rt:101:5
 consistent-requires : tie.Need-consistent-requires
 consistent-requires c κs =
-    let p = c .before .before .before .before .before .before .before .before .before .before .before .before .before .before .before .before .before .before .before .before .before .before .before .pre in
+    let p = c .before .before .before .before .before .before .before .before .before .before .before .before .before .before .before .before .before .before .before .before .before .before .before .pre .0 in
     let l = first-row-none _ _ true _ (p .passes) in
     record {
       passes = p .passes;
@@ -80,20 +80,20 @@ consistent-requires c κs =
       order-long = omega (arith, l .sizes, p .sources-long, p .targets-long);
     }
 
--- src/check.rt:11:1
+-- src/check.rt:71:1
 same-length : tie.Need-same-length
 same-length c = search needs
 
--- src/check.rt:11:1
+-- src/check.rt:71:1
 same-length-2 : tie.Need-same-length-2
 same-length-2 c = search needs
 
--- src/check.rt:11:1
+-- src/check.rt:71:1
 returns : tie.Need-returns
 returns c = record { says = c .before .before .before .before .before .before .before .before .before .before .before .before .before .before .before .before .before .before .before .consistent .ensures .says; slots = λ q. c .before .before .before .before .before .before .before .before .before .before .before .before .before .before .before .before .before .before .before .consistent .ensures .ready q .filled .slots }
 
-pub check-large-spec : {M : Type 1} → statement M
-check-large-spec =
+pub check-small-spec : {M : Type 1} → statement M
+check-small-spec =
     tie.close
     (tie.spec
     slice-aggregate-consistent
