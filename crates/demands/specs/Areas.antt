@@ -1,8 +1,8 @@
 -- From the ledger to the areas that the calls are lent: what the contracts equate the code with. Assumes nothing.
-use Prim.Native.Nat.{ℕ, _+_, _*_, _/_, _%_, _≤_, _<_}
+use Prim.Native.Nat.{ℕ, _+_, _*_, _<_}
 use native.Mathlib.Omega.{arith}
-use mathlib.Core.Path.{_≡_, refl, sym, ap, ap₂, subst, _∙_}
-use mathlib.Core.Bool.{Bool, true, false}
+use mathlib.Core.Path.{_≡_, refl, sym, ap, _∙_}
+use mathlib.Core.Bool.{true}
 use mathlib.Core.List.{List}
 use lib.ListN.{length, getD}
 use borrow.Author.Tests.{lt-ltb}
@@ -10,14 +10,13 @@ use Rattle.graphs.specs.Square.{index-lt, index-div, index-mod}
 use Rattle.graphs.specs.Tab.{tab-at}
 use Rattle.layout.specs.Patch.{part, part-at}
 use Rattle.ledger.specs.Graph.{Load, at, members, mult}
-use Rattle.ledger.specs.Answer.{Answer}
 use Rattle.ledger.specs.Ledger.{Ledger, move, try-move, call}
 use Rattle.ledger.specs.Loading.{refusal}
 use Rattle.ledger.specs.LoadLaws.{first-row-none}
-use Rattle.move_area.specs.Bodies.{laneAt, atomAt, write}
+use Rattle.move_area.specs.Bodies.{laneAt}
 use Rattle.move_area.specs.BodyLaws.{read-edges, read-counts}
-use Rattle.move_area.specs.Area.{State, bodies, encode, decode, consistent, nodewise}
-use Rattle.move_area.specs.Held.{Held, bodies-sized, consistent-held, consistent-whole}
+use Rattle.move_area.specs.Area.{State, bodies, encode, decode, consistent}
+use Rattle.move_area.specs.Held.{bodies-sized, consistent-held, consistent-whole}
 use Rattle.move_area.specs.Calls as on-area
 use Rattle.move_area.specs.History.{Holding, holding-decode, holding-consistent, call-area, call-step}
 
@@ -76,6 +75,12 @@ pub step-after : (load : Load) (N : ℕ) (area : List ℕ) (a : ℕ) (s : List �
 unfolding call call-area
 step-after load N area a s h =
     let p = call-step load N area (decode load N area) (try-move a s) h in ap (λ (u : State). u .ledger) (holding-decode (p .holds)) ∙ p .follows
+
+-- with the counts and edges of that state, and no row from 1 to 9 that turns it back
+pub step-fresh : (load : Load) (N : ℕ) (area : List ℕ) (a : ℕ) (s : List ℕ) → Holding load N area (decode load N area)
+    → Fresh load N (decode load N (on-area.try-move load N area a s .area) .ledger) (on-area.try-move load N area a s .area)
+unfolding call-area
+step-fresh load N area a s h = let p = call-step load N area (decode load N area) (try-move a s) h in rw (holding-decode (p .holds)) (holding-fresh (p .holds))
 
 pub after-step : (load : Load) (N : ℕ) (area : List ℕ) (a : ℕ) (s : List ℕ) (b : ℕ) (t : List ℕ) → Holding load N area (decode load N area)
     → on-area.try-move load N (on-area.try-move load N area a s .area) b t .answer ≡ move load N (move load N (decode load N area .ledger) a s .after) b t .answer

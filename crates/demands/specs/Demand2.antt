@@ -21,7 +21,7 @@ use Rattle.ledger.specs.Loading.{refusal}
 use Rattle.move_area.specs.Area.{decode, consistent}
 use Rattle.move_area.specs.Calls as on-area
 use Rattle.demands.specs.History.{history, history-length}
-use Rattle.demands.specs.Areas.{holding, step-answer, step-after}
+use Rattle.demands.specs.Areas.{Fresh, holding, step-answer, step-after, step-fresh}
 
 -- "has no cycle": "A cycle is a closed walk of at least one edge"
 abbrev pub no-cycle : Load → List ℕ → Type 0
@@ -69,13 +69,17 @@ pub moved-in-history : (load : Load) (N : ℕ) (sets : List ℕ) (calls : List C
     → is-refused (move load N (history load N sets calls) a s .answer) ≡ false → Decided load (history load N sets calls) a s (move load N (history load N sets calls) a s)
 moved-in-history load N sets calls a s = moved-exactly-acyclic load N (history load N sets calls) a s (history-length load N sets calls)
 
--- The same on the areas that the calls are lent, from any area that no row from 1 to 9 turns back: what the area says of each atom and edge afterwards too
+-- The same on the areas that the calls are lent, from any area that no row from 1 to 9 turns back. What the area stores afterwards, counts and edges
+-- included, is what its placement says, and no row from 1 to 9 turns it back either
 pub moved-on-areas : (load : Load) (N : ℕ) (area : List ℕ) (a : ℕ) (s : List ℕ) → refusal load N (length area) ≡ 0 → consistent load N area ≡ true
     → let called = on-area.try-move load N area a s in
-    is-refused (called .answer) ≡ false → Decided load (decode load N area .ledger) a s (gives (called .answer) (decode load N (called .area) .ledger))
+    is-refused (called .answer) ≡ false
+    → Decided load (decode load N area .ledger) a s (gives (called .answer) (decode load N (called .area) .ledger)) × Fresh load N (decode load N (called .area) .ledger) (called .area)
 moved-on-areas load N area a s q c u =
     let l = decode load N area .ledger in
     let h = holding load N area q c in
-    let e : on-area.try-move load N area a s .answer ≡ move load N (decode load N area .ledger) a s .answer = step-answer load N area a s h in
-    subst (Decided load l a s) (sym (ap₂ gives e (step-after load N area a s h)))
-    (moved-exactly-acyclic load N l a s (h .held .sound .atoms) (subst (λ x. is-refused x ≡ false) e u))
+    let e : on-area.try-move load N area a s .answer ≡ move load N (decode load N area .ledger) a s .answer = step-answer load N area a s h in (
+      subst (Decided load l a s) (sym (ap₂ gives e (step-after load N area a s h)))
+          (moved-exactly-acyclic load N l a s (h .held .sound .atoms) (subst (λ x. is-refused x ≡ false) e u)),
+      step-fresh load N area a s h,
+    )

@@ -4,7 +4,7 @@ use native.Mathlib.Nat.{mod-lt, div-add-mod', div-lt-iff-lt-mul}
 use native.Mathlib.Omega.{arith}
 use native.Mathlib.Decide.{ℕ-discrete, decLt}
 use mathlib.Core.Path.{_≡_, refl, sym, ap, _∙_}
-use mathlib.Core.Bool.{Bool, true, false, not, _&&_, _||_}
+use mathlib.Core.Bool.{Bool, true, false, not, _&&_, _||_, and-false}
 use mathlib.Core.List.{List}
 use lib.ListN.{length}
 use lib.Dec.{eqb}
@@ -19,11 +19,7 @@ use Rattle.merge_reads.specs.Fields.{yes-ind}
 use Rattle.merge_reads.specs.Cells.{area-length, area-target, area-source, area-other, area-side, area-rest}
 
 or-swap : (a b c u : Bool) → ((((a || b) && u) || c) && u) ≡ ((((a || c) && u) || b) && u)
-or-swap a b c false = by-false ((a || b) && false || c) ∙ sym (by-false ((a || c) && false || b))
-  where
-    by-false : (k : Bool) → (k && false) ≡ false
-    by-false true = refl
-    by-false false = refl
+or-swap a b c false = and-false ((a || b) && false || c) ∙ sym (and-false ((a || c) && false || b))
 or-swap true b c true = refl
 or-swap false true true true = refl
 or-swap false true false true = refl

@@ -1,16 +1,16 @@
 -- Every call leaves the graph that its method says, and a consistent area: row 21 can't fit within a list. Assumes nothing.
-use Prim.Native.Nat.{ℕ, _^_, _<_, _≤_}
+use Prim.Native.Nat.{ℕ, _^_, _<_}
 use native.Mathlib.Omega.{arith}
-use native.Mathlib.Nat.{pow-le-pow-right}
 use native.Mathlib.Decide.{ℕ-discrete}
 use mathlib.Core.Path.{_≡_, refl, sym, ap, subst, _∙_}
-use mathlib.Core.Bool.{false, not}
+use mathlib.Core.Bool.{false}
 use mathlib.Core.List.{List, [], _∷_}
 use lib.ListN.{length}
 use lib.Dec.{eqb, leb}
 use borrow.Author.Tests.{ltb-true, ltb-false, not-false}
 use Rattle.graphs.specs.Bools.{or-false-right, and-right}
 use Rattle.entry_set.specs.Sets.{value, width}
+use Rattle.entry_set.specs.SetLaws.{below-256}
 use Rattle.merge_state.specs.declared.Sizes.{Sizes}
 use Rattle.merge_state.specs.State.{flag}
 use Rattle.merge_state.specs.Table.{Call, init-module-assignment, add-module-to-chunk, register-chunk-graph-index, to-temp-idx, calc-chunk-dependencies, would-create-circular-dependency, is-reachable, merge-chunk-dependencies, pass, later, acted}
@@ -31,9 +31,6 @@ use Rattle.merge_reads.specs.Reads.{register-length, read-register, append-leng
 use Rattle.merge_reads.specs.Calc.{calc-length, read-calc}
 use Rattle.merge_reads.specs.Pass.{Holds, pass-holds}
 
-below-power : (x e k : ℕ) → x < 2 ^ e → e ≤ k → x < 2 ^ k
-below-power x e k h b = omega (arith, pow-le-pow-right {n = 2} (omega arith) {i = e} {j = k} b)
-
 -- an unrefused call leaves the graph that its method says, in an area of the same length
 pub write-holds : (z : Sizes) (a : List ℕ) (c : Call) → refusal z a c ≡ 0 → Holds z a (write z a c) (acted z (read z a) c .1)
 unfolding write acted later
@@ -44,7 +41,7 @@ write-holds z a (init-module-assignment m set effs) h =
     let h₁ = none-fits _ 16 _ (omega arith) (f .later) in
     let fits : value set < 2 ^ z .bits = ltb-true _ _ (and-right (eqb (length set) (width (z .bits))) _ (not-false _ (or-false-right (leb (z .modules) m) _ (h₁ .0)))) in
     record {
-      graph = read-init z a m (value set) effs c (below-power (value set) (z .bits) 256 fits (hd .within .bits)) (omega (arith, hd .named, hd .fits));
+      graph = read-init z a m (value set) effs c (below-256 (hd .within .bits) fits) (omega (arith, hd .named, hd .fits));
       same = init-length z a m (value set) effs c (flag effs m);
     }
 write-holds z a (add-module-to-chunk m x effs) h =

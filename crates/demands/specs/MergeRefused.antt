@@ -1,6 +1,6 @@
 -- Demand 1 of the merge graph: a refusal changes no lent memory. Assumes nothing.
 use Prim.Native.Nat.{ℕ, zero, suc}
-use mathlib.Core.Path.{_≡_, refl, sym, _∙_}
+use mathlib.Core.Path.{_≡_, refl, sym, ap, _∙_}
 use mathlib.Core.Bool.{Bool, true, false, not, cond, _&&_, true≢false}
 use mathlib.Core.List.{List}
 use lib.Dec.{eqb, ltb}
@@ -12,6 +12,7 @@ use Rattle.merge_area.specs.Read.{read}
 use Rattle.merge_area.specs.Writes.{write}
 use Rattle.merge_area.specs.Calls.{refusal, step, lists-after}
 use Rattle.merge_state.specs.Loading.{Lent}
+use Rattle.merge_laws.specs.Rows.{turned-refused, turned-free}
 use Rattle.merge_loading.specs.Loading.{loaded-area, load-refusal, load-step}
 
 unfoldable pub is-refused : Answer → Bool
@@ -58,17 +59,12 @@ module _ (z : Sizes) (a : List ℕ) (c : Call) where
 
   -- what it answers and leaves then
   pub free-step : refusal z a c ≡ 0 → step z a c ≡ (acted z (read z a) c .0, write z a c)
-  unfolding step turned
-  free-step h = rw h
-
-  same : (q : ℕ) (r : Answer × List ℕ) → (q ≡ 0 → ⊥) → turned q a r .1 ≡ a
-  unfolding turned
-  same zero r h = absurd (h refl)
-  same (suc n) r h = refl
+  unfolding step
+  free-step h = turned-free (refusal z a c) a _ h
 
   pub stuck-step : (refusal z a c ≡ 0 → ⊥) → step z a c .1 ≡ a
   unfolding step
-  stuck-step h = same (refusal z a c) _ h
+  stuck-step h = ap (λ (r : Answer × List ℕ). r .1) (turned-refused (refusal z a c) a _ h)
 
   -- "A refusal changes no lent memory": the area
   pub refused-merge-call : is-refused (step z a c .0) ≡ true → step z a c .1 ≡ a
