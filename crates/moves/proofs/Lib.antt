@@ -1,2 +1,3 @@
 -- What the loops of `moves` keep. Assumes nothing.
 pub mod Lengths
+pub mod Turning

@@ -1,17 +1,29 @@
-// The program `moves`: reads commands from standard input to its end, and writes the replies to standard output.
-ghost use Prim.Native.Nat.{_≤_};
-ghost use lib.ListN.{length};
+// The program `moves`: reads commands from standard input to its end, and writes the replies to standard output. What `read` and `write` of
+// the system do with the bytes that they are lent is the one thing that isn't proved.
+ghost use mathlib.Core.Path.{_≡_};
+ghost use mathlib.Core.Bool.{true, false};
+ghost use Prim.Native.Nat.{_≤_, _<_};
+ghost use lib.ListN.{length, take};
+ghost use Rattle.replies.specs.Room.{Put};
+ghost use Rattle.load_commands.specs.Machine as def;
+ghost use Rattle.load_commands.specs.Machine.{new-machine};
+ghost use Rattle.moves_commands.specs.Program.{finish, fresh};
+ghost use Rattle.moves_commands.specs.Fits.{Ready};
+ghost use Rattle.moves_commands.specs.Feed.{reserve};
+ghost use Rattle.moves_commands.specs.Steps.{held};
+ghost use Rattle.moves.specs.Turns.{Took, Answered, TookAll, Ran, StartsWith};
 use libc::STDIN_FILENO;
 use libc::STDOUT_FILENO;
 use load_commands::Machine;
 
-// The machine after the bytes that were used.
+// The machine after the bytes that were used; where the program doesn't go on, it has stopped.
 struct Step {
     machine: Machine,
     used: usize,
+    going: bool,
 }
 
-// Feeds what there is room for, and writes the replies. The machine has stopped where they can't be written.
+// Feeds as much as there is room for the replies to, and writes them. The program goes on where they can be written.
 fn feed_once(
     m: Machine,
     sets: &mut [u64],
@@ -21,10 +33,12 @@ fn feed_once(
     hosts: &mut [u32],
     area: &mut [u32],
     input: &[u8],
+    out: &mut [u8],
 ) -> Step
-    ensures { λ r. ⌜ r .used ≤ length (now (input .entry)) ⌝ }
+    requires { ⌜ Ready (held m (now sets) (now sources) (now dependencies) (now hosts) (now starts) (now area)) ⌝ }
+    requires { ⌜ (0 < length (now input)) × (reserve ≤ length (now out)) ⌝ }
+    ensures { λ r. ⌜ Answered (held m (now (sets .entry)) (now (sources .entry)) (now (dependencies .entry)) (now (hosts .entry)) (now (starts .entry)) (now (area .entry))) (now (input .entry)) (held (r .machine) (now (sets .exit)) (now (sources .exit)) (now (dependencies .exit)) (now (hosts .exit)) (now (starts .exit)) (now (area .exit))) (r .used) (r .going) (now (out .exit)) ⌝ }
 {
-    let mut out = [0u8; 65536];
     let f = moves_commands::feed(
         m,
         sets,
@@ -34,7 +48,7 @@ fn feed_once(
         hosts,
         area,
         input,
-        &mut out,
+        out,
     );
     let n = f.written;
     let used = f.used;
@@ -43,12 +57,17 @@ fn feed_once(
         return Step {
             machine: load_commands::halt(machine),
             used,
+            going: false,
         };
     }
-    Step { machine, used }
+    Step {
+        machine,
+        used,
+        going: true,
+    }
 }
 
-// Feeds a block of the input. Nothing is used only where the interpreter's lists are too short.
+// Feeds a block of the input, all of it where the replies can be written.
 fn feed_block(
     m: Machine,
     sets: &mut [u64],
@@ -58,7 +77,12 @@ fn feed_block(
     hosts: &mut [u32],
     area: &mut [u32],
     input: &[u8],
-) -> Machine {
+    out: &mut [u8],
+) -> Step
+    requires { ⌜ Ready (held m (now sets) (now sources) (now dependencies) (now hosts) (now starts) (now area)) ⌝ }
+    requires { ⌜ reserve ≤ length (now out) ⌝ }
+    ensures { λ r. ⌜ TookAll (held m (now (sets .entry)) (now (sources .entry)) (now (dependencies .entry)) (now (hosts .entry)) (now (starts .entry)) (now (area .entry))) (now (input .entry)) (held (r .machine) (now (sets .exit)) (now (sources .exit)) (now (dependencies .exit)) (now (hosts .exit)) (now (starts .exit)) (now (area .exit))) (r .used) (r .going) ⌝ }
+{
     let mut machine = m;
     let mut at = 0;
     while at < input.len() {
@@ -71,25 +95,41 @@ fn feed_block(
             hosts,
             area,
             &input[at..],
+            out,
         );
         machine = s.machine;
-        if s.used == 0 {
-            return load_commands::halt(machine);
-        }
         at += s.used;
+        if !s.going {
+            return Step {
+                machine,
+                used: at,
+                going: false,
+            };
+        }
     }
-    machine
+    Step {
+        machine,
+        used: at,
+        going: true,
+    }
 }
 
 // At the end of the input.
-fn end(m: Machine) -> Machine {
-    let mut out = [0u8; 64];
-    let n = moves_commands::finish(m, &mut out);
+fn end(m: Machine, out: &mut [u8]) -> Step
+    requires { ⌜ 64 ≤ length (now out) ⌝ }
+    ensures { λ r. ⌜ (r .machine ≡ def.halt m) × (r .used ≡ 0) × (r .going ≡ false) ⌝ }
+    ensures { λ r. ⌜ StartsWith (finish m) (now (out .exit)) ⌝ }
+{
+    let n = moves_commands::finish(m, out);
     io::write_all(STDOUT_FILENO, &out[..n]);
-    load_commands::halt(m)
+    Step {
+        machine: load_commands::halt(m),
+        used: 0,
+        going: false,
+    }
 }
 
-// Reads a block and feeds it. The machine has stopped where the input is at its end.
+// Reads a block and feeds it. At the end of the input, or where a read fails, the program doesn't go on.
 fn read_block(
     m: Machine,
     sets: &mut [u64],
@@ -98,12 +138,17 @@ fn read_block(
     starts: &mut [u32],
     hosts: &mut [u32],
     area: &mut [u32],
-) -> Machine {
-    let mut input = io::large_buffer();
-    let got = libc::read(STDIN_FILENO, &mut input);
-    let n = io::count(got, &input);
+    input: &mut [u8],
+    out: &mut [u8],
+) -> Step
+    requires { ⌜ Ready (held m (now sets) (now sources) (now dependencies) (now hosts) (now starts) (now area)) ⌝ }
+    requires { ⌜ reserve ≤ length (now out) ⌝ }
+    ensures { λ r. ⌜ Took (held m (now (sets .entry)) (now (sources .entry)) (now (dependencies .entry)) (now (hosts .entry)) (now (starts .entry)) (now (area .entry))) (now (input .exit)) (held (r .machine) (now (sets .exit)) (now (sources .exit)) (now (dependencies .exit)) (now (hosts .exit)) (now (starts .exit)) (now (area .exit))) (r .used) (r .going) ⌝ }
+{
+    let got = libc::read(STDIN_FILENO, input);
+    let n = io::count(got, input);
     if n == 0 {
-        return end(m);
+        return end(m, out);
     }
     feed_block(
         m,
@@ -114,6 +159,7 @@ fn read_block(
         hosts,
         area,
         &input[..n],
+        out,
     )
 }
 
@@ -125,16 +171,34 @@ fn run(
     starts: &mut [u32],
     hosts: &mut [u32],
     area: &mut [u32],
-) {
+    input: &mut [u8],
+    out: &mut [u8],
+) -> Machine
+    requires { ⌜ held new-machine (now sets) (now sources) (now dependencies) (now hosts) (now starts) (now area) ≡ fresh (now area) ⌝ }
+    requires { ⌜ reserve ≤ length (now out) ⌝ }
+    ensures { λ r. ⌜ Ran (fresh (now (area .entry))) (held r (now (sets .exit)) (now (sources .exit)) (now (dependencies .exit)) (now (hosts .exit)) (now (starts .exit)) (now (area .exit))) ⌝ }
+{
     let mut machine = load_commands::fresh();
     let mut turns: u64 = 9223372036854775808;
     while turns > 0 {
-        machine = read_block(machine, sets, sources, dependencies, starts, hosts, area);
+        let s = read_block(
+            machine,
+            sets,
+            sources,
+            dependencies,
+            starts,
+            hosts,
+            area,
+            input,
+            out,
+        );
+        machine = s.machine;
         if machine.stopped {
-            return;
+            return machine;
         }
         turns -= 1;
     }
+    machine
 }
 
 fn main() {
@@ -144,6 +208,8 @@ fn main() {
     let mut starts = [0u32; 49];
     let mut hosts = [4294967295u32; 16];
     let mut area = [0u32; 16384];
+    let mut input = [0u8; 65536];
+    let mut out = [0u8; 65536];
     run(
         &mut sets,
         &mut sources,
@@ -151,5 +217,7 @@ fn main() {
         &mut starts,
         &mut hosts,
         &mut area,
+        &mut input,
+        &mut out,
     );
 }

@@ -1,23 +1,21 @@
 -- `moves::feed_once` meets its contract. Assumes nothing.
-use mathlib.Core.Path.{sym}
-use native.Mathlib.Omega.{arith}
-use Prim.Native.Nat.{_-_}
-use lib.Seq.{length-take-le}
 use borrow.Author.Needs.{needs}
+use mathlib.Core.Path.{sym}
+use mathlib.Core.Bool.{true, false}
+use native.Mathlib.Omega.{arith}
+use lib.Seq.{length-take-le}
+use Rattle.moves.proofs.Turning.{answered}
 use Rattle.moves.proofs.feed_once.Statement.{statement}
 use Rattle.moves.proofs.feed_once.Tie as tie
-
-slice-aggregate-feed : tie.Need-slice-aggregate-feed
-slice-aggregate-feed c = search needs
 
 feed-requires : tie.Need-feed-requires
 feed-requires c κs = search needs
 
-array-share-prefix-out : tie.Need-array-share-prefix-out
-array-share-prefix-out c = search needs
+slice-reshare-prefix-write-all : tie.Need-slice-reshare-prefix-write-all
+slice-reshare-prefix-write-all c = search needs
 
 slice-aggregate-write-all : tie.Need-slice-aggregate-write-all
-slice-aggregate-write-all c = sym (length-take-le _ _ (omega (arith, c .before .before .before .before .before .before .before .before .before .before .before .before .before .before .before .feed .ensures .0 .put .inside, c .before .before .before .before .before .before .before .before .before .before .before .before .before .before .before .feed .ensures .0 .put .long)))
+slice-aggregate-write-all c = let f = c .before .before .before .before .before .before .before .before .before .before .before .before .before .before .before .before .feed .ensures .0 in sym (length-take-le _ _ (omega (arith, f .put .inside, f .put .long)))
 
 write-all-requires : tie.Need-write-all-requires
 write-all-requires c κs = search needs
@@ -43,11 +41,11 @@ same-length-5 c = search needs
 same-length-6 : tie.Need-same-length-6
 same-length-6 c = search needs
 
-returns : tie.Need-returns
-returns c = c .before .before .before .before .before .before .before .before .before .before .before .before .before .before .before .before .before .before .feed .ensures .1
-
 same-length-7 : tie.Need-same-length-7
 same-length-7 c = search needs
+
+returns : tie.Need-returns
+returns c = let f = c .before .before .before .before .before .before .before .before .before .before .before .before .before .before .before .before .before .before .before .feed .ensures in let p = c .before .before .before .before .before .before .before .before .before .before .before .before .before .before .before .before .before .before .before .before .before .before .before .before .before .before .before .before .before .before .before .before .before .before .before .pre in rw (c .halt .ensures) (answered _ (p .0) (p .1) (f .0) (f .1) false)
 
 same-length-8 : tie.Need-same-length-8
 same-length-8 c = search needs
@@ -64,16 +62,21 @@ same-length-11 c = search needs
 same-length-12 : tie.Need-same-length-12
 same-length-12 c = search needs
 
+same-length-13 : tie.Need-same-length-13
+same-length-13 c = search needs
+
+same-length-14 : tie.Need-same-length-14
+same-length-14 c = search needs
+
 returns-2 : tie.Need-returns-2
-returns-2 c = c .before .before .before .before .before .before .before .before .before .before .before .before .before .before .before .before .before .feed .ensures .1
+returns-2 c = let f = c .before .before .before .before .before .before .before .before .before .before .before .before .before .before .before .before .before .before .feed .ensures in let p = c .before .before .before .before .before .before .before .before .before .before .before .before .before .before .before .before .before .before .before .before .before .before .before .before .before .before .before .before .before .before .before .before .before .before .pre in answered _ (p .0) (p .1) (f .0) (f .1) true
 
 pub feed-once-spec : {M : Type 1} → statement M
 feed-once-spec =
     tie.close
     (tie.spec
-    slice-aggregate-feed
     feed-requires
-    array-share-prefix-out
+    slice-reshare-prefix-write-all
     slice-aggregate-write-all
     write-all-requires
     halt-requires
@@ -83,11 +86,13 @@ feed-once-spec =
     same-length-4
     same-length-5
     same-length-6
-    returns
     same-length-7
+    returns
     same-length-8
     same-length-9
     same-length-10
     same-length-11
     same-length-12
+    same-length-13
+    same-length-14
     returns-2)

@@ -1,0 +1,76 @@
+-- What the turns of the program's loop do. Assumes nothing.
+use mathlib.Core.Path.{_≡_, sym, ap, _∙_}
+use mathlib.Core.Bool.{Bool, true, cond}
+use mathlib.Core.List.{List}
+use Prim.Native.Nat.{ℕ, _+_, _-_, _≤_, _<_}
+use native.Mathlib.Omega.{arith}
+use lib.ListN.{length, take, drop, getD, length-drop}
+use lib.Seq.{length-take-le, take-add, take-take, getD-take, ext-getD}
+use Rattle.layout.specs.Patch.{patch, patch-in}
+use Rattle.replies.specs.Room.{Put}
+use Rattle.load_commands.specs.Machine.{halt}
+use Rattle.moves_commands.specs.Program.{State, with-machine}
+use Rattle.moves.specs.Bytes.{after, said, after-append}
+
+-- the state, stopped where the program doesn't go on: at the end of the input, or because its replies can't be written
+abbrev pub stopping : Bool → State (List ℕ) → State (List ℕ)
+stopping going st = cond going st (with-machine st (halt (st .reading .machine)))
+
+-- a text stands at the start of a list
+abbrev pub StartsWith : List ℕ → List ℕ → Type 0
+StartsWith text l = take (length text) l ≡ text
+
+pub put-starts : {text l l′ : List ℕ} {n : ℕ} → Put text l 0 l′ n → StartsWith text l′
+put-starts {text} {l} {l′} {n} p =
+    let fits : length text ≤ length l′ = omega (arith, p .end, p .inside, p .long) in
+    ext-getD 0 (take (length text) l′) text (length-take-le (length text) l′ fits)
+    (λ i h. getD-take (length text) l′ i 0 (omega (arith, h, length-take-le (length text) l′ fits)) ∙ ap (λ (u : List ℕ). getD u i 0) (p .written) ∙ cell i (omega (arith, h, length-take-le (length text) l′ fits)))
+  where
+    cell : (i : ℕ) → i < length text → getD (patch 0 text l) i 0 ≡ getD text i 0
+    cell i h = let e : 0 + i ≡ i = omega arith in rw e at (patch-in 0 text l i h (omega (arith, p .end, p .inside)))
+
+-- the first `used` bytes of the input are taken, each once and in order
+pub record Took (st : State (List ℕ)) (input : List ℕ) (st′ : State (List ℕ)) (used : ℕ) (going : Bool) : Type 0 where
+  pub inside : used ≤ length input
+  pub state : st′ ≡ stopping going (after st (take used input))
+
+-- at least one, and the replies to them stand at the start of what is lent for replies, from where they are written
+pub record Answered (st : State (List ℕ)) (input : List ℕ) (st′ : State (List ℕ)) (used : ℕ) (going : Bool) (out : List ℕ) : Type 0 where
+  pub took : Took st input st′ used going
+  pub some : 0 < used
+  pub text : StartsWith (said st (take used input)) out
+
+-- all of them, unless the replies can't be written
+pub record TookAll (st : State (List ℕ)) (input : List ℕ) (st′ : State (List ℕ)) (used : ℕ) (going : Bool) : Type 0 where
+  pub took : Took st input st′ used going
+  pub all : going ≡ true → used ≡ length input
+
+-- the program ran on bytes that it read, each taken once and in order
+pub record Ran (st st′ : State (List ℕ)) : Type 0 where
+  pub bytes : List ℕ
+  pub going : Bool
+  pub state : st′ ≡ stopping going (after st bytes)
+
+-- a turn after others: the bytes used of the rest are the next ones of the whole
+pub took-on : {st st′ st″ : State (List ℕ)} {input : List ℕ} {at used : ℕ} {going : Bool} → at ≤ length input → st′ ≡ after st (take at input)
+    → Took st′ (take (length input - at) (drop at input)) st″ used going → Took st input st″ (at + used) going
+took-on {st} {st′} {st″} {input} {at} {used} {going} h e t =
+    let rest : ℕ = length input - at in
+    let long : length (take rest (drop at input)) ≡ rest = length-take-le rest (drop at input) (simp length-drop (omega arith)) in
+    record {
+      inside = omega (arith, h, t .inside, long);
+      state =
+          t .state
+          ∙ ap (λ (s : State (List ℕ)). stopping going s)
+          (ap (λ (s : State (List ℕ)). after s (take used (take rest (drop at input)))) e
+          ∙ ap (λ (u : List ℕ). after (after st (take at input)) u) (take-take used rest (drop at input) (omega (arith, t .inside, long)))
+          ∙ sym (after-append (take at input) (take used (drop at input)) st)
+          ∙ ap (λ (u : List ℕ). after st u) (sym (take-add at used input)));
+    }
+
+-- a part of the block that was read
+pub took-part : {st st′ : State (List ℕ)} {input : List ℕ} {n used : ℕ} {going : Bool} → n ≤ length input
+    → Took st (take n input) st′ used going → Took st input st′ used going
+took-part {st} {st′} {input} {n} {used} {going} h t =
+    let k : used ≤ n = omega (arith, t .inside, length-take-le n input h) in
+    record { inside = omega (arith, h, k); state = t .state ∙ ap (λ (u : List ℕ). stopping going (after st u)) (take-take used n input k) }
