@@ -87,6 +87,17 @@ fn too_many_atoms() {
     say(b"513 atoms: ", load_code(r));
 }
 
+// "N > 1,024" comes before the area's length: with room for 1,024 chunks the area is too short, with room for one more the number is refused.
+fn most_chunks(n: usize) -> u64 {
+    let starts = [0u32; 2];
+    let none = [0u32; 1];
+    let hosts = [4294967295u32; 1];
+    let sets = [0u64; 1];
+    let mut area = [0u32; 24];
+    let r = reduced_chunk_graph::new(1, 0, 1, n, &starts, &none[1..], &hosts, &sets, &mut area);
+    load_code(r)
+}
+
 // N = A = 0: 24 numbers are enough.
 fn no_atoms() {
     let starts = [0u32; 1];
@@ -213,6 +224,8 @@ fn last_mark() {
 fn main() {
     most_atoms();
     too_many_atoms();
+    say(b"room for 1024 chunks in a short area: ", most_chunks(1024));
+    say(b"room for 1025 chunks: ", most_chunks(1025));
     no_atoms();
     all_bits();
     sizes();
