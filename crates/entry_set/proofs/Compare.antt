@@ -34,7 +34,7 @@ module _ (b : ℕ) {x y : ℕ} (X Y : ℕ) (hx : x < 2 ^ b) (hy : y < 2 ^ b) whe
       go false p u q = ne-eqb _ _ (λ e. eqb-false x y p (first e))
 
   -- the rest decides, and where it is equal the lowest
-  less-step : ltb (x + 2 ^ b * X) (y + 2 ^ b * Y) ≡ cond (eqb X Y) (ltb x y) (ltb X Y)
+  pub less-step : ltb (x + 2 ^ b * X) (y + 2 ^ b * Y) ≡ cond (eqb X Y) (ltb x y) (ltb X Y)
   less-step = go (eqb X Y) refl (ltb x y) refl (ltb X Y) refl
     where
       above : {m M N : ℕ} (n : ℕ) → m < 2 ^ b → M < N → m + 2 ^ b * M < n + 2 ^ b * N
