@@ -39,7 +39,7 @@ cast-reaches-2 c = search needs
 
 -- src/lib.rt:139:14
 reaches-requires : tie.Need-reaches-requires
-reaches-requires c κs = rw (c .before .before .header .ensures) (may-reach _ _ _ _ (c .before .before .before .before .reach-row .ensures) (c .before .before .before .if1 .left) .0)
+reaches-requires c κs = let m = may-reach _ _ _ _ (c .before .before .before .before .reach-row .ensures) (c .before .before .before .if1 .left) .0 in rw (c .before .before .header .ensures) (search needs)
 
 -- src/lib.rt:131:1
 returns-2 : tie.Need-returns-2

@@ -34,7 +34,7 @@ cast-merge-2 c = search needs
 
 -- src/lib.rt:150:5
 merge-requires : tie.Need-merge-requires
-merge-requires c κs = may-merge _ _ _ _ (pair-merge _ _ _ _ (c .before .before .before .before .pair-row .ensures)) (c .before .before .before .if1 .left)
+merge-requires c κs = let m = may-merge _ _ _ _ (pair-merge _ _ _ _ (c .before .before .before .before .pair-row .ensures)) (c .before .before .before .if1 .left) in search needs
 
 -- src/lib.rt:143:1
 same-length-2 : tie.Need-same-length-2
