@@ -14,7 +14,7 @@ use Rattle.move_area.specs.Checked.{Ranged, checked-consistent, consistent-rang
 use Rattle.consistency.specs.Ranges.{bounds, CanRange, RangeTold}
 use Rattle.consistency.specs.Ready.{CanWork, WorkTold, CanCheck, Told}
 
-module _ {load : Load} {n : ℕ} {area counts facade sources targets heads list row degrees turned back colour cursor stack low finish flags order : List ℕ} (can : CanCheck load n area counts facade sources targets heads list row degrees turned back colour cursor stack low finish flags order) where
+module _ {load : Load} {n : ℕ} {area counts sources targets heads list row degrees turned back cursor stack low finish flags order : List ℕ} (can : CanCheck load n area counts sources targets heads list row degrees turned back cursor stack low finish flags order) where
   loadable : Loadable load n true (length area)
   loadable = first-row-none load n true (length area) (can .passes)
 
@@ -22,7 +22,7 @@ module _ {load : Load} {n : ℕ} {area counts facade sources targets heads list 
   room = omega (arith, loadable .sizes .area)
 
   pub check-ranges : CanRange (load .A) n area order row
-  check-ranges = record { nodes = loadable .sizes .sets; room = room; order-long = can .order-long; spare-long = can .room .row-long }
+  check-ranges = record { nodes = loadable .sizes .sets; room = room; order-long = can .order-long; spare-long = can .walks .colour-long }
 
   -- the ranges ask for the atoms and the entry bits alone
   wide : Ranged (bounds (load .A) (load .E)) n area → Ranged load n area
@@ -39,22 +39,22 @@ module _ {load : Load} {n : ℕ} {area counts facade sources targets heads list 
     }
 
     module _ (h : q ≡ true) where
-      pub check-work : {row′ : List ℕ} → length row′ ≡ length row → CanWork load n area counts facade sources targets heads list row′ degrees turned back colour cursor stack low finish flags
+      pub check-work : {row′ : List ℕ} → length row′ ≡ length row → CanWork load n area counts sources targets heads list row′ degrees turned back cursor stack low finish flags
       check-work e = record {
         loadable = loadable;
         ranged = wide (t .says .right h);
-        room = record {
-          counts-long = can .room .counts-long;
-          facade-long = can .room .facade-long;
-          sources-long = can .room .sources-long;
-          targets-long = can .room .targets-long;
-          heads-long = can .room .heads-long;
-          list-long = can .room .list-long;
-          list-short = can .room .list-short;
-          row-long = omega (arith, can .room .row-long);
-          degrees-long = can .room .degrees-long;
+        room = can .room;
+        walks = record {
+          turned-long = can .walks .turned-long;
+          back-long = can .walks .back-long;
+          back-short = can .walks .back-short;
+          colour-long = omega (arith, can .walks .colour-long);
+          cursor-long = can .walks .cursor-long;
+          stack-long = can .walks .stack-long;
+          low-long = can .walks .low-long;
+          finish-long = can .walks .finish-long;
+          flags-long = can .walks .flags-long;
         };
-        walks = can .walks;
       }
 
       pub check-done : {counts′ sources′ targets′ degrees′ : List ℕ} {r : Bool} → ((i : ℕ) → getD area i 0 < 2 ^ 32) → WorkTold load n area counts′ sources′ targets′ degrees′ r

@@ -24,13 +24,13 @@ use Rattle.consistency.specs.Matched.{CanMatch, Matched}
 use Rattle.consistency.specs.Ready.{Lanes, CanLane, CanFlag, CanWork, WorkTold}
 use Rattle.consistency.proofs.Tests.{same-decides, both-decides}
 
-module _ {load : Load} {n : ℕ} {area counts facade sources targets heads list row degrees turned back colour cursor stack low finish flags : List ℕ} (can : CanWork load n area counts facade sources targets heads list row degrees turned back colour cursor stack low finish flags) where
-  pub work-fill : CanFillOwn load n area counts facade sources targets
+module _ {load : Load} {n : ℕ} {area counts sources targets heads list row degrees turned back cursor stack low finish flags : List ℕ} (can : CanWork load n area counts sources targets heads list row degrees turned back cursor stack low finish flags) where
+  pub work-fill : CanFillOwn load n area counts list sources targets
   work-fill = record {
     loadable = can .loadable;
     ranged = can .ranged;
     counts-long = can .room .counts-long;
-    facade-long = can .room .facade-long;
+    facade-long = omega (arith, can .room .list-long);
     sources-long = can .room .sources-long;
     targets-long = can .room .targets-long;
   }
@@ -52,8 +52,8 @@ module _ {load : Load} {n : ℕ} {area counts facade sources targets heads list 
   }
 
   module _ {m : ℕ} {s t : List ℕ} (g : Counted load (nodesIn load n area) (setsIn n area) s t n m) (p : length s ≡ length sources) (q : length t ≡ length targets) where
-    pub work-match : CanMatch area n m s t heads list row degrees
-    work-match =
+    pub work-match : {list′ : List ℕ} → length list′ ≡ length list → CanMatch area n m s t heads list′ row degrees
+    work-match o =
         let l = counted-le g in
         record {
           square = omega (arith, can .loadable .sizes .area);
@@ -64,13 +64,14 @@ module _ {load : Load} {n : ℕ} {area counts facade sources targets heads list 
           ends = counted-ends g;
           heads-long = can .room .heads-long;
           list-long = omega (arith, can .room .list-long);
-          short = can .room .list-short;
-          row-long = can .room .row-long;
+          short = omega (arith, can .room .list-short);
+          row-long = can .walks .colour-long;
           degrees-long = can .room .degrees-long;
         }
 
-    pub work-flag : {heads′ list′ degrees′ : List ℕ} {r : Bool} → Matched area n m s t heads′ list′ degrees′ r → CanFlag area n m s t heads′ list′ turned back colour cursor stack low finish flags
-    work-flag d =
+    pub work-flag : {heads′ list′ degrees′ row′ : List ℕ} {r : Bool} → Matched area n m s t heads′ list′ degrees′ r → length row′ ≡ length row
+        → CanFlag area n m s t heads′ list′ turned back row′ cursor stack low finish flags
+    work-flag d o =
         let l = counted-le g in
         record {
           lanes = work-lanes;
@@ -84,7 +85,7 @@ module _ {load : Load} {n : ℕ} {area counts facade sources targets heads list 
             turned-long = can .walks .turned-long;
             back-long = omega (arith, can .walks .back-long);
             back-short = can .walks .back-short;
-            colour-long = can .walks .colour-long;
+            colour-long = omega (arith, can .walks .colour-long);
             cursor-long = can .walks .cursor-long;
             stack-long = can .walks .stack-long;
             low-long = can .walks .low-long;

@@ -39,16 +39,14 @@ pub record WalkRoom (n m : ℕ) (turned back colour cursor stack low finish flag
   pub finish-long : n ≤ length finish
   pub flags-long : n ≤ length flags
 
--- lists lent for n nodes, m slots and e entry bits
-pub record Room (n m e : ℕ) (counts facade sources targets heads list row degrees : List ℕ) : Type 0 where
+-- lists lent for n nodes and m slots
+pub record Room (n m : ℕ) (counts sources targets heads list degrees : List ℕ) : Type 0 where
   pub counts-long : n ≤ length counts
-  pub facade-long : e ≤ length facade
   pub sources-long : m ≤ length sources
   pub targets-long : m ≤ length targets
   pub heads-long : n < length heads
   pub list-long : m ≤ length list
   pub list-short : length list < 2 ^ 31
-  pub row-long : n ≤ length row
   pub degrees-long : n ≤ length degrees
 
 -- the slots' graph is grouped by source, and there is room for the walks
@@ -62,12 +60,12 @@ pub record CanFlag (area : List ℕ) (n m : ℕ) (sources targets heads list tur
   pub edges : edge heads list n ≡ slotEdge sources targets m
   pub room : WalkRoom n m turned back colour cursor stack low finish flags
 
--- the load passes the rows 1 to 6, the area's numbers are in range, and the lists are long enough
-pub record CanWork (load : Load) (n : ℕ) (area counts facade sources targets heads list row degrees turned back colour cursor stack low finish flags : List ℕ) : Type 0 where
+-- the load passes the rows 1 to 6, the area's numbers are in range, and the lists are long enough; `row` is the walks' list of colours too
+pub record CanWork (load : Load) (n : ℕ) (area counts sources targets heads list row degrees turned back cursor stack low finish flags : List ℕ) : Type 0 where
   pub loadable : Loadable load n true (length area)
   pub ranged : Ranged load n area
-  pub room : Room n (load .D + load .E) (load .E) counts facade sources targets heads list row degrees
-  pub walks : WalkRoom n (load .D + load .E) turned back colour cursor stack low finish flags
+  pub room : Room n (load .D + load .E) counts sources targets heads list degrees
+  pub walks : WalkRoom n (load .D + load .E) turned back row cursor stack low finish flags
 
 -- whether the rest is what is worked out; the atom counts and the slots of the area's own placement; and where the answer is yes, how many edges
 -- start at each node
@@ -77,10 +75,10 @@ pub record WorkTold (load : Load) (n : ℕ) (area counts sources targets degrees
   pub degree-at : r ≡ true → (x : ℕ) → x < n → getD degrees x 0 ≡ count (nodeEdge load (nodesIn load n area) (setsIn n area) x) n
 
 -- no row from 1 to 6 fits, and the lists are long enough
-pub record CanCheck (load : Load) (n : ℕ) (area counts facade sources targets heads list row degrees turned back colour cursor stack low finish flags order : List ℕ) : Type 0 where
+pub record CanCheck (load : Load) (n : ℕ) (area counts sources targets heads list row degrees turned back cursor stack low finish flags order : List ℕ) : Type 0 where
   pub passes : refusal load n (length area) ≡ 0
-  pub room : Room n (load .D + load .E) (load .E) counts facade sources targets heads list row degrees
-  pub walks : WalkRoom n (load .D + load .E) turned back colour cursor stack low finish flags
+  pub room : Room n (load .D + load .E) counts sources targets heads list degrees
+  pub walks : WalkRoom n (load .D + load .E) turned back row cursor stack low finish flags
   pub order-long : n ≤ length order
 
 -- what a consistent area and the lists worked out from it give to the call: the atom counts, the slots, how many edges start at each node, and the

@@ -14,7 +14,6 @@ pub fn consistent(
     hosts: &[u32],
     area: &[u32],
     counts: &mut [u32],
-    facade: &mut [u32],
     sources: &mut [u32],
     targets: &mut [u32],
     heads: &mut [u32],
@@ -23,7 +22,6 @@ pub fn consistent(
     degrees: &mut [u32],
     turned: &mut [u32],
     back: &mut [u32],
-    colour: &mut [u32],
     cursor: &mut [u32],
     stack: &mut [u32],
     low: &mut [u32],
@@ -31,7 +29,7 @@ pub fn consistent(
     flags: &mut [u32],
     order: &mut [u32],
 ) -> bool
-    requires { ⌜ CanCheck (lent a d e (now starts) (now dependencies) (now hosts)) n (now area) (now counts) (now facade) (now sources) (now targets) (now heads) (now list) (now row) (now degrees) (now turned) (now back) (now colour) (now cursor) (now stack) (now low) (now finish) (now flags) (now order) ⌝ }
+    requires { ⌜ CanCheck (lent a d e (now starts) (now dependencies) (now hosts)) n (now area) (now counts) (now sources) (now targets) (now heads) (now list) (now row) (now degrees) (now turned) (now back) (now cursor) (now stack) (now low) (now finish) (now flags) (now order) ⌝ }
     ensures { λ r. ⌜ Told (lent a d e (now (starts .entry)) (now (dependencies .entry)) (now (hosts .entry))) n (now (area .entry)) (now (counts .exit)) (now (sources .exit)) (now (targets .exit)) (now (degrees .exit)) (now (order .exit)) r ⌝ }
 {
     if !super::ranges::in_ranges(a, e, n, area, order, row) {
@@ -47,7 +45,6 @@ pub fn consistent(
         hosts,
         area,
         counts,
-        facade,
         sources,
         targets,
         heads,
@@ -56,7 +53,6 @@ pub fn consistent(
         degrees,
         turned,
         back,
-        colour,
         cursor,
         stack,
         low,

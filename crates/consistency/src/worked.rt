@@ -161,7 +161,8 @@ fn flags_hold(
     )
 }
 
-// Whether counts, edges, acyclic flag and component are those worked out from the load and the area's placement.
+// Whether counts, edges, acyclic flag and component are those worked out from the load and the area's placement. `list` serves for the facades first, `row` for
+// the walks' colours in the end.
 pub fn is_worked(
     a: usize,
     d: usize,
@@ -172,7 +173,6 @@ pub fn is_worked(
     hosts: &[u32],
     area: &[u32],
     counts: &mut [u32],
-    facade: &mut [u32],
     sources: &mut [u32],
     targets: &mut [u32],
     heads: &mut [u32],
@@ -181,14 +181,13 @@ pub fn is_worked(
     degrees: &mut [u32],
     turned: &mut [u32],
     back: &mut [u32],
-    colour: &mut [u32],
     cursor: &mut [u32],
     stack: &mut [u32],
     low: &mut [u32],
     finish: &mut [u32],
     flags: &mut [u32],
 ) -> bool
-    requires { ⌜ CanWork (lent a d e (now starts) (now dependencies) (now hosts)) n (now area) (now counts) (now facade) (now sources) (now targets) (now heads) (now list) (now row) (now degrees) (now turned) (now back) (now colour) (now cursor) (now stack) (now low) (now finish) (now flags) ⌝ }
+    requires { ⌜ CanWork (lent a d e (now starts) (now dependencies) (now hosts)) n (now area) (now counts) (now sources) (now targets) (now heads) (now list) (now row) (now degrees) (now turned) (now back) (now cursor) (now stack) (now low) (now finish) (now flags) ⌝ }
     ensures { λ r. ⌜ WorkTold (lent a d e (now (starts .entry)) (now (dependencies .entry)) (now (hosts .entry))) n (now (area .entry)) (now (counts .exit)) (now (sources .exit)) (now (targets .exit)) (now (degrees .exit)) r ⌝ }
 {
     super::slots::fill_own_slots(
@@ -201,7 +200,7 @@ pub fn is_worked(
         dependencies,
         hosts,
         counts,
-        facade,
+        list,
         sources,
         targets,
     );
@@ -218,7 +217,7 @@ pub fn is_worked(
         list,
         turned,
         back,
-        colour,
+        row,
         cursor,
         stack,
         low,

@@ -1,5 +1,5 @@
 -- The rows 1 to 6 and 9, which come before a later call's own. Assumes nothing.
-use Prim.Native.Nat.{ℕ, _+_, _≤_}
+use Prim.Native.Nat.{ℕ}
 use native.Mathlib.Omega.{arith}
 use mathlib.Core.Path.{_≡_, refl, sym, ap, _∙_}
 use mathlib.Core.Bool.{Bool, true, false, cond}
@@ -10,9 +10,7 @@ use borrow.Author.Tests.{eqb-true, eqb-false, eq-eqb, ne-eqb}
 use Rattle.ledger.specs.Graph.{Load}
 use Rattle.ledger.specs.Answer.{Answer, refused}
 use Rattle.ledger.specs.Loading.{refusal, or-else}
-use Rattle.placement.specs.SlotLaws.{Slotted}
-use Rattle.move_area.specs.Area.{consistent, setsIn}
-use Rattle.move_area.specs.Checked.{nodesIn}
+use Rattle.move_area.specs.Area.{consistent}
 use Rattle.move_area.specs.Calls.{checked}
 
 -- the first of the rows 1 to 6 and 9 that fits, 0 where none does
@@ -71,14 +69,3 @@ later-none load N area e c = rw (eq-eqb (refusal load N (length area)) 0 e, c) r
 pub later-nine : (load : Load) (N : ℕ) (area : List ℕ) → refusal load N (length area) ≡ 0 → consistent load N area ≡ false → 9 ≡ later load N area
 unfolding later
 later-nine load N area e c = rw (eq-eqb (refusal load N (length area)) 0 e, c) refl
-
--- no row from 1 to 6 fits, and there is room for the slots
-pub record CanSlot (load : Load) (N : ℕ) (area s t : List ℕ) : Type 0 where
-  pub passes : refusal load N (length area) ≡ 0
-  pub sources-long : load .D + load .E ≤ length s
-  pub targets-long : load .D + load .E ≤ length t
-
--- row 9's answer, and the slots of a consistent area
-pub record Sane (load : Load) (N : ℕ) (area s t : List ℕ) (r : Bool) : Type 0 where
-  pub says : r ≡ consistent load N area
-  pub slots : r ≡ true → Slotted load (nodesIn load N area) (setsIn N area) s t

@@ -1,5 +1,5 @@
--- What the rows 1 to 6 and 9 leave to the questions about all edges. Assumes nothing.
-use Prim.Native.Nat.{ℕ, _*_, _≤_}
+-- What row 9 leaves to a later call, and the rows 1 to 6 and 9 to the questions about all edges. Assumes nothing.
+use Prim.Native.Nat.{ℕ, _+_, _*_, _≤_}
 use native.Mathlib.Omega.{arith}
 use mathlib.Core.Path.{_≡_, refl, sym, subst, _∙_}
 use mathlib.Core.Bool.{Bool, true, false}
@@ -8,11 +8,27 @@ use lib.ListN.{length, getD}
 use Rattle.ledger.specs.Graph.{Load}
 use Rattle.ledger.specs.Loading.{refusal}
 use Rattle.ledger.specs.LoadLaws.{first-row-none}
-use Rattle.move_area.specs.Area.{consistent}
+use Rattle.placement.specs.SlotLaws.{Slotted}
+use Rattle.move_area.specs.Area.{consistent, setsIn}
+use Rattle.move_area.specs.Checked.{nodesIn}
 use Rattle.consistency.specs.Ready.{Told}
 use Rattle.listing.specs.Answers.{Listable}
 use Rattle.listing.specs.Steps.{CanSum}
 use Rattle.later_rows.specs.Later.{later, later-first, later-none, later-nine}
+
+-- no row from 1 to 6 fits, and there is room for the slots and for a number of each node
+pub record CanTell (load : Load) (n : ℕ) (area s t degrees order : List ℕ) : Type 0 where
+  pub passes : refusal load n (length area) ≡ 0
+  pub sources-long : load .D + load .E ≤ length s
+  pub targets-long : load .D + load .E ≤ length t
+  pub degrees-long : n ≤ length degrees
+  pub order-long : n ≤ length order
+
+-- row 9's answer; where the area is consistent, the lists have its slots, and its edges can be listed by `degrees` and `order`
+pub record Sane (load : Load) (n : ℕ) (area s t degrees order : List ℕ) (r : Bool) : Type 0 where
+  pub says : r ≡ consistent load n area
+  pub slots : r ≡ true → Slotted load (nodesIn load n area) (setsIn n area) s t
+  pub listable : r ≡ true → Listable load n area (getD area (n * n) 0) order degrees
 
 -- room for a number of each node, of as many as there can be
 pub record NodeLists (degrees order : List ℕ) : Type 0 where
@@ -27,7 +43,7 @@ pub record CanList (load : Load) (n : ℕ) (area degrees order : List ℕ) : Typ
   pub bits : load .E ≤ 256
   pub lists : NodeLists degrees order
 
--- row 9's answer; where the area is consistent, its edges can be listed by `degrees` and `order`
+-- row 9's answer without the slots
 pub record ListTold (load : Load) (n : ℕ) (area degrees order : List ℕ) (r : Bool) : Type 0 where
   pub says : r ≡ consistent load n area
   pub listable : r ≡ true → Listable load n area (getD area (n * n) 0) order degrees
@@ -42,17 +58,18 @@ can-list {load} {n} {area} h l =
     let s = first-row-none load n true (length area) h .sizes in
     record { passes = h; nodes = s .sets; entries = s .entries; bits = s .bits; lists = l }
 
-pub list-told : {load : Load} {n : ℕ} {area counts sources targets degrees order : List ℕ} {r : Bool} → Told load n area counts sources targets degrees order r
-    → NodeLists degrees order → ListTold load n area degrees order r
-list-told t l =
+pub sane : {load : Load} {n : ℕ} {area counts s t degrees order : List ℕ} {r : Bool} → Told load n area counts s t degrees order r → n ≤ length degrees → n ≤ length order
+    → Sane load n area s t degrees order r
+sane t d o =
     record {
       says = t .says;
+      slots = λ e. t .ready e .filled .slots;
       listable = λ e.
           let y = t .ready e in
           record {
             checked = record { loadable = y .loadable; ranged = y .ranged; worked = y .worked; sets = refl };
-            order-long = omega (arith, y .ranged .few, y .loadable .sizes .sets, l .order-long);
-            degrees-long = omega (arith, y .loadable .sizes .sets, l .degrees-long);
+            order-long = omega (arith, y .ranged .few);
+            degrees-long = d;
             ordered = y .ordered;
             degree-at = y .degree-at;
           };

@@ -2,9 +2,11 @@
 ghost use mathlib.Core.Path.{_≡_};
 ghost use Prim.Native.Nat.{_≤_};
 ghost use Rattle.ledger.specs.Graph.{lent};
-ghost use Rattle.later_rows.specs.Later.{later, CanSlot, Sane};
+ghost use Rattle.later_rows.specs.Later.{later};
+ghost use Rattle.later_rows.specs.Listed.{CanTell, Sane};
 
-// Row 9 for a load of any size within the limits. Where the area is consistent, `sources` and `targets` then have its slots.
+// Row 9 for a load of any size within the limits. Where the area is consistent, `sources` and `targets` then have its slots, `degrees` each node's number of
+// edges, and `order` the registered nodes by rising sets.
 pub fn check_large(
     a: usize,
     d: usize,
@@ -16,25 +18,23 @@ pub fn check_large(
     area: &[u32],
     sources: &mut [u32],
     targets: &mut [u32],
+    degrees: &mut [u32],
+    order: &mut [u32],
 ) -> bool
-    requires { ⌜ CanSlot (lent a d e (now starts) (now dependencies) (now hosts)) n (now area) (now sources) (now targets) ⌝ }
-    ensures { λ r. ⌜ Sane (lent a d e (now (starts .entry)) (now (dependencies .entry)) (now (hosts .entry))) n (now (area .entry)) (now (sources .exit)) (now (targets .exit)) r ⌝ }
+    requires { ⌜ CanTell (lent a d e (now starts) (now dependencies) (now hosts)) n (now area) (now sources) (now targets) (now degrees) (now order) ⌝ }
+    ensures { λ r. ⌜ Sane (lent a d e (now (starts .entry)) (now (dependencies .entry)) (now (hosts .entry))) n (now (area .entry)) (now (sources .exit)) (now (targets .exit)) (now (degrees .exit)) (now (order .exit)) r ⌝ }
 {
     let mut counts = [0u32; 1024];
-    let mut facade = [0u32; 256];
     let mut heads = [0u32; 1025];
     let mut list = [0u32; 8448];
     let mut row = [0u32; 1024];
-    let mut degrees = [0u32; 1024];
     let mut turned = [0u32; 1025];
     let mut back = [0u32; 8448];
-    let mut colour = [0u32; 1024];
     let mut cursor = [0u32; 1024];
     let mut stack = [0u32; 1024];
     let mut low = [0u32; 1024];
     let mut finish = [0u32; 1024];
     let mut flags = [0u32; 1024];
-    let mut order = [0u32; 1024];
     consistency::consistent(
         a,
         d,
@@ -45,22 +45,20 @@ pub fn check_large(
         hosts,
         area,
         &mut counts,
-        &mut facade,
         sources,
         targets,
         &mut heads,
         &mut list,
         &mut row,
-        &mut degrees,
+        degrees,
         &mut turned,
         &mut back,
-        &mut colour,
         &mut cursor,
         &mut stack,
         &mut low,
         &mut finish,
         &mut flags,
-        &mut order,
+        order,
     )
 }
 
@@ -76,25 +74,23 @@ pub fn check_small(
     area: &[u32],
     sources: &mut [u32],
     targets: &mut [u32],
+    degrees: &mut [u32],
+    order: &mut [u32],
 ) -> bool
-    requires { ⌜ CanSlot (lent a d e (now starts) (now dependencies) (now hosts)) n (now area) (now sources) (now targets) × (n ≤ 128) × (d ≤ 768) ⌝ }
-    ensures { λ r. ⌜ Sane (lent a d e (now (starts .entry)) (now (dependencies .entry)) (now (hosts .entry))) n (now (area .entry)) (now (sources .exit)) (now (targets .exit)) r ⌝ }
+    requires { ⌜ CanTell (lent a d e (now starts) (now dependencies) (now hosts)) n (now area) (now sources) (now targets) (now degrees) (now order) × (n ≤ 128) × (d ≤ 768) ⌝ }
+    ensures { λ r. ⌜ Sane (lent a d e (now (starts .entry)) (now (dependencies .entry)) (now (hosts .entry))) n (now (area .entry)) (now (sources .exit)) (now (targets .exit)) (now (degrees .exit)) (now (order .exit)) r ⌝ }
 {
     let mut counts = [0u32; 128];
-    let mut facade = [0u32; 256];
     let mut heads = [0u32; 129];
     let mut list = [0u32; 1024];
     let mut row = [0u32; 128];
-    let mut degrees = [0u32; 128];
     let mut turned = [0u32; 129];
     let mut back = [0u32; 1024];
-    let mut colour = [0u32; 128];
     let mut cursor = [0u32; 128];
     let mut stack = [0u32; 128];
     let mut low = [0u32; 128];
     let mut finish = [0u32; 128];
     let mut flags = [0u32; 128];
-    let mut order = [0u32; 128];
     consistency::consistent(
         a,
         d,
@@ -105,22 +101,20 @@ pub fn check_small(
         hosts,
         area,
         &mut counts,
-        &mut facade,
         sources,
         targets,
         &mut heads,
         &mut list,
         &mut row,
-        &mut degrees,
+        degrees,
         &mut turned,
         &mut back,
-        &mut colour,
         &mut cursor,
         &mut stack,
         &mut low,
         &mut finish,
         &mut flags,
-        &mut order,
+        order,
     )
 }
 

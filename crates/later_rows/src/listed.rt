@@ -2,8 +2,10 @@
 ghost use Prim.Native.Nat.{_≤_};
 ghost use Rattle.ledger.specs.Graph.{lent};
 ghost use Rattle.later_rows.specs.Listed.{NodeLists, CanList, ListTold, RowTold};
+use crate::check::check_large;
+use crate::check::check_small;
 
-// Row 9 for a load of any size within the limits, with the lists for its edges.
+// Row 9 for a load of any size within the limits, with room for its slots.
 fn lists_large(
     a: usize,
     d: usize,
@@ -19,22 +21,9 @@ fn lists_large(
     requires { ⌜ CanList (lent a d e (now starts) (now dependencies) (now hosts)) n (now area) (now degrees) (now order) ⌝ }
     ensures { λ r. ⌜ ListTold (lent a d e (now (starts .entry)) (now (dependencies .entry)) (now (hosts .entry))) n (now (area .entry)) (now (degrees .exit)) (now (order .exit)) r ⌝ }
 {
-    let mut counts = [0u32; 1024];
-    let mut facade = [0u32; 256];
     let mut sources = [0u32; 8448];
     let mut targets = [0u32; 8448];
-    let mut heads = [0u32; 1025];
-    let mut list = [0u32; 8448];
-    let mut row = [0u32; 1024];
-    let mut turned = [0u32; 1025];
-    let mut back = [0u32; 8448];
-    let mut colour = [0u32; 1024];
-    let mut cursor = [0u32; 1024];
-    let mut stack = [0u32; 1024];
-    let mut low = [0u32; 1024];
-    let mut finish = [0u32; 1024];
-    let mut flags = [0u32; 1024];
-    consistency::consistent(
+    check_large(
         a,
         d,
         e,
@@ -43,22 +32,9 @@ fn lists_large(
         dependencies,
         hosts,
         area,
-        &mut counts,
-        &mut facade,
         &mut sources,
         &mut targets,
-        &mut heads,
-        &mut list,
-        &mut row,
         degrees,
-        &mut turned,
-        &mut back,
-        &mut colour,
-        &mut cursor,
-        &mut stack,
-        &mut low,
-        &mut finish,
-        &mut flags,
         order,
     )
 }
@@ -79,22 +55,9 @@ fn lists_small(
     requires { ⌜ (CanList (lent a d e (now starts) (now dependencies) (now hosts)) n (now area) (now degrees) (now order)) × (n ≤ 128) × (d ≤ 768) ⌝ }
     ensures { λ r. ⌜ ListTold (lent a d e (now (starts .entry)) (now (dependencies .entry)) (now (hosts .entry))) n (now (area .entry)) (now (degrees .exit)) (now (order .exit)) r ⌝ }
 {
-    let mut counts = [0u32; 128];
-    let mut facade = [0u32; 256];
     let mut sources = [0u32; 1024];
     let mut targets = [0u32; 1024];
-    let mut heads = [0u32; 129];
-    let mut list = [0u32; 1024];
-    let mut row = [0u32; 128];
-    let mut turned = [0u32; 129];
-    let mut back = [0u32; 1024];
-    let mut colour = [0u32; 128];
-    let mut cursor = [0u32; 128];
-    let mut stack = [0u32; 128];
-    let mut low = [0u32; 128];
-    let mut finish = [0u32; 128];
-    let mut flags = [0u32; 128];
-    consistency::consistent(
+    check_small(
         a,
         d,
         e,
@@ -103,22 +66,9 @@ fn lists_small(
         dependencies,
         hosts,
         area,
-        &mut counts,
-        &mut facade,
         &mut sources,
         &mut targets,
-        &mut heads,
-        &mut list,
-        &mut row,
         degrees,
-        &mut turned,
-        &mut back,
-        &mut colour,
-        &mut cursor,
-        &mut stack,
-        &mut low,
-        &mut finish,
-        &mut flags,
         order,
     )
 }

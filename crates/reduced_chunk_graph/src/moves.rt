@@ -78,6 +78,8 @@ fn try_large(
 {
     let mut sources = [0u32; 8448];
     let mut targets = [0u32; 8448];
+    let mut degrees = [0u32; 1024];
+    let mut order = [0u32; 1024];
     if !later_rows::check::check_large(
         a,
         d,
@@ -89,6 +91,8 @@ fn try_large(
         area,
         &mut sources,
         &mut targets,
+        &mut degrees,
+        &mut order,
     ) {
         return MoveAnswer::Refused(9);
     }
@@ -126,6 +130,8 @@ fn try_small(
 {
     let mut sources = [0u32; 1024];
     let mut targets = [0u32; 1024];
+    let mut degrees = [0u32; 128];
+    let mut order = [0u32; 128];
     if !later_rows::check::check_small(
         a,
         d,
@@ -137,6 +143,8 @@ fn try_small(
         area,
         &mut sources,
         &mut targets,
+        &mut degrees,
+        &mut order,
     ) {
         return MoveAnswer::Refused(9);
     }

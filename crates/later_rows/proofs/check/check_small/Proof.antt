@@ -1,96 +1,72 @@
+-- `check::check_small` meets its contract. Assumes nothing.
 use native.Mathlib.Omega.{arith}
 use mathlib.Core.Bool.{true}
 use Rattle.ledger.specs.LoadLaws.{first-row-none}
+use Rattle.later_rows.specs.Listed.{sane}
 use borrow.Author.Needs.{needs}
 use Rattle.later_rows.proofs.check.check_small.Statement.{statement}
 use Rattle.later_rows.proofs.check.check_small.Tie as tie
-use Rattle.later_rows.proofs.check.check_small.Reads as reads
-use Rattle.later_rows.proofs.check.check_small.Lts as lts
-use Rattle.consistency.proofs.consistent.Reads as consistent-reads
 
--- src/check.rt:110:9
 slice-aggregate-consistent : tie.Need-slice-aggregate-consistent
 slice-aggregate-consistent c = search needs
 
--- src/check.rt:111:9
 slice-aggregate-consistent-2 : tie.Need-slice-aggregate-consistent-2
 slice-aggregate-consistent-2 c = search needs
 
--- src/check.rt:114:9
 slice-aggregate-consistent-3 : tie.Need-slice-aggregate-consistent-3
 slice-aggregate-consistent-3 c = search needs
 
--- src/check.rt:115:9
 slice-aggregate-consistent-4 : tie.Need-slice-aggregate-consistent-4
 slice-aggregate-consistent-4 c = search needs
 
--- src/check.rt:116:9
 slice-aggregate-consistent-5 : tie.Need-slice-aggregate-consistent-5
 slice-aggregate-consistent-5 c = search needs
 
--- src/check.rt:117:9
 slice-aggregate-consistent-6 : tie.Need-slice-aggregate-consistent-6
 slice-aggregate-consistent-6 c = search needs
 
--- src/check.rt:118:9
 slice-aggregate-consistent-7 : tie.Need-slice-aggregate-consistent-7
 slice-aggregate-consistent-7 c = search needs
 
--- src/check.rt:119:9
 slice-aggregate-consistent-8 : tie.Need-slice-aggregate-consistent-8
 slice-aggregate-consistent-8 c = search needs
 
--- src/check.rt:120:9
 slice-aggregate-consistent-9 : tie.Need-slice-aggregate-consistent-9
 slice-aggregate-consistent-9 c = search needs
 
--- src/check.rt:121:9
 slice-aggregate-consistent-10 : tie.Need-slice-aggregate-consistent-10
 slice-aggregate-consistent-10 c = search needs
 
--- src/check.rt:122:9
 slice-aggregate-consistent-11 : tie.Need-slice-aggregate-consistent-11
 slice-aggregate-consistent-11 c = search needs
 
--- src/check.rt:123:9
-slice-aggregate-consistent-12 : tie.Need-slice-aggregate-consistent-12
-slice-aggregate-consistent-12 c = search needs
-
--- src/check.rt:124:9
-slice-aggregate-consistent-13 : tie.Need-slice-aggregate-consistent-13
-slice-aggregate-consistent-13 c = search needs
-
--- src/check.rt:125:9
-slice-aggregate-consistent-14 : tie.Need-slice-aggregate-consistent-14
-slice-aggregate-consistent-14 c = search needs
-
--- src/check.rt:126:9
-slice-aggregate-consistent-15 : tie.Need-slice-aggregate-consistent-15
-slice-aggregate-consistent-15 c = search needs
-
--- src/check.rt:101:5
 consistent-requires : tie.Need-consistent-requires
 consistent-requires c κs =
     let p = c .before .before .before .before .before .before .before .before .before .before .before .before .before .before .before .before .before .before .before .before .before .before .before .pre .0 in
-    let l = first-row-none _ _ true _ (p .passes) in
+    let s = first-row-none _ _ true _ (p .passes) .sizes in
+    let u = c .before .before .before .before .before .before .before .before .before .before .before .before .before .before .before .before .before .before .before .before .before .before .before .pre .1 in
+    let v = c .before .before .before .before .before .before .before .before .before .before .before .before .before .before .before .before .before .before .before .before .before .before .before .pre .2 in
     record {
       passes = p .passes;
-      room = record { counts-long = omega (arith, l .sizes, p .sources-long, p .targets-long); facade-long = omega (arith, l .sizes, p .sources-long, p .targets-long); sources-long = omega (arith, l .sizes, p .sources-long, p .targets-long); targets-long = omega (arith, l .sizes, p .sources-long, p .targets-long); heads-long = omega (arith, l .sizes, p .sources-long, p .targets-long); list-long = omega (arith, l .sizes, p .sources-long, p .targets-long); list-short = omega (arith, l .sizes, p .sources-long, p .targets-long); row-long = omega (arith, l .sizes, p .sources-long, p .targets-long); degrees-long = omega (arith, l .sizes, p .sources-long, p .targets-long) };
-      walks = record { turned-long = omega (arith, l .sizes, p .sources-long, p .targets-long); back-long = omega (arith, l .sizes, p .sources-long, p .targets-long); back-short = omega (arith, l .sizes, p .sources-long, p .targets-long); colour-long = omega (arith, l .sizes, p .sources-long, p .targets-long); cursor-long = omega (arith, l .sizes, p .sources-long, p .targets-long); stack-long = omega (arith, l .sizes, p .sources-long, p .targets-long); low-long = omega (arith, l .sizes, p .sources-long, p .targets-long); finish-long = omega (arith, l .sizes, p .sources-long, p .targets-long); flags-long = omega (arith, l .sizes, p .sources-long, p .targets-long) };
-      order-long = omega (arith, l .sizes, p .sources-long, p .targets-long);
+      room = record { counts-long = omega (arith, s, p, u, v); sources-long = omega (arith, s, p, u, v); targets-long = omega (arith, s, p, u, v); heads-long = omega (arith, s, p, u, v); list-long = omega (arith, s, p, u, v); list-short = omega (arith, s, p, u, v); degrees-long = omega (arith, s, p, u, v) };
+      walks = record { turned-long = omega (arith, s, p, u, v); back-long = omega (arith, s, p, u, v); back-short = omega (arith, s, p, u, v); colour-long = omega (arith, s, p, u, v); cursor-long = omega (arith, s, p, u, v); stack-long = omega (arith, s, p, u, v); low-long = omega (arith, s, p, u, v); finish-long = omega (arith, s, p, u, v); flags-long = omega (arith, s, p, u, v) };
+      order-long = p .order-long;
     }
 
--- src/check.rt:71:1
 same-length : tie.Need-same-length
 same-length c = search needs
 
--- src/check.rt:71:1
 same-length-2 : tie.Need-same-length-2
 same-length-2 c = search needs
 
--- src/check.rt:71:1
+same-length-3 : tie.Need-same-length-3
+same-length-3 c = search needs
+
+same-length-4 : tie.Need-same-length-4
+same-length-4 c = search needs
+
 returns : tie.Need-returns
-returns c = record { says = c .before .before .before .before .before .before .before .before .before .before .before .before .before .before .before .before .before .before .before .consistent .ensures .says; slots = λ q. c .before .before .before .before .before .before .before .before .before .before .before .before .before .before .before .before .before .before .before .consistent .ensures .ready q .filled .slots }
+returns c = sane (c .before .before .before .before .before .before .before .before .before .before .before .before .before .before .before .before .before .before .before .consistent .ensures) (omega (arith, c .before .before .before .before .before .before .before .before .before .before .before .before .before .before .before .before .before .before .before .before .before .before .before .before .before .before .before .before .before .before .before .before .before .before .before .before .before .before .before .before .before .before .before .pre .0 .degrees-long, c .before .before .before .before .before .before .before .before .before .before .before .before .before .before .before .before .before .before .before .consistent .kept .1 .1 .1 .1 .1 .1 .1 .1 .1 .1 .1 .1 .1 .1 .0)) (omega (arith, c .before .before .before .before .before .before .before .before .before .before .before .before .before .before .before .before .before .before .before .before .before .before .before .before .before .before .before .before .before .before .before .before .before .before .before .before .before .before .before .before .before .before .before .pre .0 .order-long, c .before .before .before .before .before .before .before .before .before .before .before .before .before .before .before .before .before .before .before .consistent .kept .1 .1 .1 .1 .1 .1 .1 .1 .1 .1 .1 .1 .1 .1 .1 .1 .1 .1 .1 .1 .1 .1 .0))
 
 pub check-small-spec : {M : Type 1} → statement M
 check-small-spec =
@@ -107,11 +83,9 @@ check-small-spec =
     slice-aggregate-consistent-9
     slice-aggregate-consistent-10
     slice-aggregate-consistent-11
-    slice-aggregate-consistent-12
-    slice-aggregate-consistent-13
-    slice-aggregate-consistent-14
-    slice-aggregate-consistent-15
     consistent-requires
     same-length
     same-length-2
+    same-length-3
+    same-length-4
     returns)

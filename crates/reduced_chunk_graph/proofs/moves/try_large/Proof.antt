@@ -1,3 +1,4 @@
+-- `moves::try_large` meets its contract. Assumes nothing.
 use native.Mathlib.Omega.{arith}
 use mathlib.Core.Path.{sym, _∙_}
 use mathlib.Core.Bool.{true}
@@ -7,59 +8,51 @@ use Rattle.reduced_chunk_graph.specs.MoveLaws.{nine-refused, nine-passed
 use borrow.Author.Needs.{needs}
 use Rattle.reduced_chunk_graph.proofs.moves.try_large.Statement.{statement}
 use Rattle.reduced_chunk_graph.proofs.moves.try_large.Tie as tie
-use Rattle.reduced_chunk_graph.proofs.moves.try_large.Reads as reads
-use Rattle.reduced_chunk_graph.proofs.moves.try_large.Lts as lts
-use Rattle.later_rows.proofs.check.check_large.Reads as check-large-reads
-use Rattle.reduced_chunk_graph.proofs.moves.go_on.Reads as go-on-reads
 
--- src/moves.rt:91:9
 slice-aggregate-check-large : tie.Need-slice-aggregate-check-large
 slice-aggregate-check-large c = search needs
 
--- src/moves.rt:92:9
 slice-aggregate-check-large-2 : tie.Need-slice-aggregate-check-large-2
 slice-aggregate-check-large-2 c = search needs
 
--- src/moves.rt:82:9
-check-large-requires : tie.Need-check-large-requires
-check-large-requires c κs = let l = first-row-none _ _ true _ (c .before .before .before .before .before .before .before .before .pre) in record { passes = c .before .before .before .before .before .before .before .before .pre; sources-long = omega (arith, l .sizes); targets-long = omega (arith, l .sizes) }
+slice-aggregate-check-large-3 : tie.Need-slice-aggregate-check-large-3
+slice-aggregate-check-large-3 c = search needs
 
--- src/moves.rt:94:9
+slice-aggregate-check-large-4 : tie.Need-slice-aggregate-check-large-4
+slice-aggregate-check-large-4 c = search needs
+
+check-large-requires : tie.Need-check-large-requires
+check-large-requires c κs = let l = first-row-none _ _ true _ (c .before .before .before .before .before .before .before .before .before .before .pre) in record { passes = c .before .before .before .before .before .before .before .before .before .before .pre; sources-long = omega (arith, l .sizes); targets-long = omega (arith, l .sizes); degrees-long = omega (arith, l .sizes); order-long = omega (arith, l .sizes) }
+
 same-length : tie.Need-same-length
 same-length c = search needs
 
--- src/moves.rt:94:9
 returns : tie.Need-returns
-returns c = nine-refused (sym (c .before .before .before .check-large .ensures .says) ∙ not-true _ (c .if1 .taken))
+returns c = nine-refused (sym (c .before .before .before .before .before .check-large .ensures .says) ∙ not-true _ (c .if1 .taken))
 
--- src/moves.rt:107:9
 slice-aggregate-go-on : tie.Need-slice-aggregate-go-on
 slice-aggregate-go-on c = search needs
 
--- src/moves.rt:108:9
 slice-aggregate-go-on-2 : tie.Need-slice-aggregate-go-on-2
 slice-aggregate-go-on-2 c = search needs
 
--- src/moves.rt:96:5
 go-on-requires : tie.Need-go-on-requires
 go-on-requires c κs =
-    let l = first-row-none _ _ true _ (c .before .before .before .before .before .before .before .before .before .before .before .before .before .before .before .pre) in
+    let l = first-row-none _ _ true _ (c .before .before .before .before .before .before .before .before .before .before .before .before .before .before .before .before .before .before .before .pre) in
     let y = not-false _ (c .before .before .before .if1 .left) in
     record {
       loadable = l;
-      sane = sym (c .before .before .before .before .before .before .check-large .ensures .says) ∙ y;
-      slots = c .before .before .before .before .before .before .check-large .ensures .slots y;
+      sane = sym (c .before .before .before .before .before .before .before .before .check-large .ensures .says) ∙ y;
+      slots = c .before .before .before .before .before .before .before .before .check-large .ensures .slots y;
       sources-long = omega (arith, l .sizes);
       targets-long = omega (arith, l .sizes);
     }
 
--- src/moves.rt:65:1
 same-length-2 : tie.Need-same-length-2
 same-length-2 c = search needs
 
--- src/moves.rt:65:1
 returns-2 : tie.Need-returns-2
-returns-2 c = nine-passed (sym (c .before .before .before .before .before .before .before .before .before .check-large .ensures .says) ∙ not-false _ (c .before .before .before .before .before .before .if1 .left)) (c .before .before .go-on .ensures)
+returns-2 c = nine-passed (sym (c .before .before .before .before .before .before .before .before .before .before .before .check-large .ensures .says) ∙ not-false _ (c .before .before .before .before .before .before .if1 .left)) (c .before .before .go-on .ensures)
 
 pub try-large-spec : {M : Type 1} → statement M
 try-large-spec =
@@ -67,6 +60,8 @@ try-large-spec =
     (tie.spec
     slice-aggregate-check-large
     slice-aggregate-check-large-2
+    slice-aggregate-check-large-3
+    slice-aggregate-check-large-4
     check-large-requires
     same-length
     returns

@@ -1,3 +1,4 @@
+-- `moves::try_small` meets its contract. Assumes nothing.
 use native.Mathlib.Omega.{arith}
 use mathlib.Core.Path.{sym, _∙_}
 use mathlib.Core.Bool.{true}
@@ -7,59 +8,51 @@ use Rattle.reduced_chunk_graph.specs.MoveLaws.{nine-refused, nine-passed
 use borrow.Author.Needs.{needs}
 use Rattle.reduced_chunk_graph.proofs.moves.try_small.Statement.{statement}
 use Rattle.reduced_chunk_graph.proofs.moves.try_small.Tie as tie
-use Rattle.reduced_chunk_graph.proofs.moves.try_small.Reads as reads
-use Rattle.reduced_chunk_graph.proofs.moves.try_small.Lts as lts
-use Rattle.later_rows.proofs.check.check_small.Reads as check-small-reads
-use Rattle.reduced_chunk_graph.proofs.moves.go_on.Reads as go-on-reads
 
--- src/moves.rt:139:9
 slice-aggregate-check-small : tie.Need-slice-aggregate-check-small
 slice-aggregate-check-small c = search needs
 
--- src/moves.rt:140:9
 slice-aggregate-check-small-2 : tie.Need-slice-aggregate-check-small-2
 slice-aggregate-check-small-2 c = search needs
 
--- src/moves.rt:130:9
-check-small-requires : tie.Need-check-small-requires
-check-small-requires c κs = let l = first-row-none _ _ true _ (c .before .before .before .before .before .before .before .before .pre .0) in (record { passes = c .before .before .before .before .before .before .before .before .pre .0; sources-long = omega (arith, l .sizes); targets-long = omega (arith, l .sizes) }, c .before .before .before .before .before .before .before .before .pre .1, c .before .before .before .before .before .before .before .before .pre .2)
+slice-aggregate-check-small-3 : tie.Need-slice-aggregate-check-small-3
+slice-aggregate-check-small-3 c = search needs
 
--- src/moves.rt:142:9
+slice-aggregate-check-small-4 : tie.Need-slice-aggregate-check-small-4
+slice-aggregate-check-small-4 c = search needs
+
+check-small-requires : tie.Need-check-small-requires
+check-small-requires c κs = let l = first-row-none _ _ true _ (c .before .before .before .before .before .before .before .before .before .before .pre .0) in (record { passes = c .before .before .before .before .before .before .before .before .before .before .pre .0; sources-long = omega (arith, l .sizes); targets-long = omega (arith, l .sizes); degrees-long = omega (arith, l .sizes); order-long = omega (arith, l .sizes) }, c .before .before .before .before .before .before .before .before .before .before .pre .1, c .before .before .before .before .before .before .before .before .before .before .pre .2)
+
 same-length : tie.Need-same-length
 same-length c = search needs
 
--- src/moves.rt:142:9
 returns : tie.Need-returns
-returns c = nine-refused (sym (c .before .before .before .check-small .ensures .says) ∙ not-true _ (c .if1 .taken))
+returns c = nine-refused (sym (c .before .before .before .before .before .check-small .ensures .says) ∙ not-true _ (c .if1 .taken))
 
--- src/moves.rt:155:9
 slice-aggregate-go-on : tie.Need-slice-aggregate-go-on
 slice-aggregate-go-on c = search needs
 
--- src/moves.rt:156:9
 slice-aggregate-go-on-2 : tie.Need-slice-aggregate-go-on-2
 slice-aggregate-go-on-2 c = search needs
 
--- src/moves.rt:144:5
 go-on-requires : tie.Need-go-on-requires
 go-on-requires c κs =
-    let l = first-row-none _ _ true _ (c .before .before .before .before .before .before .before .before .before .before .before .before .before .before .before .pre .0) in
+    let l = first-row-none _ _ true _ (c .before .before .before .before .before .before .before .before .before .before .before .before .before .before .before .before .before .before .before .pre .0) in
     let y = not-false _ (c .before .before .before .if1 .left) in
     record {
       loadable = l;
-      sane = sym (c .before .before .before .before .before .before .check-small .ensures .says) ∙ y;
-      slots = c .before .before .before .before .before .before .check-small .ensures .slots y;
+      sane = sym (c .before .before .before .before .before .before .before .before .check-small .ensures .says) ∙ y;
+      slots = c .before .before .before .before .before .before .before .before .check-small .ensures .slots y;
       sources-long = omega (arith, l .sizes);
       targets-long = omega (arith, l .sizes);
     }
 
--- src/moves.rt:113:1
 same-length-2 : tie.Need-same-length-2
 same-length-2 c = search needs
 
--- src/moves.rt:113:1
 returns-2 : tie.Need-returns-2
-returns-2 c = nine-passed (sym (c .before .before .before .before .before .before .before .before .before .check-small .ensures .says) ∙ not-false _ (c .before .before .before .before .before .before .if1 .left)) (c .before .before .go-on .ensures)
+returns-2 c = nine-passed (sym (c .before .before .before .before .before .before .before .before .before .before .before .check-small .ensures .says) ∙ not-false _ (c .before .before .before .before .before .before .if1 .left)) (c .before .before .go-on .ensures)
 
 pub try-small-spec : {M : Type 1} → statement M
 try-small-spec =
@@ -67,6 +60,8 @@ try-small-spec =
     (tie.spec
     slice-aggregate-check-small
     slice-aggregate-check-small-2
+    slice-aggregate-check-small-3
+    slice-aggregate-check-small-4
     check-small-requires
     same-length
     returns
