@@ -1,5 +1,5 @@
 -- The move graph's definitions: Graph, Answer, Ledger and Loading are what a reader of the demands has to believe, with Walk, Lists,
--- Count and Tab of graphs, and Sets and Joined of entry_set; the other files hold laws. Assumes nothing.
+-- Count and Tab of graphs, and Sets and Joined of entry_set; Nodes says the same by node numbers; the other files hold laws. Assumes nothing.
 pub mod Graph
 pub mod Answer
 pub mod Ledger

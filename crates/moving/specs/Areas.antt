@@ -15,7 +15,7 @@ use Rattle.move_area.specs.Bodies.{laneAt, atomAt}
 use Rattle.move_area.specs.Calls.{last, next}
 use Rattle.walk_counter.specs.Marks.{unmarked}
 
--- the set X as node r: its eight words, one registered set more, and "a newly registered node has no mark"
+-- the set X as node r: its eight words, one registered set more, and no mark
 unfoldable pub registered : ℕ → ℕ → ℕ → List ℕ → List ℕ
 registered n r X l = set (set (setLanes l (laneAt n 0 + r) n X) (n * n) (r + 1)) (laneAt n 9 + r) 0
 

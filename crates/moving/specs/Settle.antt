@@ -1,4 +1,4 @@
--- Steps 2 and 3 with the target registered: what is asked, and that the area holds the next state. Assumes nothing.
+-- Step 3 with the target registered: what is asked, and that the area holds the next state. Assumes nothing.
 use mathlib.Core.Path.{_≡_, refl, sym, ap, _∙_}
 use mathlib.Core.Bool.{Bool, true, false, not, cond}
 use mathlib.Core.List.{List}

@@ -6,7 +6,7 @@ use super::test;
 use super::trial;
 use super::writes;
 
-// With the target in node `to`. The last ten lists are for the trial and scratch.
+// Moves the atom to node `to` where the graph then has no cycle, and answers whether it did. The last ten lists are for the trial and scratch.
 fn settle_in(
     a: usize,
     d: usize,
@@ -179,7 +179,7 @@ fn settle_small(
     )
 }
 
-// With the target in node `to`.
+// The same with lists of its own, short ones for a small load: up to 128 nodes and 768 dependencies, so 768 + 256 slots; else up to 1,024 nodes and 8,192 + 256 slots.
 pub fn settle(
     a: usize,
     d: usize,

@@ -89,7 +89,8 @@ fn reaches_itself(
     area[n * n + 24 + 9 * n + to] == counter
 }
 
-// Where the graph had no cycle before, a new one passes `to`. Else every old one may have gone. The last seven lists are scratch.
+// Whether the moved graph has a cycle. Where the graph had none before, a new one passes `to`; else every old one may have gone, and all nodes are
+// searched. The last seven lists are scratch.
 pub fn closes_cycle(
     area: &mut [u32],
     n: usize,

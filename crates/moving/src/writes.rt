@@ -22,7 +22,7 @@ fn add_node(area: &mut [u32], n: usize, r: usize, s: entry_set::EntrySet)
     area[square + 24 + 9 * n + r] = 0;
 }
 
-// It does if `to` is no registered node.
+// Step 2: the target's set is registered where its place `to` is the next free one, else it is a node already.
 pub fn register(area: &mut [u32], n: usize, r: usize, to: usize, s: entry_set::EntrySet)
     requires { ⌜ CanRegister n to (now area) ⌝ }
     ensures { λ _. ⌜ now (area .exit) ≡ cond (eqb to r) (registered n r (number s) (now (area .entry))) (now (area .entry)) ⌝ }

@@ -1,4 +1,4 @@
-// Whether the kept matrix is that of grouped slots, row by row. Each row is read once, without a way out in it.
+// Whether the kept matrix is that of grouped slots, row by row. Each row is read once and to its end, so that several numbers can be compared at once.
 ghost use mathlib.Core.Path.{_≡_};
 ghost use mathlib.Core.Bool.{not};
 ghost use lib.Dec.{eqb};

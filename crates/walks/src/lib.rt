@@ -123,7 +123,7 @@ pub fn reach<'a>(
     );
 }
 
-// The same, where the flag is set.
+// Looks at y where the flag is set.
 fn look_flag(flag: u32, marks: &mut [u32], stack: &mut [u32], mark: u32, sp: usize, y: u32) -> usize
     requires { ⌜ CanLook (now marks) (now stack) mark sp y ⌝ }
     ensures { λ r. ⌜ LookedFlag flag (now (marks .entry)) (now (stack .entry)) mark sp y (now (marks .exit)) (now (stack .exit)) r ⌝ }
