@@ -78,8 +78,9 @@ impl<'a> MergeGraph<'a> {
         let (list, whole) = flat(initial.sets, size.entry_bits.div_ceil(64).min(4) as usize);
         let mut area = vec![0; lent::merge_area_length(size).unwrap_or(0)];
         let reply = lent::chunk_optimization_graph_new(size, &initial, &list, side_effects, &mut area);
-        // A bit that was cut off above is row 16, which comes before 17 and 19.
-        let row = if !whole && (reply.refusal == 0 || reply.refusal > 16) { 16 } else { reply.refusal };
+        // Without entry bits the list is empty for any number of sets; and a bit may have been cut off.
+        let row = Refusal::first(reply.refusal, initial.sets.len() != initial.set_chunks.len(), 15);
+        let row = Refusal::first(row, !whole, 16);
         Refusal::check(row, Self { size, side_effects, area })
     }
 
@@ -152,7 +153,9 @@ impl<'a> MergeGraph<'a> {
     /// Decides about each chunk that needs creation, in rising order: one proposal and one bar for each. A chunk is
     /// merged into the proposed one if there is no bar and no warning, and else created.
     pub fn pass(&mut self, proposals: &[Option<ChunkIdx>], bars: &[bool]) -> Result<Vec<Assignment>, Refusal> {
-        let proposals: Vec<u32> = proposals.iter().map(|chunk| chunk.map_or(NONE, |chunk| chunk.0)).collect();
+        // A proposed chunk with the number of none isn't none: it becomes another that is never initial.
+        let number = |chunk: &Option<ChunkIdx>| chunk.map_or(NONE, |chunk| chunk.0.min(NONE - 1));
+        let proposals: Vec<u32> = proposals.iter().map(number).collect();
         let bars: Vec<u32> = bars.iter().map(|&bar| bar.into()).collect();
         let (mut kinds, mut numbers) = (vec![0; proposals.len()], vec![0; proposals.len()]);
         let (size, area) = (self.size, &mut self.area);

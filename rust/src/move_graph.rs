@@ -60,8 +60,9 @@ impl<'a> MoveGraph<'a> {
         let (list, whole) = flat(entry_sets, load.hosts.len().div_ceil(64));
         let mut area = vec![0; lent::move_area_length(&load, sets).unwrap_or(0)];
         let reply = lent::reduced_chunk_graph_new(&load, sets, &list, &mut area);
-        // A bit that was cut off above is row 7, which comes before 8.
-        let row = if !whole && (reply.refusal == 0 || reply.refusal > 7) { 7 } else { reply.refusal };
+        // Without entry bits the list is empty for any number of sets; and a bit may have been cut off.
+        let row = Refusal::first(reply.refusal, entry_sets.len() != load.atoms(), 2);
+        let row = Refusal::first(row, !whole, 7);
         Refusal::check(row, Self { load, sets, cyclic: reply.value == 1, area })
     }
 

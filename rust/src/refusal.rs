@@ -49,6 +49,15 @@ impl Refusal {
         }
     }
 
+    /// The first fitting row of the library's (0 is none) and one that this crate alone can see.
+    pub(crate) fn first(row: u64, fits: bool, own: u64) -> u64 {
+        if fits && (row == 0 || row > own) {
+            own
+        } else {
+            row
+        }
+    }
+
     /// The value, or the refusal that a reply holds.
     pub(crate) fn check<T>(row: u64, value: T) -> Result<T, Self> {
         if row == 0 {

@@ -59,6 +59,24 @@ fn refused_loadings() {
     assert_eq!(load(LOAD, 3, &[set(3), set(1), set(1)]), 8);
 }
 
+#[test]
+fn moves_without_entry_bits() {
+    let load = |starts: &[u32], n: u64, sets: &[EntrySet]| {
+        let load = Load { starts, dependencies: &[], hosts: &[] };
+        MoveGraph::new(load, n, sets).map_or_else(Refusal::row, |_| 0)
+    };
+    assert_eq!(load(&[0, 0], 1, &[set(0)]), 0);
+    assert_eq!(load(&[0], 0, &[]), 0);
+    assert_eq!(load(&[0, 0], 1, &[]), 2);
+    assert_eq!(load(&[0, 0], 1, &[set(0); 5]), 2);
+    assert_eq!(load(&[0], 0, &[set(0)]), 2);
+    assert_eq!(load(&[0, 0], 0, &[]), 1);
+    assert_eq!(load(&[0, 1], 1, &[]), 2);
+    assert_eq!(load(&[0, 0], 1, &[set(1); 2]), 2);
+    assert_eq!(load(&[0, 0], 1, &[set(1)]), 7);
+    assert_eq!(load(&[0, 0, 0], 2, &[set(0); 2]), 8);
+}
+
 const SIZE: Size = Size { chunks: 5, modules: 4, entries: 6, entry_bits: 2 };
 const INITIAL: InitialChunks =
     InitialChunks { module_starts: &[0, 1, 2], modules: &[0, 1], sets: &[], set_chunks: &[] };
@@ -117,4 +135,35 @@ fn refused_merges() {
         graph.add_module_to_chunk(ModuleIdx(0), one).unwrap();
     }
     assert_eq!(row(graph.add_module_to_chunk(ModuleIdx(0), one)), 19);
+}
+
+#[test]
+fn merges_without_entry_bits() {
+    let load = |chunks: u64, sets: &[EntrySet], set_chunks: &[u32]| {
+        let size = Size { chunks, entry_bits: 0, ..SIZE };
+        let initial = InitialChunks { sets, set_chunks, ..INITIAL };
+        MergeGraph::new(size, initial, &[0; 4]).map_or_else(Refusal::row, |_| 0)
+    };
+    assert_eq!(load(5, &[], &[]), 0);
+    assert_eq!(load(5, &[set(0)], &[0]), 0);
+    assert_eq!(load(5, &[], &[0]), 15);
+    assert_eq!(load(5, &[set(0); 5], &[0]), 15);
+    assert_eq!(load(5, &[set(0)], &[]), 15);
+    assert_eq!(load(0, &[], &[0]), 14);
+    assert_eq!(load(5, &[], &[9]), 15);
+    assert_eq!(load(5, &[set(1)], &[0]), 16);
+    assert_eq!(load(5, &[set(0); 2], &[0, 1]), 17);
+}
+
+#[test]
+fn a_proposal_with_the_number_of_none_is_refused() {
+    let mut graph = MergeGraph::new(SIZE, INITIAL, &[0; 4]).unwrap();
+    graph.init_module_assignment(ModuleIdx(2), set(3)).unwrap();
+    for number in [NONE, NONE - 1, 2] {
+        let proposal = Some(ChunkIdx(number));
+        assert_eq!(row(graph.pass(&[proposal], &[false])), 16);
+        assert_eq!(row(graph.pass(&[proposal], &[])), 15);
+        assert_eq!(row(graph.pass(&[proposal, None], &[false, false])), 15);
+    }
+    assert_eq!(graph.pass(&[None], &[false]), Ok(vec![Assignment::Created(ChunkIdx(2))]));
 }
