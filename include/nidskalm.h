@@ -11,7 +11,7 @@
  * the area and the pass's answer lists must not overlap other lists. Nothing else is asked of the caller: whatever the
  * numbers, a call ends and answers, or is refused. A refused call writes nothing.
  *
- * A reply's `refusal` is 0, or the number of the first fitting row; its other fields are then 0:
+ * A reply's `refusal` is 0, or the number of the first fitting row; where it isn't 0, the other fields are 0. The rows:
  *    1  A > 512, D > 8,192, E > 256, N < A or N > 1,024
  *    2  a list of the load hasn't the length called for
  *    3  the area is too short
