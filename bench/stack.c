@@ -1,4 +1,5 @@
-/* Measures how much stack each call of the library uses: runs it on a painted stack and looks how far the paint is gone. */
+/* Measures how much stack each call of the library uses: runs it on a painted stack and looks how far the paint is gone.
+   Fails where a call uses 512 KiB or more, or is refused. */
 #include <pthread.h>
 #include <stdio.h>
 #include <stdlib.h>
@@ -7,11 +8,13 @@
 #include "nidskalm.h"
 
 enum { STACK = 4 << 20, A = 512, D = 8192, E = 256, N = 1024, C = 1024, M = 4096, L = 8192 };
+/* Sets named at loading: above 128 of them a merge call takes its longer local arrays. */
+enum { NAMED = 200 };
 
 static uint32_t starts[A + 1], dependencies[D], hosts[E];
 static uint64_t sets[A * 4], bits[4];
 static uint32_t area[NIDSKALM_MOVE_AREA(A, D, E, N)], merge_area[NIDSKALM_MERGE_AREA(C, M, L)];
-static uint32_t module_starts[2], list[M + 1], effects[M], proposals[C], numbers[C], kinds[C];
+static uint32_t module_starts[2], list[NAMED], calc_starts[M + 1], effects[M], proposals[C], numbers[C], kinds[C];
 static uint64_t a, d, n, refusal;
 
 #define LOAD a, d, E, n, starts, a + 1, dependencies, d, hosts, E, area, sizeof area / sizeof *area
@@ -30,8 +33,8 @@ static void edge_count(void) { refusal = reduced_chunk_graph_edge_count(LOAD).re
 static void edge_at(void) { refusal = reduced_chunk_graph_edge_at(LOAD, 3).refusal; }
 
 static void merge_new(void) {
-    refusal = chunk_optimization_graph_new(C, M, L, E, 1, module_starts, 2, list, 1, bits, 4, list, 1, effects, M,
-        merge_area, sizeof merge_area / sizeof *merge_area).refusal;
+    refusal = chunk_optimization_graph_new(C, M, L, E, 1, module_starts, 2, list, 1, sets, 4 * NAMED, list, NAMED,
+        effects, M, merge_area, sizeof merge_area / sizeof *merge_area).refusal;
 }
 static void init_module(void) {
     static uint64_t next;
@@ -43,7 +46,12 @@ static void register_index(void) {
     refusal = chunk_optimization_graph_register_chunk_graph_index(SIZE, 5, 0).refusal;
 }
 static void to_temp_idx(void) { refusal = chunk_optimization_graph_to_temp_idx(SIZE, 5).refusal; }
-static void calc(void) { refusal = chunk_optimization_graph_calc_chunk_dependencies(SIZE, list, M + 1, list, 0).refusal; }
+/* Module 2, of chunk 0, depends on module 1, of chunk 1. */
+static void calc(void) {
+    const uint32_t one = 1;
+    for (int m = 3; m <= M; m++) calc_starts[m] = 1;
+    refusal = chunk_optimization_graph_calc_chunk_dependencies(SIZE, calc_starts, M + 1, &one, 1).refusal;
+}
 static void warning(void) {
     refusal = chunk_optimization_graph_would_create_circular_dependency(SIZE, 1, 0).refusal;
 }
@@ -76,6 +84,7 @@ static long used(void (*call)(void)) {
 }
 
 static long most;
+static int any_refused;
 
 static void tell(const char *name, void (*call)(void)) {
     long bytes = used(call);
@@ -83,7 +92,7 @@ static void tell(const char *name, void (*call)(void)) {
     bytes -= used(nothing);
     if (bytes > most) most = bytes;
     printf("| %s | %.1f KiB |", name, bytes / 1024.0);
-    if (row != 0) printf(" refused %d", row);
+    if (row != 0) printf(" refused %d", row), any_refused = 1;
     printf("\n");
 }
 
@@ -121,7 +130,7 @@ int main(void) {
     moves("48 atoms, 96 dependencies, N = 96", 48, 96, 96, 0);
     moves("512 atoms, 8,192 dependencies, N = 1,024, acyclic", A, D, N, 0);
     moves("512 atoms, 8,192 dependencies, N = 1,024, cyclic", A, D, N, 1);
-    printf("\nMerge graph, C = 1,024\n\n| call | stack |\n|---|---|\n");
+    printf("\nMerge graph, C = 1,024, %d sets named\n\n| call | stack |\n|---|---|\n", NAMED);
     module_starts[1] = 1;
     tell("`new`", merge_new);
     tell("`init_module_assignment`", init_module);
@@ -134,5 +143,5 @@ int main(void) {
     tell("`merge_chunk_dependencies`", merge);
     tell("pass", pass);
     printf("\nmost: %.1f KiB\n", most / 1024.0);
-    return most < 512 * 1024 ? 0 : 1;
+    return most < 512 * 1024 && !any_refused ? 0 : 1;
 }
