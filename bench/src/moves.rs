@@ -66,27 +66,33 @@ fn loaded(library: &dyn Library, input: &Input) -> Vec<u32> {
     area
 }
 
-/// The library's time for `new`, `try_move` and the five questions.
-fn library_times(library: &dyn Library, input: &Input) -> Vec<(&'static str, f64)> {
-    let load = &input.load;
-    let new = best(
+fn library_new(library: &dyn Library, input: &Input) -> f64 {
+    best(
         20,
-        || vec![0; load.layout().length()],
+        || vec![0; input.load.layout().length()],
         |area, _| {
-            std::hint::black_box(library.move_new(load, &input.flat, area));
+            std::hint::black_box(library.move_new(&input.load, &input.flat, area));
         },
-    );
-    let moves = best(
+    )
+}
+
+fn library_moves(library: &dyn Library, input: &Input) -> f64 {
+    best(
         MOVES,
         || (loaded(library, input), 0),
         |(area, accepted), k| {
             let (atom, bits) = &input.moves[k];
-            *accepted += library.try_move(load, area, *atom, bits).value;
+            *accepted += library.try_move(&input.load, area, *atom, bits).value;
             if k + 1 == MOVES {
                 assert_eq!(*accepted, input.accepted, "the same answers");
             }
         },
-    );
+    )
+}
+
+/// The library's time for `new`, `try_move` and the five questions.
+fn library_times(library: &dyn Library, input: &Input) -> Vec<(&'static str, f64)> {
+    let load = &input.load;
     let bits: Vec<Vec<u64>> = input.sets.iter().map(|&set| words(set, load.e)).collect();
     let ask = |question: &dyn Fn(&[u32], usize) -> u64| {
         best(
@@ -99,8 +105,8 @@ fn library_times(library: &dyn Library, input: &Input) -> Vec<(&'static str, f64
     };
     let set = |k: usize| &bits[k % bits.len()];
     vec![
-        ("new", new),
-        ("try_move", moves),
+        ("new", library_new(library, input)),
+        ("try_move", library_moves(library, input)),
         ("atom_set", ask(&|area, k| library.atom_set(load, area, k as u32 % load.a as u32).set0)),
         ("atom_count", ask(&|area, k| library.atom_count(load, area, set(k)).value)),
         ("multiplicity", ask(&|area, k| library.multiplicity(load, area, set(k), set(k + 1)).value)),

@@ -15,7 +15,7 @@ const HELP: &str =
   --seed       another seed than 1
   --stand-in   the stand-in library in the place of the linked one
   --self-test  the stand-in library without a bug must pass, with each planted bug must fail
-  --record     writes that many cases with the original's answers to standard output (README.md: the format)
+  --record     writes that many cases with the model's answers, where the original agrees (README.md: the format)
   --replay     replays recorded cases on the library";
 
 /// How much of everything is run.

@@ -10,6 +10,11 @@ fn faulty(starts: &[u32], end: usize) -> bool {
     starts[0] != 0 || starts.windows(2).any(|pair| pair[0] > pair[1]) || starts[starts.len() - 1] as usize != end
 }
 
+/// A row, if it fits.
+fn fits(yes: bool, row: u64) -> Result<(), u64> {
+    if yes { Err(row) } else { Ok(()) }
+}
+
 /// A call on a merge area.
 #[derive(Clone, Debug, PartialEq, Eq)]
 pub enum MergeCall {
@@ -24,8 +29,8 @@ pub enum MergeCall {
     Pass { proposals: Vec<u32>, bars: Vec<u32>, kinds: usize, numbers: usize },
 }
 
-/// Loading: the refusal or the state.
-pub fn new(size: Size, load: &MergeLoad, area: usize) -> Result<MergeState, u64> {
+/// The sets that are named at loading, or the first fitting row.
+fn checked_sets(size: Size, load: &MergeLoad, area: usize) -> Result<Vec<Set>, u64> {
     let pairs = load.set_chunks.len() as u64;
     if size.over() || load.initial > size.c || pairs > size.c {
         return Err(14);
@@ -53,6 +58,12 @@ pub fn new(size: Size, load: &MergeLoad, area: usize) -> Result<MergeState, u64>
     if load.modules.len() as u64 > size.l {
         return Err(19);
     }
+    Ok(sets)
+}
+
+/// Loading: the refusal or the state.
+pub fn new(size: Size, load: &MergeLoad, area: usize) -> Result<MergeState, u64> {
+    let sets = checked_sets(size, load, area)?;
     let mut state = MergeState {
         initial: load.initial as u32,
         created: 0,
@@ -105,74 +116,104 @@ impl MergeState {
     }
 
     fn checked(&mut self, size: Size, call: &MergeCall) -> Result<(u64, Vec<(u32, u32)>), u64> {
-        let fits = |yes: bool, row: u64| if yes { Err(row) } else { Ok(()) };
-        let no_chunk = |chunk: u32| chunk >= self.made();
-        let no_module = |module: u32| u64::from(module) >= size.m;
-        let full = self.entries.len() as u64 >= size.l;
         let mut value = 0;
         match call {
             MergeCall::InitModule { module, bits, side_effects } => {
-                fits(no_module(*module), 16)?;
-                let set = lent_set(bits, size.e).ok_or(16_u64)?;
-                let named = self.sets.iter().find(|(other, _)| *other == set).map(|&(_, chunk)| chunk);
-                fits(named.is_none() && u64::from(self.made()) >= size.c, 18)?;
-                fits(full, 19)?;
-                let chunk = named.unwrap_or_else(|| {
-                    let chunk = self.new_chunk(true);
-                    self.sets.push((set, chunk));
-                    chunk
-                });
-                self.append(chunk, *module, side_effects);
+                self.init_module(size, *module, bits, side_effects)?;
             }
             MergeCall::AddModule { module, chunk, side_effects } => {
-                fits(no_module(*module) || no_chunk(*chunk), 16)?;
-                fits(full, 19)?;
-                self.append(*chunk, *module, side_effects);
+                self.add_module(size, *module, *chunk, side_effects)?;
             }
-            MergeCall::Register { key, chunk } => {
-                fits(u64::from(*key) >= size.c || no_chunk(*chunk), 16)?;
-                self.registered[*key as usize] = Some(*chunk);
-            }
+            MergeCall::Register { key, chunk } => self.register(size, *key, *chunk)?,
             MergeCall::ToTempIdx { key } => {
-                let chunk = self.registered.get(*key as usize).copied().flatten();
-                value = chunk.unwrap_or(NONE).into();
+                value = self.registered.get(*key as usize).copied().flatten().unwrap_or(NONE).into();
             }
             MergeCall::Calc { starts, dependencies } => {
-                fits(dependencies.iter().any(|&module| no_module(module)), 16)?;
-                for &(chunk, module) in &self.entries {
-                    let (from, to) = (starts[module as usize], starts[module as usize + 1]);
-                    for &other in &dependencies[from as usize..to as usize] {
-                        if let Some(at) = self.module_chunk[other as usize].filter(|&at| at != chunk) {
-                            self.dependencies[chunk as usize].insert(at);
-                        }
-                    }
-                }
+                fits(dependencies.iter().any(|&module| u64::from(module) >= size.m), 16)?;
+                self.add_dependencies(starts, dependencies);
             }
             MergeCall::Warning { source, target } => {
-                fits(no_chunk(*source) || no_chunk(*target), 16)?;
-                fits(source == target, 20)?;
+                self.two_chunks(*source, *target)?;
                 value = self.warning(*source, *target).into();
             }
             MergeCall::IsReachable { from, to } => {
-                fits(no_chunk(*from) || no_chunk(*to), 16)?;
+                fits(self.no_chunk(*from) || self.no_chunk(*to), 16)?;
                 value = self.is_reachable(*from, *to).into();
             }
             MergeCall::Merge { target, source } => {
-                fits(no_chunk(*source) || no_chunk(*target), 16)?;
-                fits(source == target, 20)?;
+                self.two_chunks(*source, *target)?;
                 self.merge(*target, *source);
             }
             MergeCall::Pass { proposals, bars, kinds, numbers } => {
-                let candidates = self.candidates();
-                let lengths = [proposals.len(), bars.len(), *kinds, *numbers];
-                fits(lengths != [candidates.len(); 4], 15)?;
-                fits(proposals.iter().any(|&chunk| chunk != NONE && chunk >= self.initial), 16)?;
-                let room = u64::from(self.initial) + u64::from(self.created) + candidates.len() as u64;
-                fits(room > size.c, 18)?;
+                let candidates = self.pass_candidates(size, proposals, [bars.len(), *kinds, *numbers])?;
                 return Ok((candidates.len() as u64, self.pass(&candidates, proposals, bars)));
             }
         }
         Ok((value, vec![]))
+    }
+
+    fn no_chunk(&self, chunk: u32) -> bool {
+        chunk >= self.made()
+    }
+
+    fn full(&self, size: Size) -> bool {
+        self.entries.len() as u64 >= size.l
+    }
+
+    /// Rows 16 and 20.
+    fn two_chunks(&self, source: u32, target: u32) -> Result<(), u64> {
+        fits(self.no_chunk(source) || self.no_chunk(target), 16)?;
+        fits(source == target, 20)
+    }
+
+    fn init_module(&mut self, size: Size, module: u32, bits: &[u64], side_effects: &[u32]) -> Result<(), u64> {
+        fits(u64::from(module) >= size.m, 16)?;
+        let set = lent_set(bits, size.e).ok_or(16_u64)?;
+        let named = self.sets.iter().find(|(other, _)| *other == set).map(|&(_, chunk)| chunk);
+        fits(named.is_none() && u64::from(self.made()) >= size.c, 18)?;
+        fits(self.full(size), 19)?;
+        let chunk = named.unwrap_or_else(|| {
+            let chunk = self.new_chunk(true);
+            self.sets.push((set, chunk));
+            chunk
+        });
+        self.append(chunk, module, side_effects);
+        Ok(())
+    }
+
+    fn add_module(&mut self, size: Size, module: u32, chunk: u32, side_effects: &[u32]) -> Result<(), u64> {
+        fits(u64::from(module) >= size.m || self.no_chunk(chunk), 16)?;
+        fits(self.full(size), 19)?;
+        self.append(chunk, module, side_effects);
+        Ok(())
+    }
+
+    fn register(&mut self, size: Size, key: u32, chunk: u32) -> Result<(), u64> {
+        fits(u64::from(key) >= size.c || self.no_chunk(chunk), 16)?;
+        self.registered[key as usize] = Some(chunk);
+        Ok(())
+    }
+
+    fn add_dependencies(&mut self, starts: &[u32], dependencies: &[u32]) {
+        for &(chunk, module) in &self.entries {
+            let (from, to) = (starts[module as usize], starts[module as usize + 1]);
+            for &other in &dependencies[from as usize..to as usize] {
+                if let Some(at) = self.module_chunk[other as usize].filter(|&at| at != chunk) {
+                    self.dependencies[chunk as usize].insert(at);
+                }
+            }
+        }
+    }
+
+    /// The pass's candidates, after rows 15, 16 and 18; `lengths` are those of the bars and the two answer lists.
+    fn pass_candidates(&self, size: Size, proposals: &[u32], lengths: [usize; 3]) -> Result<Vec<u32>, u64> {
+        let candidates = self.candidates();
+        let count = candidates.len();
+        fits(proposals.len() != count || lengths != [count; 3], 15)?;
+        fits(proposals.iter().any(|&chunk| chunk != NONE && chunk >= self.initial), 16)?;
+        let room = u64::from(self.initial) + u64::from(self.created) + count as u64;
+        fits(room > size.c, 18)?;
+        Ok(candidates)
     }
 
     fn pass(&mut self, candidates: &[u32], proposals: &[u32], bars: &[u32]) -> Vec<(u32, u32)> {

@@ -207,7 +207,8 @@ impl Case for MergeCase {
         let lent = area.len() - GUARD;
         if let Some(state) = &self.crafted {
             state.encode(size, &mut area[..lent]);
-            return self.check_calls(library, None, state.clone(), area, counts);
+            let mut running = Running { library, original: None, state: state.clone(), area };
+            return self.check_calls(&mut running, counts);
         }
         let loaded = merges_calls::new(size, &self.load, lent);
         let row = loaded.as_ref().err().copied().unwrap_or(0);
@@ -223,7 +224,7 @@ impl Case for MergeCase {
         let Ok(state) = loaded else { return Ok(()) };
         let original = original_of(size, &self.load);
         same("original's state at loading against the model", &original.view(), &state.view())?;
-        self.check_calls(library, Some(original), state, area, counts)
+        self.check_calls(&mut Running { library, original: Some(original), state, area }, counts)
     }
 
     fn smaller(&self) -> Vec<Self> {
@@ -266,54 +267,65 @@ impl Case for MergeCase {
     }
 }
 
+/// What the calls of a case are run on.
+struct Running<'a> {
+    library: Option<&'a dyn Library>,
+    original: Option<OriginalMerges>,
+    state: MergeState,
+    area: Vec<u32>,
+}
+
+impl Running<'_> {
+    /// The original's answer and state against the model's.
+    fn same_original(&mut self, call: &MergeCall, answer: &Answer) -> Result<(), String> {
+        let Some(original) = self.original.as_mut().filter(|_| answer.0.refusal == 0) else { return Ok(()) };
+        same("original against the model", &original_answer(original, call), answer)?;
+        same("original's state against the model", &original.view(), &self.state.view())
+    }
+
+    /// The library's answer and area against the model's.
+    fn same_library(&mut self, size: Size, call: &MergeCall, answer: &Answer) -> Result<(), String> {
+        let Some(library) = self.library else { return Ok(()) };
+        let before = self.area.clone();
+        let lent = self.area.len() - GUARD;
+        same("answer", &library_answer(library, size, &mut self.area[..lent], call)?, answer)?;
+        if answer.0.refusal != 0 {
+            same_area("refused", &self.area, &before)
+        } else {
+            same_state(size, &self.state, &self.area, &before, false)
+        }
+    }
+}
+
+fn count_answer(call: &MergeCall, answer: &Answer, counts: &mut Counts) {
+    counts.refused(answer.0.refusal);
+    match call {
+        MergeCall::Warning { .. } if answer.0 == Reply::value(1) => counts.warned += 1,
+        MergeCall::Warning { .. } if answer.0 == Reply::value(0) => counts.unwarned += 1,
+        _ => {}
+    }
+    counts.merged += answer.1.iter().filter(|(kind, _)| *kind == 0).count() as u64;
+    counts.created += answer.1.iter().filter(|(kind, _)| *kind == 1).count() as u64;
+}
+
 impl MergeCase {
-    /// The calls, from a state that the area holds.
-    fn check_calls(
-        &self,
-        library: Option<&dyn Library>,
-        mut original: Option<OriginalMerges>,
-        mut state: MergeState,
-        mut area: Vec<u32>,
-        counts: &mut Counts,
-    ) -> Result<(), String> {
+    fn check_calls(&self, running: &mut Running, counts: &mut Counts) -> Result<(), String> {
         let size = self.size;
-        let lent = area.len() - GUARD;
         for (place, (call, damage)) in self.calls.iter().enumerate() {
             counts.calls += 1;
             let at = |why: String| format!("call {place}: {why}");
-            let call = &fitted(call, &state);
+            let call = &fitted(call, &running.state);
             if !damage.none() {
-                if let Some(library) = library {
-                    self.check_damaged(library, &area, call, damage, counts).map_err(at)?;
+                if let Some(library) = running.library {
+                    self.check_damaged(library, &running.area, call, damage, counts).map_err(at)?;
                 }
                 continue;
             }
             let row = size_refusal(size, usize::MAX, call);
-            let answer = if row != 0 { (Reply::refused(row), vec![]) } else { state.call(size, call) };
-            counts.refused(answer.0.refusal);
-            if answer.0.refusal == 0 {
-                if let Some(original) = &mut original {
-                    let theirs = original_answer(original, call);
-                    same(&format!("call {place}: original against the model"), &theirs, &answer)?;
-                    let view = original.view();
-                    same(&format!("call {place}: original's state against the model"), &view, &state.view())?;
-                }
-                if let MergeCall::Warning { .. } = call {
-                    if answer.0.value == 1 { counts.warned += 1 } else { counts.unwarned += 1 }
-                }
-                counts.merged += answer.1.iter().filter(|(kind, _)| *kind == 0).count() as u64;
-                counts.created += answer.1.iter().filter(|(kind, _)| *kind == 1).count() as u64;
-            }
-            if let Some(library) = library {
-                let before = area.clone();
-                let ours = library_answer(library, size, &mut area[..lent], call).map_err(at)?;
-                same("answer", &ours, &answer).map_err(at)?;
-                if answer.0.refusal != 0 {
-                    same_area("refused", &area, &before).map_err(at)?;
-                } else {
-                    same_state(size, &state, &area, &before, false).map_err(at)?;
-                }
-            }
+            let answer = if row != 0 { (Reply::refused(row), vec![]) } else { running.state.call(size, call) };
+            count_answer(call, &answer, counts);
+            running.same_original(call, &answer).map_err(at)?;
+            running.same_library(size, call, &answer).map_err(at)?;
         }
         Ok(())
     }

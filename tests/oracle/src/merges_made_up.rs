@@ -48,64 +48,81 @@ fn random_effects(random: &mut Random, m: u64) -> Vec<u32> {
     (0..m).map(|_| if random.chance(20) { random.odd_number() } else { 0 }).collect()
 }
 
-fn random_call(random: &mut Random, shape: Shape, state: &MergeState, wrong: u64) -> MergeCall {
-    let size = shape.size;
+/// A made chunk, or with `wrong` percent one that isn't, as a rule.
+fn some_chunk(random: &mut Random, state: &MergeState, wrong: u64) -> u32 {
     let made = u64::from(state.made());
-    let chunk = |random: &mut Random| {
-        if random.chance(wrong) { made as u32 + random.below(3) as u32 } else { random.below(made) as u32 }
-    };
-    let module = |random: &mut Random| {
-        if random.chance(wrong) { size.m as u32 + random.below(2) as u32 } else { random.below(size.m) as u32 }
-    };
-    let effects = |random: &mut Random| {
-        let mut list = random_effects(random, size.m);
-        if random.chance(wrong / 2) {
-            list.push(0);
+    if random.chance(wrong) { made as u32 + random.below(3) as u32 } else { random.below(made) as u32 }
+}
+
+/// A module, or with `wrong` percent none.
+fn some_module(random: &mut Random, size: Size, wrong: u64) -> u32 {
+    if random.chance(wrong) { size.m as u32 + random.below(2) as u32 } else { random.below(size.m) as u32 }
+}
+
+/// Side effects of the modules, now and then one too many.
+fn some_effects(random: &mut Random, size: Size, wrong: u64) -> Vec<u32> {
+    let mut list = random_effects(random, size.m);
+    if random.chance(wrong / 2) {
+        list.push(0);
+    }
+    list
+}
+
+fn random_init(random: &mut Random, size: Size, wrong: u64) -> MergeCall {
+    let mut bits = random_set(random, size.e, 4 * size.c);
+    if random.chance(wrong) {
+        if random.chance(50) || size.e % 64 == 0 {
+            bits.push(0);
+        } else {
+            *bits.last_mut().unwrap() |= 1 << (size.e % 64);
         }
-        list
-    };
+    }
+    let module = some_module(random, size, wrong);
+    MergeCall::InitModule { module, bits, side_effects: some_effects(random, size, wrong) }
+}
+
+fn random_calc(random: &mut Random, size: Size, wrong: u64) -> MergeCall {
+    let entries = if size.m == 0 { 0 } else { random.below(2 * size.m + 2).min(8192) };
+    let below = size.m + u64::from(random.chance(wrong));
+    let (mut starts, dependencies) = random_lists(random, size.m, entries, below);
+    if random.chance(wrong) {
+        let place = random.index(starts.len());
+        starts[place] = random.odd_number();
+    }
+    MergeCall::Calc { starts, dependencies }
+}
+
+fn random_pass(random: &mut Random, state: &MergeState, wrong: u64) -> MergeCall {
+    let count = state.candidates().len();
+    let named = u64::from(state.initial) + u64::from(random.chance(wrong));
+    let proposals = (0..count.max(1))
+        .map(|_| if named == 0 || random.chance(30) { NONE } else { random.below(named) as u32 })
+        .collect();
+    let bars = (0..count.max(1)).map(|_| if random.chance(15) { random.odd_number() } else { 0 }).collect();
+    let kinds = if random.chance(wrong) { count + 1 } else { FITTED };
+    MergeCall::Pass { proposals, bars, kinds, numbers: if kinds == FITTED { FITTED } else { count } }
+}
+
+fn random_call(random: &mut Random, size: Size, state: &MergeState, wrong: u64) -> MergeCall {
+    let chunk = |random: &mut Random| some_chunk(random, state, wrong);
     match random.below(24) {
-        0..7 => {
-            let mut bits = random_set(random, size.e, 4 * size.c);
-            if random.chance(wrong) {
-                if random.chance(50) || size.e % 64 == 0 {
-                    bits.push(0);
-                } else {
-                    *bits.last_mut().unwrap() |= 1 << (size.e % 64);
-                }
-            }
-            MergeCall::InitModule { module: module(random), bits, side_effects: effects(random) }
-        }
-        7..9 => MergeCall::AddModule { module: module(random), chunk: chunk(random), side_effects: effects(random) },
+        0..7 => random_init(random, size, wrong),
+        7..9 => MergeCall::AddModule {
+            module: some_module(random, size, wrong),
+            chunk: chunk(random),
+            side_effects: some_effects(random, size, wrong),
+        },
         9 => {
             let keys = size.c + u64::from(random.chance(wrong));
             MergeCall::Register { key: random.below(keys) as u32, chunk: chunk(random) }
         }
         10 => MergeCall::ToTempIdx { key: random.pick(&[size.c as u32 - 1, size.c as u32, u32::MAX, 0]) },
         11 => MergeCall::ToTempIdx { key: random.below(size.c) as u32 },
-        12..14 => {
-            let entries = if size.m == 0 { 0 } else { random.below(2 * size.m + 2).min(8192) };
-            let below = size.m + u64::from(random.chance(wrong));
-            let (mut starts, dependencies) = random_lists(random, size.m, entries, below);
-            if random.chance(wrong) {
-                let place = random.index(starts.len());
-                starts[place] = random.odd_number();
-            }
-            MergeCall::Calc { starts, dependencies }
-        }
+        12..14 => random_calc(random, size, wrong),
         14..17 => MergeCall::Warning { source: chunk(random), target: chunk(random) },
         17..19 => MergeCall::IsReachable { from: chunk(random), to: chunk(random) },
         19..22 => MergeCall::Merge { target: chunk(random), source: chunk(random) },
-        _ => {
-            let count = state.candidates().len();
-            let named = u64::from(state.initial) + u64::from(random.chance(wrong));
-            let proposals = (0..count.max(1))
-                .map(|_| if named == 0 || random.chance(30) { NONE } else { random.below(named) as u32 })
-                .collect();
-            let bars = (0..count.max(1)).map(|_| if random.chance(15) { random.odd_number() } else { 0 }).collect();
-            let kinds = if random.chance(wrong) { count + 1 } else { FITTED };
-            MergeCall::Pass { proposals, bars, kinds, numbers: if kinds == FITTED { FITTED } else { count } }
-        }
+        _ => random_pass(random, state, wrong),
     }
 }
 
@@ -179,7 +196,7 @@ pub fn random_case(random: &mut Random, shape: Shape, damage: u64) -> MergeCase 
 fn add_calls(random: &mut Random, case: &mut MergeCase, mut state: MergeState, shape: Shape, damage: u64) {
     let (size, extra) = (case.size, case.extra);
     for _ in 0..shape.calls {
-        let call = random_call(random, shape, &state, damage / 2);
+        let call = random_call(random, size, &state, damage / 2);
         let mut wrong = Damage::default();
         if random.chance(damage) {
             // Mostly one thing, now and then several: the first fitting row wins.
@@ -285,57 +302,71 @@ fn damage_loading(random: &mut Random, case: &mut MergeCase, size: Size) {
     }
 }
 
-/// Two initial chunks, two that need creation, every dependency among the four: all warnings and walks, a pass.
-pub fn every_small_graph(each: &mut dyn FnMut(MergeCase)) {
-    let size = Size { c: 6, m: 4, l: 4, e: 2 };
-    let load = MergeLoad {
+/// Two initial chunks, named by the sets of one bit.
+fn small_load() -> MergeLoad {
+    MergeLoad {
         initial: 2,
         module_starts: vec![0, 1, 2],
         modules: vec![0, 1],
         sets: vec![1, 2],
         set_chunks: vec![0, 1],
         side_effects: vec![0, 1, 0, 1],
-    };
+    }
+}
+
+/// The module dependencies of the `graph`-th of the graphs on four chunks, of one module each.
+fn small_dependencies(graph: u32) -> MergeCall {
+    let mut starts = vec![0];
+    let mut dependencies = vec![];
+    for from in 0..4 {
+        for (place, to) in (0..4).filter(|&to| to != from).enumerate() {
+            if graph >> (3 * from as usize + place) & 1 == 1 {
+                dependencies.push(to);
+            }
+        }
+        starts.push(dependencies.len() as u32);
+    }
+    MergeCall::Calc { starts, dependencies }
+}
+
+/// Makes two chunks that need creation, then the graph, then asks for every warning and walk.
+fn small_calls(graph: u32, side_effects: &[u32]) -> Vec<MergeCall> {
+    let mut calls = vec![];
+    for (module, set) in [(2, 3), (3, 0)] {
+        calls.push(MergeCall::InitModule { module, bits: vec![set], side_effects: side_effects.to_vec() });
+    }
+    calls.push(small_dependencies(graph));
+    for one in 0..4 {
+        for other in 0..4 {
+            calls.push(MergeCall::Warning { source: one, target: other });
+            calls.push(MergeCall::IsReachable { from: one, to: other });
+        }
+    }
+    calls
+}
+
+/// The `number`-th choice of a merge and of a pass, which is run twice.
+fn small_merge(graph: u32, number: u32) -> [MergeCall; 3] {
+    let choice = |number: u32| [0, 1, NONE][number as usize % 3];
+    let pass = graph + 1000 * number;
+    let proposals = vec![choice(pass), choice(pass / 3)];
+    let bars = vec![u32::from(pass % 7 == 6), u32::from(pass % 11 == 10)];
+    let pass = MergeCall::Pass { proposals, bars, kinds: FITTED, numbers: FITTED };
+    let merge = MergeCall::Merge { target: number % 4, source: (number + 1 + graph % 3) % 4 };
+    [merge, pass.clone(), pass]
+}
+
+/// Two initial chunks, two that need creation, every dependency among the four: all warnings and walks, a pass.
+pub fn every_small_graph(each: &mut dyn FnMut(MergeCase)) {
+    let size = Size { c: 6, m: 4, l: 4, e: 2 };
     for graph in 0..1_u32 << 12 {
-        let mut calls = vec![];
-        for (module, set) in [(2, 3), (3, 0)] {
-            calls.push(MergeCall::InitModule { module, bits: vec![set], side_effects: load.side_effects.clone() });
-        }
-        let mut starts = vec![0];
-        let mut dependencies = vec![];
-        for from in 0..4 {
-            for (place, to) in (0..4).filter(|&to| to != from).enumerate() {
-                if graph >> (3 * from as usize + place) & 1 == 1 {
-                    dependencies.push(to);
-                }
-            }
-            starts.push(dependencies.len() as u32);
-        }
-        calls.push(MergeCall::Calc { starts, dependencies });
-        for one in 0..4 {
-            for other in 0..4 {
-                calls.push(MergeCall::Warning { source: one, target: other });
-                calls.push(MergeCall::IsReachable { from: one, to: other });
-            }
-        }
-        let choice = |number: u32| [0, 1, NONE][number as usize % 3];
+        let load = small_load();
+        let calls = small_calls(graph, &load.side_effects);
         for number in 0..3 {
-            let pass = graph + 1000 * number;
-            let proposals = vec![choice(pass), choice(pass / 3)];
-            let bars = vec![u32::from(pass % 7 == 6), u32::from(pass % 11 == 10)];
-            let pass = MergeCall::Pass { proposals, bars, kinds: FITTED, numbers: FITTED };
-            let merge = MergeCall::Merge { target: number % 4, source: (number + 1 + graph % 3) % 4 };
-            let calls = calls.iter().cloned().chain([merge, pass.clone(), pass]);
+            let calls = calls.iter().cloned().chain(small_merge(graph, number));
             let calls = calls.map(|call| (call, Damage::default())).collect();
-            each(MergeCase {
-                size,
-                load: load.clone(),
-                extra: 2,
-                short: false,
-                fill: graph.into(),
-                crafted: None,
-                calls,
-            });
+            let (load, fill) = (load.clone(), graph.into());
+            each(MergeCase { size, load, extra: 2, short: false, fill, crafted: None, calls });
         }
     }
 }

@@ -45,6 +45,29 @@ pub struct MergeState {
     pub registered: Vec<Option<u32>>,
 }
 
+/// By made chunk, unless a flag says that a chunk depends on itself, or one not yet made depends or is depended on.
+fn decode_dependencies(at: MergeLayout, area: &[u32], made: usize) -> Option<Vec<BTreeSet<u32>>> {
+    let mut dependencies = vec![BTreeSet::new(); made];
+    for from in 0..at.c {
+        for to in 0..at.c {
+            match area[at.dependency(from, to)] {
+                0 => {}
+                _ if from < made && to < made && from != to => {
+                    dependencies[from].insert(to as u32);
+                }
+                _ => return None,
+            }
+        }
+    }
+    Some(dependencies)
+}
+
+/// A named set and its chunk.
+fn decode_set(at: MergeLayout, area: &[u32], set: usize) -> (Set, u32) {
+    let halves = std::array::from_fn(|word| area[at.set_word(word, set)]);
+    (Set::from_halves(halves), area[at.set_word(8, set)])
+}
+
 impl MergeState {
     pub fn made(&self) -> u32 {
         self.dependencies.len() as u32
@@ -124,51 +147,36 @@ impl MergeState {
         if initial as usize > made || made > at.c || sets > at.c + made || entries > at.l {
             return None;
         }
-        let below = |chunk: u32| (chunk as usize) < made;
         let maybe = |chunk: u32| (chunk != NONE).then_some(chunk);
-        let mut dependencies = vec![BTreeSet::new(); made];
-        for from in 0..at.c {
-            for to in 0..at.c {
-                match area[at.dependency(from, to)] {
-                    0 => {}
-                    _ if from < made && to < made && from != to => {
-                        dependencies[from].insert(to as u32);
-                    }
-                    _ => return None,
-                }
-            }
-        }
         let lane = |lane, count: usize| (0..count).map(move |chunk| area[at.chunk_lane(lane, chunk)]);
+        let entry = |lane, entry| area[at.entry_lane(lane, entry)];
         let state = Self {
             initial,
             created: header(MergeLayout::CREATED),
-            dependencies,
+            dependencies: decode_dependencies(at, area, made)?,
             side_effects: lane(MergeLayout::SIDE_EFFECTS, made).map(|flag| flag != 0).collect(),
             needs_creation: lane(MergeLayout::NEEDS_CREATION, made).map(|flag| flag != 0).collect(),
-            sets: (0..sets)
-                .map(|set| {
-                    let halves = std::array::from_fn(|word| area[at.set_word(word, set)]);
-                    (Set::from_halves(halves), area[at.set_word(8, set)])
-                })
-                .collect(),
+            sets: (0..sets).map(|set| decode_set(at, area, set)).collect(),
             entries: (0..entries)
-                .map(|entry| {
-                    let chunk = area[at.entry_lane(MergeLayout::ENTRY_CHUNK, entry)];
-                    (chunk, area[at.entry_lane(MergeLayout::ENTRY_MODULE, entry)])
-                })
+                .map(|place| (entry(MergeLayout::ENTRY_CHUNK, place), entry(MergeLayout::ENTRY_MODULE, place)))
                 .collect(),
             module_chunk: (0..at.m)
                 .map(|module| maybe(area[at.module_lane(MergeLayout::MODULE_CHUNK, module)]))
                 .collect(),
             registered: lane(MergeLayout::KEY, at.c).map(maybe).collect(),
         };
-        let distinct: BTreeSet<Set> = state.sets.iter().map(|&(set, _)| set).collect();
-        let sound = distinct.len() == sets
-            && state.sets.iter().all(|&(set, chunk)| set.below(size.e) && below(chunk))
-            && state.entries.iter().all(|&(chunk, module)| below(chunk) && (module as usize) < at.m)
-            && state.module_chunk.iter().chain(&state.registered).all(|chunk| chunk.is_none_or(below))
-            && !state.needs_creation[..initial as usize].contains(&true);
-        sound.then_some(state)
+        state.is_sound(size).then_some(state)
+    }
+
+    /// Row 21 but for the header and the dependencies.
+    fn is_sound(&self, size: Size) -> bool {
+        let below = |chunk: u32| chunk < self.made();
+        let distinct: BTreeSet<Set> = self.sets.iter().map(|&(set, _)| set).collect();
+        distinct.len() == self.sets.len()
+            && self.sets.iter().all(|&(set, chunk)| set.below(size.e) && below(chunk))
+            && self.entries.iter().all(|&(chunk, module)| below(chunk) && u64::from(module) < size.m)
+            && self.module_chunk.iter().chain(&self.registered).all(|chunk| chunk.is_none_or(below))
+            && !self.needs_creation[..self.initial as usize].contains(&true)
     }
 
     /// Lays every field over the area; cells of no field stay, and so do the flags of chunks not yet made.

@@ -3,7 +3,7 @@ use crate::layout::MoveLayout;
 use crate::library::{EdgeReply, Library, Reply, SetReply};
 use crate::moves_model::{Load, MoveState, NONE, entry_sets, load_refusal, whole};
 use crate::moves_views::{model_view, original_answer, original_lists};
-use crate::original::OriginalMoves;
+use crate::original::{MoveView, OriginalMoves};
 use crate::run::{Case, Counts, GUARD, Random, same, same_area, shorter};
 use crate::sets::width;
 use crate::stand_ins::rolldown_utils::BitSet;
@@ -166,8 +166,9 @@ impl Case for MoveCase {
         let lent = area.len() - GUARD;
         if let Some(state) = &self.crafted {
             state.encode(load, &mut area[..lent]);
-            let expected = area.clone();
-            return self.check_calls(library, None, state.clone(), area, expected, counts);
+            let (state, expected) = (state.clone(), area.clone());
+            let mut running = Running { library, original: None, view: None, state, area, expected };
+            return self.check_calls(&mut running, counts);
         }
         let refusal = load_refusal(load, Some(&self.sets), lent);
         let mut expected = area.clone();
@@ -191,8 +192,10 @@ impl Case for MoveCase {
         let original = OriginalMoves::new(&lists);
         let state = MoveState::at_loading(load, &entry_sets(&self.sets, load.a as usize, width(load.e) as usize));
         same("original's loading against the model", &u64::from(!original.acyclic()), &reply.value)?;
-        same("original's state at loading against the model", &original.view(), &model_view(load, &state))?;
-        self.check_calls(library, Some(original), state, area, expected, counts)
+        let view = original.view();
+        same("original's state at loading against the model", &view, &model_view(load, &state))?;
+        let (original, view) = (Some(original), Some(view));
+        self.check_calls(&mut Running { library, original, view, state, area, expected }, counts)
     }
 
     fn smaller(&self) -> Vec<Self> {
@@ -211,11 +214,7 @@ impl Case for MoveCase {
             }
         }
         for entry in (0..if damaged_load { 0 } else { self.load.d as usize }).rev() {
-            let mut case = self.clone();
-            case.load.d -= 1;
-            case.load.dependencies.remove(entry);
-            case.load.starts.iter_mut().filter(|start| **start as usize > entry).for_each(|start| *start -= 1);
-            cases.push(case);
+            cases.push(self.without_dependency(entry));
         }
         for bit in 0..self.load.e as usize {
             if self.load.hosts[bit] != NONE {
@@ -228,88 +227,118 @@ impl Case for MoveCase {
             cases.push(Self { load: Load { n: self.load.n - 1, ..self.load.clone() }, ..self.clone() });
         }
         if self.load.e > 0 && width(self.load.e) == width(self.load.e - 1) && !damaged_load {
-            let mut case = self.clone();
-            case.load.e -= 1;
-            case.load.hosts.pop();
-            if load_refusal(&case.load, Some(&case.sets), usize::MAX) == 0 {
-                cases.push(case);
-            }
+            cases.extend(self.without_last_bit());
         }
         cases
     }
 }
 
+/// What the calls of a case are run on.
+struct Running<'a> {
+    library: Option<&'a dyn Library>,
+    original: Option<OriginalMoves<'a>>,
+    /// What the original shows after its last move.
+    view: Option<MoveView>,
+    state: MoveState,
+    area: Vec<u32>,
+    /// What the area must be.
+    expected: Vec<u32>,
+}
+
+impl Running<'_> {
+    /// Puts a number into the walk counter, unless that is higher: no mark may be above the counter.
+    fn set_counter(&mut self, load: &Load, value: u32) {
+        if value < self.state.counter {
+            return;
+        }
+        self.state.counter = value;
+        if let Some(original) = &mut self.original {
+            original.set_mark(value);
+        }
+        self.area[load.layout().header(MoveLayout::COUNTER)] = value;
+        self.expected.clone_from(&self.area);
+    }
+
+    /// The original's move against the model's.
+    fn same_move(&mut self, load: &Load, atom: u32, bits: &[u64], value: u64) -> Result<(), String> {
+        let Some(original) = &mut self.original else { return Ok(()) };
+        let accepted = original.try_move(atom, &BitSet::from_words(bits));
+        same("original against the model", &u64::from(accepted), &value)?;
+        let theirs = original.view();
+        same("original's state against the model", &theirs, &model_view(load, &self.state))?;
+        same("original's counter", &original.mark(), &self.state.counter)?;
+        self.view = Some(theirs);
+        Ok(())
+    }
+
+    /// The original's answer, where it has one, against the model's.
+    fn same_original(&mut self, load: &Load, call: &MoveCall, answer: Answer) -> Result<(), String> {
+        if let (MoveCall::Move { atom, bits }, Answer::Reply(Reply { refusal: 0, value })) = (call, answer) {
+            return self.same_move(load, *atom, bits, value);
+        }
+        match (&self.view, answer.refusal()) {
+            (Some(view), 0) => same("original against the model", &original_answer(view, call).unwrap(), &answer),
+            _ => Ok(()),
+        }
+    }
+
+    /// The library's answer and area against the model's.
+    fn same_library(&mut self, load: &Load, call: &MoveCall, answer: Answer) -> Result<(), String> {
+        let Some(library) = self.library else { return Ok(()) };
+        let lent = self.area.len() - GUARD;
+        same("library", &library_answer(library, load, &mut self.area[..lent], call), &answer)?;
+        if answer.refusal() == 0 && matches!(call, MoveCall::Move { .. }) {
+            self.state.encode(load, &mut self.expected[..lent]);
+        }
+        same_area("library", &self.area, &self.expected)
+    }
+}
+
 impl MoveCase {
-    /// The calls, from a state that the area holds.
-    fn check_calls(
-        &self,
-        library: Option<&dyn Library>,
-        mut original: Option<OriginalMoves>,
-        mut state: MoveState,
-        mut area: Vec<u32>,
-        mut expected: Vec<u32>,
-        counts: &mut Counts,
-    ) -> Result<(), String> {
+    fn check_calls(&self, running: &mut Running, counts: &mut Counts) -> Result<(), String> {
         let load = &self.load;
-        let lent = area.len() - GUARD;
-        let mut view = original.as_ref().map(OriginalMoves::view);
         for (place, (call, damage)) in self.calls.iter().enumerate() {
             counts.calls += 1;
+            let at = |why: String| format!("call {place}: {why}");
             if let MoveCall::Counter { value } = call {
-                // No mark may be above the counter.
-                if *value < state.counter {
-                    continue;
-                }
-                state.counter = *value;
-                if let Some(original) = &mut original {
-                    original.set_mark(*value);
-                }
-                area[load.layout().header(MoveLayout::COUNTER)] = *value;
-                expected.clone_from(&area);
+                running.set_counter(load, *value);
                 continue;
             }
             if !damage.none() {
-                if let Some(library) = library {
-                    self.check_damaged(library, &area, call, damage, counts)
-                        .map_err(|why| format!("call {place}: {why}"))?;
+                if let Some(library) = running.library {
+                    self.check_damaged(library, &running.area, call, damage, counts).map_err(at)?;
                 }
                 continue;
             }
-            let answer = model_answer(load, &mut state, call);
+            let answer = model_answer(load, &mut running.state, call);
             counts.refused(answer.refusal());
-            if let (MoveCall::Move { atom, bits }, Answer::Reply(Reply { refusal: 0, value })) = (call, answer) {
-                if value == 1 {
-                    counts.accepted += 1
-                } else {
-                    counts.rejected += 1
-                }
-                if let Some(original) = &mut original {
-                    let accepted = original.try_move(*atom, &BitSet::from_words(bits));
-                    same(&format!("call {place}: original against the model"), &u64::from(accepted), &value)?;
-                    let theirs = original.view();
-                    let expected = model_view(load, &state);
-                    same(&format!("call {place}: original's state against the model"), &theirs, &expected)?;
-                    same(&format!("call {place}: original's counter"), &original.mark(), &state.counter)?;
-                    view = Some(theirs);
-                }
-            } else if let (Some(view), 0) = (&view, answer.refusal()) {
-                let theirs = original_answer(view, call).unwrap();
-                same(&format!("call {place}: original against the model"), &theirs, &answer)?;
+            if let (MoveCall::Move { .. }, Answer::Reply(Reply { refusal: 0, value })) = (call, answer) {
+                if value == 1 { counts.accepted += 1 } else { counts.rejected += 1 }
             }
-            if let Some(library) = library {
-                let ours = library_answer(library, load, &mut area[..lent], call);
-                same(&format!("call {place}"), &ours, &answer)?;
-                if answer.refusal() == 0 && matches!(call, MoveCall::Move { .. }) {
-                    state.encode(load, &mut expected[..lent]);
-                }
-                same_area(&format!("call {place}"), &area, &expected)?;
-            }
+            running.same_original(load, call, answer).map_err(at)?;
+            running.same_library(load, call, answer).map_err(at)?;
         }
         Ok(())
     }
 }
 
 impl MoveCase {
+    fn without_dependency(&self, entry: usize) -> Self {
+        let mut case = self.clone();
+        case.load.d -= 1;
+        case.load.dependencies.remove(entry);
+        case.load.starts.iter_mut().filter(|start| **start as usize > entry).for_each(|start| *start -= 1);
+        case
+    }
+
+    /// The case with one entry bit fewer, if no set has that bit.
+    fn without_last_bit(&self) -> Option<Self> {
+        let mut case = self.clone();
+        case.load.e -= 1;
+        case.load.hosts.pop();
+        (load_refusal(&case.load, Some(&case.sets), usize::MAX) == 0).then_some(case)
+    }
+
     fn without_atom(&self, gone: usize) -> Self {
         let renumber = |atom: u32| if atom as usize > gone && atom != NONE { atom - 1 } else { atom };
         let w = width(self.load.e) as usize;

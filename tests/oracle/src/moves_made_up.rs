@@ -133,18 +133,30 @@ fn damaged_load(random: &mut Random, load: &Load) -> Load {
     load
 }
 
-fn damage_load(random: &mut Random, load: &mut Load) {
-    let shift = |random: &mut Random, number: u64| match random.below(4) {
+/// Another size: one off, or far off.
+fn damaged_size(random: &mut Random, number: u64) -> u64 {
+    match random.below(4) {
         0 => number.saturating_add(1),
         1 => number.saturating_sub(1),
         2 => random.next(),
         _ => random.pick(&[0, 257, 513, 1025, 8193, u64::MAX, 1 << 32, 1 << 63]),
-    };
+    }
+}
+
+/// Makes the first atom with dependencies depend on itself.
+fn depend_on_itself(load: &mut Load) {
+    let Some(atom) = load.starts.windows(2).position(|pair| pair[0] < pair[1]) else { return };
+    if let Some(entry) = load.dependencies.get_mut(load.starts[atom] as usize) {
+        *entry = atom as u32;
+    }
+}
+
+fn damage_load(random: &mut Random, load: &mut Load) {
     match random.below(12) {
-        0 => load.a = shift(random, load.a),
-        1 => load.d = shift(random, load.d),
-        2 => load.e = shift(random, load.e),
-        3 => load.n = shift(random, load.n),
+        0 => load.a = damaged_size(random, load.a),
+        1 => load.d = damaged_size(random, load.d),
+        2 => load.e = damaged_size(random, load.e),
+        3 => load.n = damaged_size(random, load.n),
         4 => load.starts.push(load.d as u32),
         5 => drop(load.dependencies.pop()),
         6 => load.hosts.push(NONE),
@@ -162,16 +174,7 @@ fn damage_load(random: &mut Random, load: &mut Load) {
             load.hosts[place] =
                 if random.chance(50) { random.below(load.a.saturating_add(1)) as u32 } else { random.odd_number() };
         }
-        10 => {
-            // An atom that depends on itself.
-            let atom = load.starts.windows(2).position(|pair| pair[0] < pair[1]);
-            if let Some((atom, entry)) = atom.and_then(|atom| {
-                let entry = load.dependencies.get_mut(load.starts[atom] as usize)?;
-                Some((atom, entry))
-            }) {
-                *entry = atom as u32;
-            }
-        }
+        10 => depend_on_itself(load),
         _ => drop(load.starts.pop()),
     }
 }

@@ -1,12 +1,13 @@
-//! Recorded cases: calls and the original's answers as numbers (README.md: the format).
-use crate::library::MergeLoad;
+//! Recorded cases: calls and the model's answers, where the original agrees, as numbers (README.md: the format).
+use crate::library::{MergeLoad, Reply};
 use crate::merges_calls::{self, MergeCall};
 use crate::merges_cases::{self, MergeCase};
 use crate::merges_made_up;
 use crate::merges_model::{NONE, Size};
 use crate::moves_cases::{self, Answer, MoveCall, MoveCase};
 use crate::moves_made_up;
-use crate::moves_model::{Load, MoveState, entry_sets};
+use crate::moves_model::{Graph, Load, MoveState, entry_sets, load_refusal};
+use crate::original::MergeView;
 use crate::run::{Case, Counts, Random};
 use crate::sets::width;
 
@@ -17,55 +18,66 @@ fn numbers(list: &[u32]) -> impl Iterator<Item = u64> + '_ {
     list.iter().map(|&number| number.into())
 }
 
-/// The numbers of a move case whose lists have the right lengths.
-pub fn record_moves(case: &MoveCase) -> Vec<u64> {
-    case.check(None, &mut Counts::default()).expect("the original and the model agree");
+fn move_load_numbers(case: &MoveCase) -> Vec<u64> {
     let load = &case.load;
-    let w = width(load.e) as usize;
     let mut line = vec![MOVE_CASE, load.a, load.d, load.e, load.n];
     line.extend(numbers(&load.starts));
     line.extend(numbers(&load.dependencies));
     line.extend(numbers(&load.hosts));
     line.extend(&case.sets);
-    let row = crate::moves_model::load_refusal(load, Some(&case.sets), usize::MAX);
+    line
+}
+
+fn move_call_numbers(call: &MoveCall) -> Vec<u64> {
+    match call {
+        MoveCall::Move { atom, bits } => [&[1, u64::from(*atom)], &bits[..]].concat(),
+        MoveCall::AtomSet { atom } => vec![2, u64::from(*atom)],
+        MoveCall::AtomCount { bits } => [&[3], &bits[..]].concat(),
+        MoveCall::Multiplicity { from, to } => [&[4], &from[..], &to[..]].concat(),
+        MoveCall::EdgeCount => vec![5],
+        MoveCall::EdgeAt { k } => vec![6, *k],
+        MoveCall::Counter { .. } => unreachable!("not recorded"),
+    }
+}
+
+/// An answer with sets of `w` numbers.
+fn move_answer_numbers(answer: Answer, w: usize) -> Vec<u64> {
+    match answer {
+        Answer::Reply(reply) => vec![reply.refusal, reply.value],
+        Answer::Set(reply) => {
+            let set = [reply.set0, reply.set1, reply.set2, reply.set3];
+            [&[reply.refusal], &set[..w]].concat()
+        }
+        Answer::Edge(reply) => {
+            let from = [reply.from0, reply.from1, reply.from2, reply.from3];
+            let to = [reply.to0, reply.to1, reply.to2, reply.to3];
+            [&[reply.refusal, reply.found], &from[..w], &to[..w], &[reply.multiplicity]].concat()
+        }
+    }
+}
+
+/// The numbers of a move case whose lists have the right lengths.
+pub fn record_moves(case: &MoveCase) -> Vec<u64> {
+    case.check(None, &mut Counts::default()).expect("the original and the model agree");
+    let load = &case.load;
+    let w = width(load.e) as usize;
+    let mut line = move_load_numbers(case);
+    let row = load_refusal(load, Some(&case.sets), usize::MAX);
     if row != 0 {
         line.extend([row, 0, 0]);
         return line;
     }
     let mut state = MoveState::at_loading(load, &entry_sets(&case.sets, load.a as usize, w));
-    let cyclic = crate::moves_model::Graph::new(load, &state.ledger().place).cyclic();
+    let cyclic = Graph::new(load, &state.ledger().place).cyclic();
     line.extend([0, cyclic.into(), case.calls.len() as u64]);
     for (call, _) in &case.calls {
-        match call {
-            MoveCall::Move { atom, bits } => line.extend([1, u64::from(*atom)].iter().chain(bits)),
-            MoveCall::AtomSet { atom } => line.extend([2, u64::from(*atom)]),
-            MoveCall::AtomCount { bits } => line.extend([3].iter().chain(bits)),
-            MoveCall::Multiplicity { from, to } => line.extend([4].iter().chain(from).chain(to)),
-            MoveCall::EdgeCount => line.push(5),
-            MoveCall::EdgeAt { k } => line.extend([6, *k]),
-            MoveCall::Counter { .. } => unreachable!("not recorded"),
-        }
-        match moves_cases::model_answer(load, &mut state, call) {
-            Answer::Reply(reply) => line.extend([reply.refusal, reply.value]),
-            Answer::Set(reply) => {
-                line.push(reply.refusal);
-                line.extend(&[reply.set0, reply.set1, reply.set2, reply.set3][..w]);
-            }
-            Answer::Edge(reply) => {
-                line.extend([reply.refusal, reply.found]);
-                line.extend(&[reply.from0, reply.from1, reply.from2, reply.from3][..w]);
-                line.extend(&[reply.to0, reply.to1, reply.to2, reply.to3][..w]);
-                line.push(reply.multiplicity);
-            }
-        }
+        line.extend(move_call_numbers(call));
+        line.extend(move_answer_numbers(moves_cases::model_answer(load, &mut state, call), w));
     }
     line
 }
 
-/// The numbers of a merge case whose lists have the right lengths and whose calls share the side effects.
-pub fn record_merges(case: &MergeCase) -> Vec<u64> {
-    case.check(None, &mut Counts::default()).expect("the original and the model agree");
-    let (size, load) = (case.size, &case.load);
+fn merge_load_numbers(size: Size, load: &MergeLoad) -> Vec<u64> {
     let mut line = vec![MERGE_CASE, size.c, size.m, size.l, size.e, load.initial, load.modules.len() as u64];
     line.extend(numbers(&load.module_starts));
     line.extend(numbers(&load.modules));
@@ -73,60 +85,76 @@ pub fn record_merges(case: &MergeCase) -> Vec<u64> {
     line.extend(&load.sets);
     line.extend(numbers(&load.set_chunks));
     line.extend(numbers(&load.side_effects));
-    let mut state = match merges_calls::new(size, load, usize::MAX) {
+    line
+}
+
+/// A call's kind and arguments, but for the side effects.
+fn merge_call_numbers(call: &MergeCall) -> Vec<u64> {
+    let two = |kind: u64, one: u32, other: u32| vec![kind, one.into(), other.into()];
+    match call {
+        MergeCall::InitModule { module, bits, .. } => [&[1, u64::from(*module)], &bits[..]].concat(),
+        MergeCall::AddModule { module, chunk, .. } => two(2, *module, *chunk),
+        MergeCall::Register { key, chunk } => two(3, *key, *chunk),
+        MergeCall::ToTempIdx { key } => vec![4, u64::from(*key)],
+        MergeCall::Calc { starts, dependencies } => {
+            let count = [5, dependencies.len() as u64];
+            count.into_iter().chain(numbers(starts)).chain(numbers(dependencies)).collect()
+        }
+        MergeCall::Warning { source, target } => two(6, *source, *target),
+        MergeCall::IsReachable { from, to } => two(7, *from, *to),
+        MergeCall::Merge { target, source } => two(8, *target, *source),
+        MergeCall::Pass { proposals, bars, .. } => {
+            let count = [9, proposals.len() as u64];
+            count.into_iter().chain(numbers(proposals)).chain(numbers(bars)).collect()
+        }
+    }
+}
+
+/// A reply, with the value of calls that answer one, and the pass's kinds and numbers.
+fn merge_answer_numbers(call: &MergeCall, reply: Reply, lists: &[(u32, u32)]) -> Vec<u64> {
+    let mut answer = vec![reply.refusal];
+    match call {
+        MergeCall::InitModule { .. } | MergeCall::AddModule { .. } | MergeCall::Register { .. } => {}
+        MergeCall::Calc { .. } | MergeCall::Merge { .. } => {}
+        _ => answer.push(reply.value),
+    }
+    answer.extend(lists.iter().map(|&(kind, _)| u64::from(kind)));
+    answer.extend(lists.iter().map(|&(_, number)| u64::from(number)));
+    answer
+}
+
+/// What the area must show at the end: each chunk's two flags and its dependencies.
+fn merge_end_numbers(view: &MergeView) -> Vec<u64> {
+    let mut line = vec![];
+    for (chunk, members) in view.dependencies.iter().enumerate() {
+        let flags = [view.side_effects[chunk].into(), view.needs_creation[chunk].into(), members.len() as u64];
+        line.extend([10, chunk as u64].into_iter().chain(flags).chain(numbers(members)));
+    }
+    line
+}
+
+/// The numbers of a merge case whose lists have the right lengths and whose calls share the side effects.
+pub fn record_merges(case: &MergeCase) -> Vec<u64> {
+    case.check(None, &mut Counts::default()).expect("the original and the model agree");
+    let size = case.size;
+    let mut line = merge_load_numbers(size, &case.load);
+    let mut state = match merges_calls::new(size, &case.load, usize::MAX) {
         Ok(state) => state,
         Err(row) => {
             line.extend([row, 0]);
             return line;
         }
     };
-    let place = line.len() + 1;
-    line.extend([0, case.calls.len() as u64]);
+    let mut calls = vec![];
     for (call, _) in &case.calls {
         let call = &merges_cases::fitted(call, &state);
         let (reply, lists) = state.call(size, call);
-        match call {
-            MergeCall::InitModule { module, bits, .. } => {
-                line.extend([1, u64::from(*module)].iter().chain(bits));
-                line.push(reply.refusal);
-            }
-            MergeCall::AddModule { module, chunk, .. } => {
-                line.extend([2, u64::from(*module), u64::from(*chunk), reply.refusal]);
-            }
-            MergeCall::Register { key, chunk } => {
-                line.extend([3, u64::from(*key), u64::from(*chunk), reply.refusal]);
-            }
-            MergeCall::ToTempIdx { key } => line.extend([4, u64::from(*key), reply.refusal, reply.value]),
-            MergeCall::Calc { starts, dependencies } => {
-                line.extend([5, dependencies.len() as u64]);
-                line.extend(numbers(starts).chain(numbers(dependencies)));
-                line.push(reply.refusal);
-            }
-            MergeCall::Warning { source, target } => {
-                line.extend([6, u64::from(*source), u64::from(*target), reply.refusal, reply.value]);
-            }
-            MergeCall::IsReachable { from, to } => {
-                line.extend([7, u64::from(*from), u64::from(*to), reply.refusal, reply.value]);
-            }
-            MergeCall::Merge { target, source } => {
-                line.extend([8, u64::from(*target), u64::from(*source), reply.refusal]);
-            }
-            MergeCall::Pass { proposals, bars, .. } => {
-                line.extend([9, proposals.len() as u64]);
-                line.extend(numbers(proposals).chain(numbers(bars)));
-                line.extend([reply.refusal, reply.value]);
-                line.extend(lists.iter().map(|&(kind, _)| u64::from(kind)));
-                line.extend(lists.iter().map(|&(_, number)| u64::from(number)));
-            }
-        }
+        calls.extend(merge_call_numbers(call));
+        calls.extend(merge_answer_numbers(call, reply, &lists));
     }
-    // What the area must show at the end: a chunk's two flags and its dependencies.
-    let view = state.view();
-    line[place] += view.dependencies.len() as u64;
-    for (chunk, members) in view.dependencies.iter().enumerate() {
-        let flags = [view.side_effects[chunk].into(), view.needs_creation[chunk].into(), members.len() as u64];
-        line.extend([10, chunk as u64].into_iter().chain(flags).chain(numbers(members)));
-    }
+    line.extend([0, case.calls.len() as u64 + u64::from(state.made())]);
+    line.extend(calls);
+    line.extend(merge_end_numbers(&state.view()));
     line
 }
 
@@ -242,10 +270,9 @@ fn named() -> Vec<Vec<u64>> {
     lines
 }
 
-/// A fixed sample: the named cases, limits, and made-up ones, `count` in all.
-pub fn sample(count: usize, seed: u64) -> Vec<Vec<u64>> {
-    let mut random = Random(seed ^ 0x7265_636f);
-    let mut lines = named();
+/// Cases with sizes at limits.
+fn at_limits(random: &mut Random) -> Vec<Vec<u64>> {
+    let mut lines = vec![];
     for (a, d, e, n) in [
         (512, 1024, 64, 513),
         (512, 512, 10, 512),
@@ -262,13 +289,21 @@ pub fn sample(count: usize, seed: u64) -> Vec<Vec<u64>> {
         (1, 0, 1, 2),
         (3, 200, 3, 5),
     ] {
-        lines.push(record_moves(&moves_case(&mut random, moves_made_up::Shape { a, d, e, n, calls: 12 })));
+        lines.push(record_moves(&moves_case(random, moves_made_up::Shape { a, d, e, n, calls: 12 })));
     }
     for (c, m, l, e) in [(1, 0, 0, 0), (1, 1, 1, 1), (40, 30, 60, 64), (40, 30, 60, 65), (20, 30, 40, 256)] {
         let shape =
             merges_made_up::Shape { size: Size { c, m, l, e }, initial: c.div_ceil(3), pairs: c / 4, calls: 30 };
-        lines.push(record_merges(&merges_case(&mut random, shape)));
+        lines.push(record_merges(&merges_case(random, shape)));
     }
+    lines
+}
+
+/// A fixed sample: the named cases, limits, and made-up ones, `count` in all.
+pub fn sample(count: usize, seed: u64) -> Vec<Vec<u64>> {
+    let mut random = Random(seed ^ 0x7265_636f);
+    let mut lines = named();
+    lines.extend(at_limits(&mut random));
     while lines.len() < count {
         if lines.len() % 2 == 0 {
             let e = 1 + random.below(5);

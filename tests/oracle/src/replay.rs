@@ -88,68 +88,93 @@ fn replay_moves(library: &dyn Library, reader: &mut Reader) -> Result<(), String
     Ok(())
 }
 
-fn replay_merges(library: &dyn Library, reader: &mut Reader) -> Result<(), String> {
-    let size = Size { c: reader.one(), m: reader.one(), l: reader.one(), e: reader.one() };
-    let w = width(size.e);
-    let (initial, count) = (reader.one(), reader.one());
-    let (module_starts, modules) = (reader.smalls(initial + 1), reader.smalls(count));
-    let pairs = reader.one();
-    let (sets, set_chunks) = (reader.list(pairs * w), reader.smalls(pairs));
-    let side_effects = reader.smalls(size.m);
-    let load = MergeLoad { initial, module_starts, modules, sets, set_chunks, side_effects };
-    let at = size.layout();
-    let mut area = vec![0; at.length()];
-    expect(0, library.merge_new(size, &load, &mut area), Reply::refused(reader.one()))?;
-    let effects = &load.side_effects;
-    for place in 1..=reader.one() as usize {
-        match reader.one() {
+/// The library that a merge case is replayed on, with what every call is lent.
+struct Merging<'a> {
+    library: &'a dyn Library,
+    size: Size,
+    side_effects: Vec<u32>,
+    area: Vec<u32>,
+}
+
+impl Merging<'_> {
+    /// A call that only writes: its refusal.
+    fn write(&mut self, kind: u64, reader: &mut Reader) -> Reply {
+        let (library, size, area) = (self.library, self.size, &mut self.area);
+        match kind {
             1 => {
-                let (module, bits) = (reader.small(), reader.list(w));
-                let ours = library.init_module(size, &mut area, module, &bits, effects);
-                expect(place, ours, Reply::refused(reader.one()))?;
+                let (module, bits) = (reader.small(), reader.list(width(size.e)));
+                library.init_module(size, area, module, &bits, &self.side_effects)
             }
-            2 => {
-                let ours = library.add_module(size, &mut area, reader.small(), reader.small(), effects);
-                expect(place, ours, Reply::refused(reader.one()))?;
-            }
-            3 => {
-                let ours = library.register(size, &mut area, reader.small(), reader.small());
-                expect(place, ours, Reply::refused(reader.one()))?;
-            }
-            4 => expect(place, library.to_temp_idx(size, &area, reader.small()), reader.reply())?,
+            2 => library.add_module(size, area, reader.small(), reader.small(), &self.side_effects),
+            3 => library.register(size, area, reader.small(), reader.small()),
             5 => {
                 let count = reader.one();
                 let (starts, dependencies) = (reader.smalls(size.m + 1), reader.smalls(count));
-                let ours = library.calc(size, &mut area, &starts, &dependencies);
-                expect(place, ours, Reply::refused(reader.one()))?;
+                library.calc(size, area, &starts, &dependencies)
             }
-            6 => expect(place, library.warning(size, &area, reader.small(), reader.small()), reader.reply())?,
-            7 => expect(place, library.is_reachable(size, &area, reader.small(), reader.small()), reader.reply())?,
-            8 => {
-                let ours = library.merge(size, &mut area, reader.small(), reader.small());
-                expect(place, ours, Reply::refused(reader.one()))?;
+            _ => library.merge(size, area, reader.small(), reader.small()),
+        }
+    }
+
+    fn question(&self, kind: u64, reader: &mut Reader) -> Reply {
+        let (library, size, area) = (self.library, self.size, &self.area);
+        match kind {
+            4 => library.to_temp_idx(size, area, reader.small()),
+            6 => library.warning(size, area, reader.small(), reader.small()),
+            _ => library.is_reachable(size, area, reader.small(), reader.small()),
+        }
+    }
+
+    fn pass(&mut self, place: usize, reader: &mut Reader) -> Result<(), String> {
+        let count = reader.one();
+        let (proposals, bars) = (reader.smalls(count), reader.smalls(count));
+        let (mut kinds, mut chosen) = (vec![0; count as usize], vec![0; count as usize]);
+        let ours = self.library.pass(self.size, &mut self.area, &proposals, &bars, &mut kinds, &mut chosen);
+        expect(place, ours, reader.reply())?;
+        if ours.refusal == 0 {
+            expect(place, kinds, reader.smalls(count))?;
+            expect(place, chosen, reader.smalls(count))?;
+        }
+        Ok(())
+    }
+
+    /// A chunk's two flags and its dependencies, as the area shows them.
+    fn chunk(&self, place: usize, reader: &mut Reader) -> Result<(), String> {
+        let at = self.size.layout();
+        let chunk = reader.one() as usize;
+        let flag = |lane| self.area[at.chunk_lane(lane, chunk)];
+        expect(place, flag(MergeLayout::SIDE_EFFECTS), reader.small())?;
+        expect(place, flag(MergeLayout::NEEDS_CREATION), reader.small())?;
+        let count = reader.one();
+        let members: Vec<u32> =
+            (0..self.size.c as u32).filter(|&to| self.area[at.dependency(chunk, to as usize)] == 1).collect();
+        expect(place, members, reader.smalls(count))
+    }
+}
+
+fn read_merge_load(reader: &mut Reader, size: Size) -> MergeLoad {
+    let (initial, count) = (reader.one(), reader.one());
+    let (module_starts, modules) = (reader.smalls(initial + 1), reader.smalls(count));
+    let pairs = reader.one();
+    let (sets, set_chunks) = (reader.list(pairs * width(size.e)), reader.smalls(pairs));
+    let side_effects = reader.smalls(size.m);
+    MergeLoad { initial, module_starts, modules, sets, set_chunks, side_effects }
+}
+
+fn replay_merges(library: &dyn Library, reader: &mut Reader) -> Result<(), String> {
+    let size = Size { c: reader.one(), m: reader.one(), l: reader.one(), e: reader.one() };
+    let load = read_merge_load(reader, size);
+    let mut area = vec![0; size.layout().length()];
+    expect(0, library.merge_new(size, &load, &mut area), Reply::refused(reader.one()))?;
+    let mut merging = Merging { library, size, side_effects: load.side_effects, area };
+    for place in 1..=reader.one() as usize {
+        match reader.one() {
+            kind @ (1 | 2 | 3 | 5 | 8) => {
+                expect(place, merging.write(kind, reader), Reply::refused(reader.one()))?;
             }
-            9 => {
-                let count = reader.one();
-                let (proposals, bars) = (reader.smalls(count), reader.smalls(count));
-                let (mut kinds, mut chosen) = (vec![0; count as usize], vec![0; count as usize]);
-                let ours = library.pass(size, &mut area, &proposals, &bars, &mut kinds, &mut chosen);
-                expect(place, ours, reader.reply())?;
-                if ours.refusal == 0 {
-                    expect(place, kinds, reader.smalls(count))?;
-                    expect(place, chosen, reader.smalls(count))?;
-                }
-            }
-            10 => {
-                let chunk = reader.one() as usize;
-                let flag = |lane| area[at.chunk_lane(lane, chunk)];
-                expect(place, flag(MergeLayout::SIDE_EFFECTS), reader.small())?;
-                expect(place, flag(MergeLayout::NEEDS_CREATION), reader.small())?;
-                let count = reader.one();
-                let members: Vec<u32> =
-                    (0..size.c as u32).filter(|&to| area[at.dependency(chunk, to as usize)] == 1).collect();
-                expect(place, members, reader.smalls(count))?;
-            }
+            kind @ (4 | 6 | 7) => expect(place, merging.question(kind, reader), reader.reply())?,
+            9 => merging.pass(place, reader)?,
+            10 => merging.chunk(place, reader)?,
             other => return Err(format!("no call {other}")),
         }
     }

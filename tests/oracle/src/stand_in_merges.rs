@@ -54,33 +54,46 @@ impl StandIn {
         }
         let (mut reply, lists) = state.call(size, &call);
         if reply.refusal == 0 {
-            match &call {
-                MergeCall::Pass { .. } if self.planted("needs_creation cleared") => {
-                    for (&chunk, &(kind, _)) in before.candidates().iter().zip(&lists) {
-                        state.needs_creation[chunk as usize] &= kind == 1;
-                    }
-                }
-                MergeCall::Pass { .. } if self.planted("numbers restart at each pass") => state.created = 0,
-                MergeCall::Merge { .. } if self.planted("merging does nothing") => state = before,
-                MergeCall::Merge { source, .. } if self.planted("source keeps its set") => {
-                    let source = *source as usize;
-                    state.dependencies[source].clone_from(&before.dependencies[source]);
-                }
-                MergeCall::Merge { .. } if self.planted("side effects lost in a merge") => {
-                    state.side_effects = before.side_effects;
-                }
-                MergeCall::Warning { .. } if self.planted("constant warning") => reply.value = 1,
-                MergeCall::IsReachable { from, to } if self.planted("is_reachable in no step") && from == to => {
-                    reply.value = 1;
-                }
-                MergeCall::AddModule { module, .. } if self.planted("a module stays where it was put first") => {
-                    let module = *module as usize;
-                    state.module_chunk[module] = before.module_chunk[module].or(state.module_chunk[module]);
-                }
-                _ => {}
-            }
+            self.spoil_state(&call, &before, &mut state, &lists);
+            self.spoil_answer(&call, &mut reply);
             state.encode(size, area);
         }
         (reply, lists)
+    }
+
+    /// What a planted bug leaves after a call.
+    fn spoil_state(&self, call: &MergeCall, before: &MergeState, state: &mut MergeState, lists: &[(u32, u32)]) {
+        match call {
+            MergeCall::Pass { .. } if self.planted("needs_creation cleared") => {
+                for (&chunk, &(kind, _)) in before.candidates().iter().zip(lists) {
+                    state.needs_creation[chunk as usize] &= kind == 1;
+                }
+            }
+            MergeCall::Pass { .. } if self.planted("numbers restart at each pass") => state.created = 0,
+            MergeCall::Merge { .. } if self.planted("merging does nothing") => state.clone_from(before),
+            MergeCall::Merge { source, .. } if self.planted("source keeps its set") => {
+                let source = *source as usize;
+                state.dependencies[source].clone_from(&before.dependencies[source]);
+            }
+            MergeCall::Merge { .. } if self.planted("side effects lost in a merge") => {
+                state.side_effects.clone_from(&before.side_effects);
+            }
+            MergeCall::AddModule { module, .. } if self.planted("a module stays where it was put first") => {
+                let module = *module as usize;
+                state.module_chunk[module] = before.module_chunk[module].or(state.module_chunk[module]);
+            }
+            _ => {}
+        }
+    }
+
+    /// What a planted bug answers.
+    fn spoil_answer(&self, call: &MergeCall, reply: &mut Reply) {
+        match call {
+            MergeCall::Warning { .. } if self.planted("constant warning") => reply.value = 1,
+            MergeCall::IsReachable { from, to } if self.planted("is_reachable in no step") && from == to => {
+                reply.value = 1;
+            }
+            _ => {}
+        }
     }
 }

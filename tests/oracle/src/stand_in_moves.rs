@@ -4,7 +4,7 @@ use std::collections::BTreeSet;
 use crate::layout::MoveLayout;
 use crate::library::Reply;
 use crate::moves_model::{Graph, Load, MoveState, NONE, entry_sets, load_refusal};
-use crate::sets::{Set, lent_set, width};
+use crate::sets::{Set, lent_set, width, words};
 use crate::stand_in_library::StandIn;
 
 impl StandIn {
@@ -43,21 +43,26 @@ impl StandIn {
 
     /// Rows 1 to 6 and 9, and the state.
     pub(crate) fn open(&self, load: &Load, area: &[u32], question: bool) -> Result<(Load, MoveState), u64> {
-        let mut area = area.to_vec();
         let row = self.load_row(load, None, area.len());
         if row != 0 {
             return Err(row);
         }
-        let at = load.layout();
-        if self.planted("a question checks no area") && question {
-            let mut state = MoveState::at_loading(load, &vec![Set::default(); at.a]);
-            let count = (area[at.header(MoveLayout::REGISTERED)] as usize).min(at.n);
-            let set = |node| Set::from_halves(std::array::from_fn(|lane| area[at.node_lane(lane, node)]));
-            state.registered = (0..count).map(set).collect();
-            state.node = (0..at.a).map(|atom| area[at.atom_lane(MoveLayout::NODE, atom)]).collect();
-            let sound = state.node.iter().all(|&node| (node as usize) < count);
-            return if sound { Ok((load.clone(), state)) } else { Err(9) };
+        let unchecked = (question && self.planted("a question checks no area"))
+            || self.planted("old edges after a move")
+            || self.planted("component kept after acceptance")
+            || self.planted("two components stored");
+        if unchecked {
+            return placed(load, area).map(|state| (load.clone(), state)).ok_or(9);
         }
+        let seen = self.seen(load);
+        let area = self.overlooked(load, area);
+        MoveState::decode(&seen, &area).map(|state| (seen, state)).ok_or(9)
+    }
+
+    /// The area with what a planted bug doesn't check put right.
+    fn overlooked(&self, load: &Load, area: &[u32]) -> Vec<u32> {
+        let at = load.layout();
+        let mut area = area.to_vec();
         if self.planted("counts not checked by 9") {
             for node in 0..at.n {
                 let count =
@@ -72,89 +77,19 @@ impl StandIn {
                 *mark = (*mark).min(counter);
             }
         }
-        if self.planted("old edges after a move")
-            || self.planted("component kept after acceptance")
-            || self.planted("two components stored")
-        {
-            let count = area[at.header(MoveLayout::REGISTERED)].min(load.n as u32);
-            area[at.header(MoveLayout::REGISTERED)] = count;
-            let set = |node| Set::from_halves(std::array::from_fn(|lane| area[at.node_lane(lane, node)]));
-            let state = MoveState {
-                registered: (0..count as usize).map(set).collect(),
-                node: (0..at.a).map(|atom| area[at.atom_lane(MoveLayout::NODE, atom)]).collect(),
-                counter: area[at.header(MoveLayout::COUNTER)],
-                marks: (0..at.n).map(|node| area[at.node_lane(MoveLayout::MARK, node)]).collect(),
-            };
-            return if state.node.iter().all(|&node| node < count) { Ok((load.clone(), state)) } else { Err(9) };
-        }
-        let seen = self.seen(load);
-        MoveState::decode(&seen, &area).map(|state| (seen, state)).ok_or(9)
+        area
     }
 
     pub(crate) fn move_state(&self, load: &Load, state: &mut MoveState, atom: u32, bits: &[u64]) -> Reply {
         let mut load = load.clone();
-        let target = lent_set(bits, load.e);
-        let occupied = |set: Set| state.ledger().place.contains(&set);
-        if u64::from(atom) < load.a {
-            if let Some(target) = target {
-                let present = state.ledger().place[atom as usize];
-                let full = state.registered.len() as u64 >= load.n;
-                let unseen = !state.registered.contains(&target);
-                if target == present && self.planted("12 left out") {
-                    return Reply::value(1);
-                }
-                if self.planted("13 with sets still free") && unseen && target != present && load.n > load.a {
-                    load.n -= 1;
-                }
-                if self.planted("13 before step 1") && unseen && full && target != present {
-                    return Reply::refused(13);
-                }
-                if self.planted("rejects every move") && target != present && !(unseen && full) {
-                    return Reply::value(0);
-                }
-                if self.planted("facade skipped when the target gets its first atom") && !occupied(target) {
-                    for (bit, host) in load.hosts.iter_mut().enumerate() {
-                        if Set::single(bit) == target {
-                            *host = NONE;
-                        }
-                    }
-                }
-                if self.planted("two components stored")
-                    && Graph::new(&load, &state.ledger().place).component().is_empty()
-                    && Graph::new(&load, &state.ledger().place).cyclic()
-                    && unseen
-                    && !full
-                    && target != present
-                {
-                    state.registered.push(target);
-                    return Reply::value(0);
-                }
-                if self.planted("walk only from the target while cyclic") {
-                    let graph = Graph::new(&load, &state.ledger().place);
-                    if graph.cyclic() && graph.component().contains(&present) && !(unseen && full) && target != present
-                    {
-                        let mut place = state.ledger().place;
-                        place[atom as usize] = target;
-                        if !Graph::new(&load, &place).reached(target).contains(&target) {
-                            if unseen {
-                                state.registered.push(target);
-                            }
-                            state.node[atom as usize] =
-                                state.registered.iter().position(|&set| set == target).unwrap() as u32;
-                            return Reply::value(1);
-                        }
-                    }
-                }
-                if self.planted("facade of an empty set kept") {
-                    // The edge of the left set's bit still counts: a move is refused acceptance for it.
-                    let mut trial = state.clone();
-                    let reply = trial.try_move(&load, atom, bits);
-                    let alone = state.ledger().place.iter().filter(|&&set| set == present).count() == 1;
-                    let host = (0..load.e as usize).find(|&bit| Set::single(bit) == present).map(|bit| load.hosts[bit]);
-                    if reply == Reply::value(1) && alone && host == Some(atom) {
-                        return Reply::value(0);
-                    }
-                }
+        if let Some(trial) = Trial::new(&load, state, atom, bits) {
+            self.spoil_load(&mut load, state, trial);
+            let early = (self.early_answer(trial))
+                .or_else(|| self.two_components(&load, state, trial))
+                .or_else(|| self.walked_from_target(&load, state, trial))
+                .or_else(|| self.facade_kept(&load, state, trial));
+            if let Some(reply) = early {
+                return reply;
             }
         }
         let before = (state.counter, state.marks.clone());
@@ -168,5 +103,123 @@ impl StandIn {
             state.marks.fill(0);
         }
         reply
+    }
+
+    /// The load as a planted bug sees it for one move.
+    fn spoil_load(&self, load: &mut Load, state: &MoveState, trial: Trial) {
+        if self.planted("13 with sets still free") && trial.unseen && !trial.stays() && load.n > load.a {
+            load.n -= 1;
+        }
+        let occupied = state.ledger().place.contains(&trial.target);
+        if self.planted("facade skipped when the target gets its first atom") && !occupied {
+            for (bit, host) in load.hosts.iter_mut().enumerate() {
+                if Set::single(bit) == trial.target {
+                    *host = NONE;
+                }
+            }
+        }
+    }
+
+    /// An answer without a look at the graph.
+    fn early_answer(&self, trial: Trial) -> Option<Reply> {
+        if trial.stays() && self.planted("12 left out") {
+            return Some(Reply::value(1));
+        }
+        if self.planted("13 before step 1") && trial.unseen && trial.full && !trial.stays() {
+            return Some(Reply::refused(13));
+        }
+        (self.planted("rejects every move") && trial.has_room()).then_some(Reply::value(0))
+    }
+
+    /// A set is registered although step 1 rejects the move.
+    fn two_components(&self, load: &Load, state: &mut MoveState, trial: Trial) -> Option<Reply> {
+        if !self.planted("two components stored") || !trial.unseen || !trial.has_room() {
+            return None;
+        }
+        let graph = Graph::new(load, &state.ledger().place);
+        if !graph.cyclic() || !graph.component().is_empty() {
+            return None;
+        }
+        state.registered.push(trial.target);
+        Some(Reply::value(0))
+    }
+
+    /// A move is accepted because the target doesn't reach itself, although the graph was cyclic.
+    fn walked_from_target(&self, load: &Load, state: &mut MoveState, trial: Trial) -> Option<Reply> {
+        if !self.planted("walk only from the target while cyclic") || !trial.has_room() {
+            return None;
+        }
+        let mut place = state.ledger().place;
+        let graph = Graph::new(load, &place);
+        place[trial.atom as usize] = trial.target;
+        let moved = Graph::new(load, &place);
+        if !graph.cyclic()
+            || !graph.component().contains(&trial.present)
+            || moved.reached(trial.target).contains(&trial.target)
+        {
+            return None;
+        }
+        if trial.unseen {
+            state.registered.push(trial.target);
+        }
+        let node = state.registered.iter().position(|&set| set == trial.target).unwrap();
+        state.node[trial.atom as usize] = node as u32;
+        Some(Reply::value(1))
+    }
+
+    /// The edge of the left set's bit still counts: a move is rejected for it.
+    fn facade_kept(&self, load: &Load, state: &MoveState, trial: Trial) -> Option<Reply> {
+        if !self.planted("facade of an empty set kept") {
+            return None;
+        }
+        let reply = state.clone().try_move(load, trial.atom, &words(trial.target, load.e));
+        let alone = state.ledger().place.iter().filter(|&&set| set == trial.present).count() == 1;
+        let host = (0..load.e as usize).find(|&bit| Set::single(bit) == trial.present).map(|bit| load.hosts[bit]);
+        (reply == Reply::value(1) && alone && host == Some(trial.atom)).then_some(Reply::value(0))
+    }
+}
+
+/// The state that an area shows, with nothing checked but that each atom's node is registered.
+fn placed(load: &Load, area: &[u32]) -> Option<MoveState> {
+    let at = load.layout();
+    let count = (area[at.header(MoveLayout::REGISTERED)] as usize).min(at.n);
+    let set = |node| Set::from_halves(std::array::from_fn(|lane| area[at.node_lane(lane, node)]));
+    let state = MoveState {
+        registered: (0..count).map(set).collect(),
+        node: (0..at.a).map(|atom| area[at.atom_lane(MoveLayout::NODE, atom)]).collect(),
+        counter: area[at.header(MoveLayout::COUNTER)],
+        marks: (0..at.n).map(|node| area[at.node_lane(MoveLayout::MARK, node)]).collect(),
+    };
+    state.node.iter().all(|&node| (node as usize) < count).then_some(state)
+}
+
+/// A move of an atom that there is to a set of the right form.
+#[derive(Clone, Copy)]
+struct Trial {
+    atom: u32,
+    present: Set,
+    target: Set,
+    /// The target isn't registered.
+    unseen: bool,
+    /// N sets are registered.
+    full: bool,
+}
+
+impl Trial {
+    fn new(load: &Load, state: &MoveState, atom: u32, bits: &[u64]) -> Option<Self> {
+        let target = lent_set(bits, load.e)?;
+        let present = *state.ledger().place.get(atom as usize)?;
+        let unseen = !state.registered.contains(&target);
+        let full = state.registered.len() as u64 >= load.n;
+        Some(Self { atom, present, target, unseen, full })
+    }
+
+    fn stays(self) -> bool {
+        self.target == self.present
+    }
+
+    /// Neither row 12 nor row 13 fits.
+    fn has_room(self) -> bool {
+        !self.stays() && !(self.unseen && self.full)
     }
 }
