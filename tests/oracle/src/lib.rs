@@ -1,4 +1,5 @@
 //! The original built unchanged, a plain model of document 01, and the runs that compare them with the library.
+pub mod inputs;
 pub mod layout;
 pub mod library;
 pub mod merges_calls;
