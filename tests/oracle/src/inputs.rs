@@ -1,5 +1,6 @@
 //! All inputs of a run, in their order.
 use crate::library::Library;
+use crate::limits;
 use crate::merges_made_up;
 use crate::merges_model::Size;
 use crate::moves_cases::{Damage, MoveCall, MoveCase};
@@ -103,7 +104,7 @@ impl Runner<'_> {
                 self.run(&moves_made_up::refused_loading(&mut random, shape))?;
             }
         }
-        Ok(())
+        limits::moves(self.library, &mut self.counts)
     }
 
     fn small_merges(&mut self, random: &mut Random) -> Found {
@@ -149,7 +150,8 @@ impl Runner<'_> {
                 found = self.run(&case);
             }
         });
-        found
+        found?;
+        limits::merges(self.library, &mut self.counts)
     }
 }
 

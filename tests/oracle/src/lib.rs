@@ -2,6 +2,7 @@
 pub mod inputs;
 pub mod layout;
 pub mod library;
+mod limits;
 pub mod merges_calls;
 pub mod merges_cases;
 pub mod merges_made_up;

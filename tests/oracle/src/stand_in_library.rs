@@ -10,7 +10,7 @@ use crate::sets::{Set, lent_set, width};
 pub const HARMLESS: &str = "loading clears the flags of chunks not yet made";
 
 /// Bugs by name; the first two are none.
-pub const PLANTS: [&str; 47] = [
+pub const PLANTS: [&str; 49] = [
     "none",
     HARMLESS,
     "repeated dependency counted once",
@@ -41,6 +41,7 @@ pub const PLANTS: [&str; 47] = [
     "11 before 10",
     "12 before 11",
     "a question checks no area",
+    "1,025 sets let through",
     "needs_creation cleared",
     "merging does nothing",
     "constant warning",
@@ -58,6 +59,7 @@ pub const PLANTS: [&str; 47] = [
     "19 before 18",
     "20 before 16",
     "no room for a set in a made-up area",
+    "1,025 chunks let through",
 ];
 
 pub struct StandIn {
@@ -87,6 +89,9 @@ impl StandIn {
 impl Library for StandIn {
     fn move_new(&self, load: &Load, sets: &[u64], area: &mut [u32]) -> Reply {
         let row = self.load_row(load, Some(sets), area.len());
+        if row == 1 && load.n == 1025 && self.planted("1,025 sets let through") {
+            return Reply::value(0);
+        }
         if row != 0 {
             return Reply::refused(row);
         }
@@ -185,6 +190,7 @@ impl Library for StandIn {
                 let twice = sets.iter().enumerate().any(|(place, set)| sets[..place].contains(set));
                 Reply::refused(if twice { 17 } else { 16 })
             }
+            Err(14) if self.planted("1,025 chunks let through") && size.c == 1025 => Reply::default(),
             Err(row) => Reply::refused(row),
             Ok(state) => {
                 state.encode(size, area);
