@@ -227,43 +227,50 @@ impl Case for MergeCase {
         self.check_calls(&mut Running { library, original: Some(original), state, area }, counts)
     }
 
-    fn smaller(&self) -> Vec<Self> {
-        let mut cases: Vec<Self> =
-            shorter(&self.calls).into_iter().map(|calls| Self { calls, ..self.clone() }).collect();
-        for (place, (call, damage)) in self.calls.iter().enumerate() {
-            if let MergeCall::Calc { starts, dependencies } = call {
-                for entry in (0..dependencies.len()).rev() {
-                    let (mut starts, mut dependencies) = (starts.clone(), dependencies.clone());
-                    dependencies.remove(entry);
-                    starts.iter_mut().filter(|start| **start as usize > entry).for_each(|start| *start -= 1);
-                    let mut case = self.clone();
-                    case.calls[place] = (MergeCall::Calc { starts, dependencies }, damage.clone());
-                    cases.push(case);
-                }
-            }
-        }
-        if self.extra > 0 {
-            cases.push(Self { extra: 0, ..self.clone() });
-        }
-        if self.load.module_starts.len() as u64 == self.load.initial + 1 {
-            for entry in (0..self.load.modules.len()).rev() {
-                let mut case = self.clone();
-                case.load.modules.remove(entry);
-                let starts = case.load.module_starts.iter_mut();
-                starts.filter(|start| **start as usize > entry).for_each(|start| *start -= 1);
-                cases.push(case);
-            }
-        }
+    fn smaller(&self) -> Box<dyn Iterator<Item = Self> + '_> {
+        let load = &self.load;
+        let calls = shorter(&self.calls).map(|calls| Self { calls, ..self.clone() });
+        let dependencies = self.calls.iter().enumerate().flat_map(move |(place, (call, _))| {
+            let entries = if let MergeCall::Calc { dependencies, .. } = call { dependencies.len() } else { 0 };
+            (0..entries).rev().map(move |entry| self.without_dependency(place, entry))
+        });
+        let tight = (self.extra > 0).then(|| Self { extra: 0, ..self.clone() });
+        let entries = if load.module_starts.len() as u64 == load.initial + 1 { load.modules.len() } else { 0 };
+        let modules = (0..entries).rev().map(|entry| self.without_module(entry));
         let w = width(self.size.e) as usize;
-        if self.load.sets.len() == w * self.load.set_chunks.len() {
-            for pair in (0..self.load.set_chunks.len()).rev() {
-                let mut case = self.clone();
-                case.load.set_chunks.remove(pair);
-                case.load.sets.drain(pair * w..(pair + 1) * w);
-                cases.push(case);
-            }
+        let pairs = if load.sets.len() == w * load.set_chunks.len() { load.set_chunks.len() } else { 0 };
+        let sets = (0..pairs).rev().map(|pair| self.without_set(pair));
+        Box::new(calls.chain(dependencies).chain(tight).chain(modules).chain(sets))
+    }
+}
+
+/// Takes an entry out of lists that lie one behind the other.
+fn remove_entry(starts: &mut [u32], list: &mut Vec<u32>, entry: usize) {
+    list.remove(entry);
+    starts.iter_mut().filter(|start| **start as usize > entry).for_each(|start| *start -= 1);
+}
+
+impl MergeCase {
+    fn without_dependency(&self, place: usize, entry: usize) -> Self {
+        let mut case = self.clone();
+        if let MergeCall::Calc { starts, dependencies } = &mut case.calls[place].0 {
+            remove_entry(starts, dependencies, entry);
         }
-        cases
+        case
+    }
+
+    fn without_module(&self, entry: usize) -> Self {
+        let mut case = self.clone();
+        remove_entry(&mut case.load.module_starts, &mut case.load.modules, entry);
+        case
+    }
+
+    fn without_set(&self, pair: usize) -> Self {
+        let w = width(self.size.e) as usize;
+        let mut case = self.clone();
+        case.load.set_chunks.remove(pair);
+        case.load.sets.drain(pair * w..(pair + 1) * w);
+        case
     }
 }
 

@@ -198,38 +198,23 @@ impl Case for MoveCase {
         self.check_calls(&mut Running { library, original, view, state, area, expected }, counts)
     }
 
-    fn smaller(&self) -> Vec<Self> {
-        let mut cases: Vec<Self> =
-            shorter(&self.calls).into_iter().map(|calls| Self { calls, ..self.clone() }).collect();
-        if self.extra > 0 {
-            cases.push(Self { extra: 0, ..self.clone() });
+    fn smaller(&self) -> Box<dyn Iterator<Item = Self> + '_> {
+        let load = &self.load;
+        let calls = shorter(&self.calls).map(|calls| Self { calls, ..self.clone() });
+        let cases = calls.chain((self.extra > 0).then(|| Self { extra: 0, ..self.clone() }));
+        if load_refusal(load, None, usize::MAX) != 0 {
+            return Box::new(cases);
         }
-        if load_refusal(&self.load, None, usize::MAX) != 0 {
-            return cases;
-        }
-        let damaged_load = self.crafted.is_some() || self.calls.iter().any(|(_, damage)| !damage.none());
-        if !damaged_load {
-            for atom in (0..self.load.a as usize).rev() {
-                cases.push(self.without_atom(atom));
-            }
-        }
-        for entry in (0..if damaged_load { 0 } else { self.load.d as usize }).rev() {
-            cases.push(self.without_dependency(entry));
-        }
-        for bit in 0..self.load.e as usize {
-            if self.load.hosts[bit] != NONE {
-                let mut case = self.clone();
-                case.load.hosts[bit] = NONE;
-                cases.push(case);
-            }
-        }
-        if self.load.n > self.load.a && !damaged_load {
-            cases.push(Self { load: Load { n: self.load.n - 1, ..self.load.clone() }, ..self.clone() });
-        }
-        if self.load.e > 0 && width(self.load.e) == width(self.load.e - 1) && !damaged_load {
-            cases.extend(self.without_last_bit());
-        }
-        cases
+        let fixed = self.crafted.is_some() || self.calls.iter().any(|(_, damage)| !damage.none());
+        let upto = move |count: u64| (0..if fixed { 0 } else { count as usize }).rev();
+        let atoms = upto(load.a).map(|atom| self.without_atom(atom));
+        let dependencies = upto(load.d).map(|entry| self.without_dependency(entry));
+        let hosts = (0..load.e as usize).filter(|&bit| load.hosts[bit] != NONE).map(|bit| self.without_host(bit));
+        let room =
+            (load.n > load.a && !fixed).then(|| Self { load: Load { n: load.n - 1, ..load.clone() }, ..self.clone() });
+        let narrow = load.e > 0 && width(load.e) == width(load.e - 1) && !fixed;
+        let bits = narrow.then(|| self.without_last_bit()).flatten();
+        Box::new(cases.chain(atoms).chain(dependencies).chain(hosts).chain(room).chain(bits))
     }
 }
 
@@ -328,6 +313,12 @@ impl MoveCase {
         case.load.d -= 1;
         case.load.dependencies.remove(entry);
         case.load.starts.iter_mut().filter(|start| **start as usize > entry).for_each(|start| *start -= 1);
+        case
+    }
+
+    fn without_host(&self, bit: usize) -> Self {
+        let mut case = self.clone();
+        case.load.hosts[bit] = NONE;
         case
     }
 

@@ -86,8 +86,8 @@ impl Counts {
 pub trait Case: Clone + Debug {
     /// Runs the original, the model and, if given, the library; says where they differ.
     fn check(&self, library: Option<&dyn Library>, counts: &mut Counts) -> Result<(), String>;
-    /// Cases that are smaller in one respect.
-    fn smaller(&self) -> Vec<Self>;
+    /// Cases that are smaller in one respect, made one at a time: a large case has thousands.
+    fn smaller(&self) -> Box<dyn Iterator<Item = Self> + '_>;
 }
 
 /// A disagreement, as small as it was found.
@@ -110,33 +110,26 @@ pub fn run<C: Case>(case: &C, library: Option<&dyn Library>, counts: &mut Counts
     let Err(mut what) = checked(case, library, counts) else { return Ok(()) };
     let mut smallest = case.clone();
     let end = Instant::now() + Duration::from_secs(10);
-    'search: loop {
-        for candidate in smallest.smaller() {
-            if Instant::now() > end {
-                break 'search;
-            }
-            if let Err(why) = checked(&candidate, library, &mut Counts::default()) {
-                (smallest, what) = (candidate, why);
-                continue 'search;
-            }
-        }
-        break;
+    loop {
+        let failing = smallest.smaller().take_while(|_| Instant::now() <= end).find_map(|candidate| {
+            let why = checked(&candidate, library, &mut Counts::default()).err()?;
+            Some((candidate, why))
+        });
+        let Some(found) = failing else { break };
+        (smallest, what) = found;
     }
     Err(Disagreement { what, input: format!("{smallest:?}") })
 }
 
 /// Lists without a part: halves first, then single items.
-pub fn shorter<T: Clone>(list: &[T]) -> Vec<Vec<T>> {
-    let mut lists = vec![];
-    let mut size = list.len();
-    while size > 0 {
-        for start in (0..list.len()).step_by(size).rev() {
+pub fn shorter<T: Clone>(list: &[T]) -> impl Iterator<Item = Vec<T>> {
+    let sizes = std::iter::successors(Some(list.len()), |size| Some(size / 2)).take_while(|&size| size > 0);
+    sizes.flat_map(move |size| {
+        (0..list.len()).step_by(size).rev().map(move |start| {
             let end = (start + size).min(list.len());
-            lists.push([&list[..start], &list[end..]].concat());
-        }
-        size /= 2;
-    }
-    lists
+            [&list[..start], &list[end..]].concat()
+        })
+    })
 }
 
 /// Says where two areas first differ.
