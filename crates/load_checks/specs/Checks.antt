@@ -10,10 +10,6 @@ use Rattle.ledger.specs.Graph.{Load, none, at, lent}
 use Rattle.ledger.specs.Loading.{row4, row5, row6}
 use Rattle.ledger.specs.LoadLaws.{Starts}
 
--- some number of the list is at or above the bound
-unfoldable pub at-or-above : List ℕ → ℕ → Bool
-at-or-above l bound = some-below (λ i. leb bound (at l i)) (length l)
-
 -- a start is above the next one
 abbrev pub drops : List ℕ → ℕ → Bool
 drops starts i = ltb (at starts (suc i)) (at starts i)

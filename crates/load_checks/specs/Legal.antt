@@ -1,17 +1,13 @@
 -- What the checks leave where they find nothing. Of the rows 1 to 6 `first-row-none` of the ledger says it, of the rows 1 to 8
 -- `loading-row-none`. Assumes nothing.
-use Prim.Native.Nat.{ℕ, _<_}
+use Prim.Native.Nat.{ℕ}
 use mathlib.Core.Path.{_≡_, refl, sym, _∙_}
 use mathlib.Core.Bool.{false}
 use mathlib.Core.List.{List, []}
-use lib.Dec.{leb}
-use lib.ListN.{length}
-use borrow.Author.Tests.{leb-false}
-use Rattle.graphs.specs.Lists.{some-none}
-use Rattle.ledger.specs.Graph.{at, lent}
+use Rattle.ledger.specs.Graph.{lent}
 use Rattle.ledger.specs.Loading.{row4}
 use Rattle.ledger.specs.LoadLaws.{Starts, row4-starts}
-use Rattle.load_checks.specs.Checks.{spans, at-or-above, falling, bad-starts}
+use Rattle.load_checks.specs.Checks.{spans, falling, bad-starts}
 
 -- row 4 is the general test of starts
 pub row4-is : (a d e : ℕ) (starts dependencies hosts : List ℕ) → bad-starts starts a d ≡ row4 (lent a d e starts dependencies hosts)
@@ -22,8 +18,3 @@ row4-is a d e starts dependencies hosts = refl
 pub good-starts : (starts : List ℕ) (count total : ℕ) (dependencies : List ℕ) → bad-starts starts count total ≡ false → Starts (spans count total starts dependencies)
 good-starts starts count total dependencies h =
     row4-starts (spans count total starts dependencies) (sym (row4-is count total 0 starts dependencies []) ∙ h)
-
--- every number is below the bound
-pub all-below : (l : List ℕ) (bound : ℕ) → at-or-above l bound ≡ false → (i : ℕ) → i < length l → at l i < bound
-unfolding at-or-above
-all-below l bound h i b = leb-false _ _ (some-none (λ i. leb bound (at l i)) (length l) h i b)

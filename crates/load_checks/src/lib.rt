@@ -5,7 +5,7 @@ ghost use mathlib.Core.Bool.{false};
 ghost use Prim.Native.Nat.{_+_, _*_, _≤_, _<_};
 ghost use lib.ListN.{length};
 ghost use Rattle.ledger.specs.Graph.{lent};
-ghost use Rattle.load_checks.specs.Checks.{at-or-above, falling, bad-starts, not-other, bad-span, spans, span, CanSpan, CanOwn, no-host, bad-hosts, list-row, Limits, Lengths};
+ghost use Rattle.load_checks.specs.Checks.{falling, bad-starts, not-other, bad-span, spans, span, CanSpan, CanOwn, no-host, bad-hosts, list-row, Limits, Lengths};
 ghost use Rattle.ledger.specs.Loading.{row1, row2, row3, row5, first-row, loading-row};
 
 mod alike;
@@ -19,20 +19,6 @@ fn wide(x: u32) -> usize
     ensures { λ r. ⌜ r ≡ x ⌝ }
 {
     x as usize
-}
-
-// Some number of the list is at or above the bound.
-pub fn any_at_or_above(list: &[u32], bound: usize) -> bool
-    ensures { λ r. ⌜ r ≡ at-or-above (now (list .entry)) bound ⌝ }
-{
-    let mut k = 0;
-    while k < list.len() {
-        if bound <= wide(list[k]) {
-            return true;
-        }
-        k += 1;
-    }
-    false
 }
 
 // Some start is below the one before it.

@@ -1,7 +1,7 @@
 -- What the questions about the graph of the slots ask. Assumes nothing.
 use Prim.Native.Nat.{ℕ, _^_, _<_, _≤_}
 use mathlib.Core.List.{List}
-use lib.ListN.{getD, length}
+use lib.ListN.{length}
 use Rattle.graphs.specs.Slots.{Ends}
 
 -- m slots between n nodes
@@ -25,14 +25,6 @@ pub record Scratch (n : ℕ) (colour cursor stack low order : List ℕ) : Type 0
   pub places : n ≤ length stack
   pub lows : n ≤ length low
   pub orders : n ≤ length order
-
-pub record CanReach (s t : List ℕ) (m n : ℕ) (starts list : List ℕ) (mark root : ℕ) (marks stack : List ℕ) : Type 0 where
-  pub slots : Slots s t m n
-  pub lists : Room m n starts list
-  pub cells : n ≤ length marks
-  pub room : n ≤ length stack
-  pub start : root < n
-  pub fresh : (x : ℕ) → x < n → getD marks x 0 < mark
 
 pub record CanWalk (s t : List ℕ) (m n : ℕ) (starts list colour cursor stack low order : List ℕ) : Type 0 where
   pub slots : Slots s t m n

@@ -1,42 +1,10 @@
 // Questions about the graph of the slots: slot k is the edge from sources[k] to targets[k], if they differ. All working lists are lent.
 ghost use mathlib.Core.Path.{_≡_};
-ghost use Prim.Native.Nat.{ℕ};
 ghost use Rattle.graphs.specs.Lists.{below};
 ghost use Rattle.graphs.specs.Slots.{slotEdge};
 ghost use Rattle.graphs.specs.Walk.{cyclic};
-ghost use Rattle.walks.specs.Marks.{marked};
 ghost use Rattle.components.specs.Only.{flagged};
-ghost use Rattle.slot_graph.specs.Asked.{CanReach, CanWalk, CanAsk};
-
-// Marks the nodes that `root` reaches in one step or more.
-pub fn reach(
-    sources: &[u32],
-    targets: &[u32],
-    m: usize,
-    n: usize,
-    starts: &mut [u32],
-    list: &mut [u32],
-    mark: u32,
-    root: usize,
-    marks: &mut [u32],
-    stack: &mut [u32],
-)
-    requires { ⌜ CanReach (now sources) (now targets) m n (now starts) (now list) mark root (now marks) (now stack) ⌝ }
-    ensures { λ _. ⌜ now (marks .exit) ≡ marked (slotEdge (now (sources .entry)) (now (targets .entry)) m) n mark root (now (marks .entry)) ⌝ }
-{
-    neighbours::group(sources, targets, m, n, starts, list);
-    walks::reach(
-        neighbours::Direction::Dependencies,
-        starts,
-        list,
-        list,
-        n,
-        mark,
-        root,
-        marks,
-        stack,
-    );
-}
+ghost use Rattle.slot_graph.specs.Asked.{CanWalk, CanAsk};
 
 // Whether there is a cycle.
 pub fn has_cycle(
