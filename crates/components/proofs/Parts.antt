@@ -1,10 +1,10 @@
 -- The components come out right: what one label more does to `Parted`. Assumes nothing.
-use Prim.Native.Nat.{ℕ, zero, suc, _+_, _-_, _*_, _<_, _≤_}
+use Prim.Native.Nat.{ℕ, _+_, _<_, _≤_}
 use native.Mathlib.Omega.{arith}
 use native.Mathlib.Decide.{ℕ-discrete, decLe}
 use mathlib.Core.Path.{_≡_, refl, sym, ap, _∙_}
 use mathlib.Core.Logic.{_⊎_, inl, inr, ⊎-elim}
-use mathlib.Core.Bool.{Bool, true, false}
+use mathlib.Core.Bool.{Bool, true}
 use Rattle.graphs.specs.Walk.{Walk, one, more}
 use Rattle.graphs.specs.Walks.{join, walk-to}
 use Rattle.depth_first.specs.Order.{Reach, WalkIn, here, step, Ordered}
@@ -60,9 +60,6 @@ module _ {e : ℕ → ℕ → Bool} {n : ℕ} {o c : ℕ → ℕ} (k : ℕ) (v :
         whole = v .whole;
         right = v .right;
       }
-
-  pub part-fresh : (x : ℕ) → x < n → c x ≡ k + 1 → ⊥
-  part-fresh x b q = omega (arith, v .fresh x b (λ z. omega arith))
 
   module _ (new : c r ≡ 0) (c′ : ℕ → ℕ) (g : Gathered e n r (k + 1) c c′) where
     no-label : (x : ℕ) → x < n → c x ≡ 0 → ord .place x ≤ ord .place r

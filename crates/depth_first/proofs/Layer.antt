@@ -1,18 +1,18 @@
 -- The same on the lists, for the stores of `src/lib.rt`. Assumes nothing.
-use Prim.Native.Nat.{ℕ, zero, suc, _+_, _-_, _*_, _^_, _<_, _≤_}
+use Prim.Native.Nat.{ℕ, _+_, _-_, _<_, _≤_}
 use native.Mathlib.Omega.{arith}
-use native.Mathlib.Decide.{ℕ-discrete, decLt}
-use mathlib.Core.Path.{_≡_, refl, sym, ap, subst, _∙_}
+use native.Mathlib.Decide.{ℕ-discrete}
+use mathlib.Core.Path.{_≡_, sym, ap, _∙_}
 use mathlib.Core.Bool.{Bool, true, false, true≢false}
 use mathlib.Core.List.{List}
 use lib.ListN.{getD, length, set, length-set}
 use lib.Seq.{getD-set-same, getD-set-other}
 use Rattle.graphs.specs.Lists.{below}
-use Rattle.graphs.specs.Walk.{Walk, cyclic}
+use Rattle.graphs.specs.Walk.{cyclic}
 use Rattle.graphs.specs.Walks.{sources-below, cyclic-walk}
-use Rattle.neighbours.specs.Lists.{deg, nb, edge, Graph, listed}
-use Rattle.depth_first.specs.Search.{Search, Falls, size, togo}
-use Rattle.depth_first.specs.Steps.{at, CanDiscover, Discovered, CanFinish, Finished, CanVisit, Visited, Ready, Top, Kept, Stepped}
+use Rattle.neighbours.specs.Lists.{deg, nb, edge, listed}
+use Rattle.depth_first.specs.Search.{Falls, size}
+use Rattle.depth_first.specs.Steps.{at, CanDiscover, Discovered, Finished, CanVisit, Visited, Ready, Top, Kept, Stepped}
 use Rattle.depth_first.proofs.Whites.{room-for}
 use Rattle.depth_first.proofs.Moves as moves
 use Rattle.depth_first.proofs.Falling as falling
@@ -115,14 +115,6 @@ module _ {g l : List ℕ} {n : ℕ} {colour cursor stack low order : List ℕ} {
 
     abbrev j : ℕ
     j = at cursor t
-
-    pub finish-can : CanFinish colour order t fin
-    finish-can = record {
-      cell = omega (arith, k .node, r .colours);
-      room = omega (arith, k .full, k .some, r .orders);
-      few = omega (arith, k .full, k .some, r .small);
-      small = omega (arith, k .node, r .small);
-    }
 
     -- t finishes
     module _ (all : j ≡ deg g t) where

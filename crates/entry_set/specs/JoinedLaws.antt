@@ -61,29 +61,7 @@ module _ (b : ℕ) where
       ap₂ (λ (y : ℕ) (ys : List ℕ). y ∷ ys) (low-part x (joined b xs) (small 0))
       (ap (parts b (length xs)) (high-part x (joined b xs) (small 0)) ∙ parts-joined xs (λ i. small (suc i)))
 
-  pub joined-injective : (l m : List ℕ) → length l ≡ length m → ((i : ℕ) → getD l i 0 < 2 ^ b) → ((i : ℕ) → getD m i 0 < 2 ^ b) → joined b l ≡ joined b m → l ≡ m
-  joined-injective l m e hl hm q =
-      sym (parts-joined l hl) ∙ ap₂ (λ (k X : ℕ). parts b k X) e q ∙ parts-joined m hm
-
 -- numbers of 64 bits as twice as many of 32
-pub joined-halves : (l : List ℕ) → joined 32 (halves l) ≡ joined 64 l
-unfolding joined halves
-joined-halves [] = refl
-joined-halves (x ∷ xs) = rw (joined-halves xs) (omega arith)
-
-pub length-halves : (l : List ℕ) → length (halves l) ≡ 2 * length l
-unfolding halves
-length-halves [] = refl
-length-halves (x ∷ xs) = omega (arith, length-halves xs)
-
-pub halves-below : (l : List ℕ) → ((i : ℕ) → getD l i 0 < 2 ^ 64) → (i : ℕ) → getD (halves l) i 0 < 2 ^ 32
-unfolding halves
-halves-below [] small zero = pow-pos 32
-halves-below [] small (suc i) = pow-pos 32
-halves-below (x ∷ xs) small zero = mod-lt x (pow-pos 32)
-halves-below (x ∷ xs) small (suc zero) = omega (arith, small 0)
-halves-below (x ∷ xs) small (suc (suc i)) = halves-below xs (λ j. small (suc j)) i
-
 pub half-low : (l : List ℕ) (i : ℕ) → getD (halves l) (2 * i) 0 ≡ getD l i 0 % 2 ^ 32
 unfolding halves
 half-low [] i = getD-nil (2 * i) ∙ ap (λ (n : ℕ). n % 2 ^ 32) (sym (getD-nil i))

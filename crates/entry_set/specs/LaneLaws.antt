@@ -8,7 +8,7 @@ use lib.Pow.{pow-pos}
 use lib.ListN.{length, getD, set, length-set}
 use lib.Seq.{getD-set-same, getD-set-other, ext-getD}
 use Rattle.entry_set.specs.Joined.{joined, parts}
-use Rattle.entry_set.specs.JoinedLaws.{length-parts, joined-below, joined-parts, parts-joined}
+use Rattle.entry_set.specs.JoinedLaws.{length-parts, joined-parts, parts-joined}
 use Rattle.entry_set.specs.Lanes.{strided, setStrided, laneWords, lanes, setLanes}
 
 pub length-strided : (k : ℕ) (l : List ℕ) (at stride : ℕ) → length (strided k l at stride) ≡ k
@@ -56,11 +56,6 @@ setStrided-at l at stride (x ∷ xs) zero pos h in-range =
 setStrided-at l at stride (x ∷ xs) (suc j) pos h in-range =
     ap (λ (i : ℕ). getD (setStrided (set l at x) (at + stride) stride xs) i 0) (next at j stride)
     ∙ setStrided-at (set l at x) (at + stride) stride xs j pos (omega arith) (simp length-set (omega (arith, next at j stride)))
-
--- a set of an area of 32-bit numbers has 256 bits
-pub lanes-below : (l : List ℕ) (at stride : ℕ) → ((i : ℕ) → getD l i 0 < 2 ^ 32) → lanes l at stride < 2 ^ 256
-unfolding strided
-lanes-below l at stride small = joined-below 32 (laneWords l at stride) (strided-below 32 8 l at stride small)
 
 -- the set X stands where its eight words stand
 pub lanes-is : (l : List ℕ) (at stride X : ℕ) → X < 2 ^ 256 → ((j : ℕ) → j < 8 → getD l (at + j * stride) 0 ≡ getD (parts 32 8 X) j 0) → lanes l at stride ≡ X

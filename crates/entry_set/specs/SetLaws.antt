@@ -4,15 +4,15 @@ use mathlib.Core.Path.{_≡_, refl, sym, ap, _∙_, subst}
 use mathlib.Core.Bool.{Bool, true, false, _&&_, and-eq-true-iff}
 use mathlib.Core.List.{List, [], _∷_}
 use native.Mathlib.Omega.{arith}
-use native.Mathlib.Nat.{mul-comm, mul-le-mul-left, mul-le-mul-right, suc-mul, mod-eq-of-lt, lt-of-lt-of-le}
+use native.Mathlib.Nat.{mul-comm, mul-le-mul-left, mul-le-mul-right, suc-mul, lt-of-lt-of-le}
 use native.Mathlib.Decide.{decLe}
-use borrow.Author.Tests.{ltb-true, ltb-false, lt-ltb, le-ltb, eq-eqb, eqb-true}
+use borrow.Author.Tests.{ltb-true, ltb-false, lt-ltb, le-ltb, eqb-true}
 use lib.Dec.{ltb, eqb}
 use lib.ListN.{length, getD}
 use lib.Arith.{digits-lt, lt-one}
 use lib.Pow.{pow-add, pow-pos, pow-mono}
 use Rattle.entry_set.specs.Joined.{parts}
-use Rattle.entry_set.specs.JoinedLaws.{parts-below, joined-below, joined-parts, parts-joined}
+use Rattle.entry_set.specs.JoinedLaws.{parts-below, joined-below, parts-joined}
 use Rattle.entry_set.specs.Sets.{value, words, width, legal, numbers, number, entrySet, Holds}
 use Rattle.entry_set.specs.declared.EntrySet.{EntrySet}
 
@@ -32,13 +32,10 @@ pub holds : (s : EntrySet) → ((i : ℕ) → getD (numbers s) i 0 < 2 ^ 64) →
 unfolding entrySet
 holds s h = record { value = refl; set = sym (ap ofList (parts-joined 64 (numbers s) h)) }
 
--- the set of X has the words of X, and X is its number where it has at most 256 bits
+-- the set of X has the words of X, and its number at most 256 bits
 pub numbers-entrySet : (X : ℕ) → numbers (entrySet X) ≡ words 4 X
 unfolding entrySet parts
 numbers-entrySet X = refl
-
-pub number-entrySet : (X : ℕ) → X < 2 ^ 256 → number (entrySet X) ≡ X
-number-entrySet X h = ap value (numbers-entrySet X) ∙ joined-parts 64 4 X h
 
 pub entrySet-below : (X : ℕ) → number (entrySet X) < 2 ^ 256
 unfolding parts
@@ -50,19 +47,12 @@ holds-below {X} {s} h = subst (λ (n : ℕ). n < 2 ^ 256) (ap number (sym (h .se
 pub holds-numbers : {X : ℕ} {s : EntrySet} → Holds X s → numbers s ≡ words 4 X
 holds-numbers {X} h = ap numbers (h .set) ∙ numbers-entrySet X
 
-pub holds-first : {X : ℕ} {s : EntrySet} → Holds X s → X < 2 ^ 64 → s .0 ≡ X
-unfolding entrySet parts
-holds-first {X} h small-enough = ap (λ (s : EntrySet). s .0) (h .set) ∙ mod-eq-of-lt small-enough
-
 -- a legal set has w numbers and no bit at or above e
 pub legal-length : (e : ℕ) (l : List ℕ) → legal e l ≡ true → length l ≡ width e
 legal-length e l h = eqb-true (length l) (width e) (and-eq-true-iff (eqb (length l) (width e)) (ltb (value l) (2 ^ e)) .0 h .0)
 
 pub legal-below : (e : ℕ) (l : List ℕ) → legal e l ≡ true → value l < 2 ^ e
 legal-below e l h = ltb-true (value l) (2 ^ e) (and-eq-true-iff (eqb (length l) (width e)) (ltb (value l) (2 ^ e)) .0 h .1)
-
-pub legal-is : (e : ℕ) (l : List ℕ) → length l ≡ width e → value l < 2 ^ e → legal e l ≡ true
-legal-is e l p q = and-eq-true-iff (eqb (length l) (width e)) (ltb (value l) (2 ^ e)) .1 (eq-eqb (length l) (width e) p, lt-ltb (value l) (2 ^ e) q)
 
 -- E is at most 256
 pub below-256 : {X e : ℕ} → e ≤ 256 → X < 2 ^ e → X < 2 ^ 256

@@ -16,7 +16,6 @@ use Rattle.entry_set.specs.Joined.{parts}
 use Rattle.entry_set.specs.Lanes.{lanes, setLanes}
 use Rattle.entry_set.specs.LaneLaws.{lanes-set, lanes-other, length-setStrided}
 use Rattle.set_order.specs.Order.{laneSet, Distinct}
-use Rattle.set_order.specs.Steps.{CanOrder}
 
 -- set i of a list of sets of w numbers each
 abbrev pub nth-set : List ℕ → ℕ → ℕ → ℕ
@@ -86,11 +85,7 @@ module _ {key : ℕ → ℕ} {n k : ℕ} {l₀ l : List ℕ} (t : Laid key k n l
   laid-done e = subst (λ z. Laid key z n l₀ l) e t
 
 module _ {key : ℕ → ℕ} {a n : ℕ} {l₀ l : List ℕ} (t : Laid key a n l₀ l) where
-  -- the laid out sets can be sorted
-  pub laid-can : {order scratch : List ℕ} → Room a n l₀ → Scratch a n order scratch → CanOrder l 0 n a order scratch
-  laid-can r s = record { lanes = record { room = omega (arith, r .room, t .long) }; few = r .few; numbers = s .numbers; inside = s .ordered; room = s .room }
-
-  -- and are distinct where the sets are
+  -- the laid out sets are distinct where the sets are
   pub laid-distinct : {d : Bool} → Decides (Distinct (laneSet l 0 n) a) d → Decides (Distinct key a) d
   laid-distinct r = record {
     right = λ p. let q = r .right p in record { same = λ x y b c e. q .same x y b c (is x b ∙ e ∙ sym (is y c)) };

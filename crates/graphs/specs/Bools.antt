@@ -1,7 +1,7 @@
 -- Laws of Booleans. Assumes nothing.
 use mathlib.Core.Path.{_≡_, refl, sym}
 use mathlib.Core.Logic.{_⊎_, inl, inr}
-use mathlib.Core.Bool.{Bool, true, false, not, _&&_, _||_, true≢false}
+use mathlib.Core.Bool.{Bool, true, false, _&&_, _||_, true≢false}
 use Prim.Native.Nat.{ℕ}
 use lib.Dec.{eqb}
 use borrow.Author.Tests.{eqb-true, eqb-false}
@@ -56,18 +56,6 @@ alike false b f g = sym (fails b (λ h. true≢false (sym (g h))))
 pub record Decides (P : Type 0) (r : Bool) : Type 0 where
   pub right : r ≡ true → P
   pub wrong : r ≡ false → P → ⊥
-
--- two answers to one question are equal
-pub decided : {P : Type 0} {a b : Bool} → Decides P a → Decides P b → a ≡ b
-decided {P} {a} {b} p q = alike a b (λ h. go b refl (p .right h)) (λ h. back a refl (q .right h))
-  where
-    go : (t : Bool) → b ≡ t → P → b ≡ true
-    go true e x = e
-    go false e x = absurd (q .wrong e x)
-
-    back : (t : Bool) → a ≡ t → P → a ≡ true
-    back true e x = e
-    back false e x = absurd (p .wrong e x)
 
 -- a number is another or not
 pub data Same (a b : ℕ) : Type 0 where

@@ -1,15 +1,15 @@
 -- Tests on lists of numbers. Assumes nothing.
-use Prim.Native.Nat.{ℕ, zero, suc, _+_, _<_, _≤_}
+use Prim.Native.Nat.{ℕ, zero, suc, _<_}
 use native.Mathlib.Omega.{arith}
 use native.Mathlib.Decide.{ℕ-discrete}
-use mathlib.Core.Path.{_≡_, refl, sym, ap, _∙_}
+use mathlib.Core.Path.{_≡_, refl, sym, _∙_}
 use mathlib.Core.Logic.{_⊎_, inl, inr, ⊎-elim}
-use mathlib.Core.Bool.{Bool, true, false, not, _&&_, _||_, true≢false}
+use mathlib.Core.Bool.{Bool, true, false, _&&_, _||_, true≢false}
 use mathlib.Core.List.{List, [], _∷_}
-use lib.Dec.{eqb, ltb}
+use lib.Dec.{eqb}
 use lib.ListN.{length, getD}
-use borrow.Author.Tests.{eqb-true, eq-eqb, ltb-true, lt-ltb}
-use Rattle.graphs.specs.Bools.{or-cases, or-left, or-right, and-left, and-right, and-both, alike}
+use borrow.Author.Tests.{eqb-true, eq-eqb}
+use Rattle.graphs.specs.Bools.{or-cases, or-left, or-right, and-left, and-right, and-both}
 
 -- some member, every member passes
 unfoldable pub any : (ℕ → Bool) → List ℕ → Bool
@@ -90,9 +90,6 @@ pub below-has : (x n : ℕ) → has x (below n) ≡ true → x < n
 unfolding any has below
 below-has x zero h = absurd (true≢false (sym h))
 below-has x (suc n) h = ⊎-elim (λ a. omega (arith, eqb-true x n a)) (λ b. omega (arith, below-has x n b)) (or-cases (eqb x n) _ h)
-
-pub has-below-ltb : (x n : ℕ) → has x (below n) ≡ ltb x n
-has-below-ltb x n = alike _ _ (λ h. lt-ltb x n (below-has x n h)) (λ h. has-below x n (ltb-true x n h))
 
 -- some-below
 pub some-give : (p : ℕ → Bool) (n x : ℕ) → x < n → p x ≡ true → some-below p n ≡ true

@@ -2,18 +2,17 @@
 use mathlib.Core.Path.{_≡_, refl, sym, ap, _∙_}
 use mathlib.Core.List.{List}
 use mathlib.Core.Bool.{Bool, true, false, not, cond, _&&_, true≢false}
-use Prim.Native.Nat.{ℕ, zero, suc, _+_, _-_, _*_, _≤_, _<_, _^_}
+use Prim.Native.Nat.{ℕ, _+_, _-_, _*_, _≤_, _<_}
 use native.Mathlib.Omega.{arith}
 use native.Mathlib.Decide.{decLt}
-use native.Mathlib.Numerals.{add-one}
 use lib.Dec.{eqb, ltb}
 use lib.ListN.{length, getD, set, length-set}
 use lib.Seq.{getD-set-same, getD-set-other}
-use borrow.Author.Tests.{eq-eqb, ne-eqb, eqb-true, eqb-false, ltb-true, lt-ltb}
-use Rattle.graphs.specs.Bools.{Same, it, other, same?, alike}
-use Rattle.graphs.specs.Count.{ind, count, count-ext, count-all-no, count-pos, count-found}
+use borrow.Author.Tests.{eq-eqb, ne-eqb}
+use Rattle.graphs.specs.Bools.{Same, it, other, same?}
+use Rattle.graphs.specs.Count.{ind, count-ext, count-all-no, count-found}
 use Rattle.graphs.specs.Square.{index-row, index-column, index-lt}
-use Rattle.graphs.specs.Slots.{same, hits, stands, slot, cell, mult, flat, slotEdge, Ends, Counts, more, less}
+use Rattle.graphs.specs.Slots.{same, hits, stands, slot, mult, flat, slotEdge, Ends, more, less}
 
 pub hits-empty : (a b i x : ℕ) → a ≡ b → hits a b i x ≡ false
 hits-empty a b i x e = rw (eq-eqb a b e) refl
@@ -98,10 +97,6 @@ edge-slot s t m x y h =
     let q = same-ends (getD s (r .0) 0) (getD t (r .0) 0) x y (r .2) in
     (r .0, r .1, q .0, q .1, q .2)
 
-pub slot-edge : (s t : List ℕ) (m x y k : ℕ) → k < m → getD s k 0 ≡ x → getD t k 0 ≡ y → (x ≡ y → ⊥) → 1 ≤ mult s t m x y
-unfolding mult
-slot-edge s t m x y k h e f d = count-pos (slot s t x y) m k h (same-yes (getD s k 0) (getD t k 0) x y d e f)
-
 -- no edge from a node to itself
 pub mult-self : (s t : List ℕ) (m x : ℕ) → mult s t m x x ≡ 0
 mult-self s t m x = go (decLt 0 (mult s t m x x))
@@ -132,13 +127,3 @@ mult-swap s t m x y = count-ext _ _ m (λ j z. go (getD s j 0) (getD t j 0))
 pub slot-turned : (s t : List ℕ) (m x y : ℕ) → slotEdge t s m y x ≡ slotEdge s t m x y
 unfolding slotEdge
 slot-turned s t m x y = ap (ltb 0) (mult-swap s t m x y)
-
--- an edge leads from a node below n to one
-module _ {s t : List ℕ} {n m : ℕ} (ends : Ends s t n m) (x y : ℕ) where
-  pub slot-from : slotEdge s t m x y ≡ true → x < n
-  unfolding slotEdge
-  slot-from h = let r = edge-slot s t m x y (ltb-true 0 _ h) in omega (arith, ends .source (r .0) (r .1), r .2)
-
-  pub slot-to : slotEdge s t m x y ≡ true → y < n
-  unfolding slotEdge
-  slot-to h = let r = edge-slot s t m x y (ltb-true 0 _ h) in omega (arith, ends .target (r .0) (r .1), r .3)

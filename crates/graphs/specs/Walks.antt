@@ -1,14 +1,14 @@
 -- What the tests of `Walk` compute, and how a walk changes with the edges. Assumes nothing.
 use Prim.Native.Nat.{ℕ, _<_}
 use native.Mathlib.Decide.{ℕ-discrete}
-use mathlib.Core.Path.{_≡_, refl, sym, ap, subst, _∙_}
+use mathlib.Core.Path.{_≡_, refl, sym, subst, _∙_}
 use mathlib.Core.Logic.{_⊎_, inl, inr, ⊎-elim, _↔_}
 use mathlib.Core.Bool.{Bool, true, false, not, _&&_, _||_, true≢false}
 use mathlib.Core.List.{List, [], _∷_}
 use lib.Dec.{eqb}
 use borrow.Author.Tests.{eqb-true}
 use Rattle.graphs.specs.Bools.{or-cases, or-left, or-right, and-left, and-right, and-both, fails}
-use Rattle.graphs.specs.Lists.{any, all, has, any-give, any-take, all-give, all-take, below, has-below, below-has}
+use Rattle.graphs.specs.Lists.{any, all, has, any-give, any-take, all-give, all-take, below, has-below}
 use Rattle.graphs.specs.Walk.{Walk, one, more, via, cyclic, only}
 
 pub join : {e : ℕ → ℕ → Bool} {x y z : ℕ} → Walk e x y → Walk e y z → Walk e x z
@@ -117,16 +117,6 @@ walk-from f (more h p) = f _ _ h
 pub walk-to : {e : ℕ → ℕ → Bool} {n : ℕ} → ((x y : ℕ) → e x y ≡ true → y < n) → {x y : ℕ} → Walk e x y → y < n
 walk-to f (one h) = f _ _ h
 walk-to f (more h p) = walk-to f p
-
--- the same edges, the same walks
-pub walk-alike : {e e′ : ℕ → ℕ → Bool} → ((x y : ℕ) → e x y ≡ true → e′ x y ≡ true) → {x y : ℕ} → Walk e x y → Walk e′ x y
-walk-alike f (one h) = one (f _ _ h)
-walk-alike f (more h p) = more (f _ _ h) (walk-alike f p)
-
--- each edge turned round
-pub walk-turn : {e e′ : ℕ → ℕ → Bool} → ((x y : ℕ) → e x y ≡ true → e′ y x ≡ true) → {x y : ℕ} → Walk e x y → Walk e′ y x
-walk-turn f (one h) = one (f _ _ h)
-walk-turn f (more h p) = join (walk-turn f p) (one (f _ _ h))
 
 -- where edges between nodes other than f are kept, a walk is kept, or it visits f
 module _ {e e′ : ℕ → ℕ → Bool} (f : ℕ) (keep : (x y : ℕ) → (x ≡ f → ⊥) → (y ≡ f → ⊥) → e x y ≡ true → e′ x y ≡ true) where

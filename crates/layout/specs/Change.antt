@@ -1,13 +1,13 @@
 -- A list that holds its fields: where it is the same, and one field written anew. Assumes nothing.
 use mathlib.Core.Path.{_≡_, refl, sym, ap, _∙_}
-use mathlib.Core.List.{List, [], _∷_, _++_}
+use mathlib.Core.List.{List, [], _∷_}
 use Prim.Native.Nat.{ℕ, _+_, _-_, _≤_, _<_}
 use native.Mathlib.Omega.{arith}
 use native.Mathlib.Decide.{decLt, decLe}
 use lib.ListN.{length, getD}
 use lib.Seq.{ext-getD}
-use Rattle.layout.specs.Patch.{patch, part, patch-long, patch-in, patch-out, patch-far, patch-over}
-use Rattle.layout.specs.Fields.{Field, field, lay, Fits, In, here, there, lay-same, lay-long, in-right}
+use Rattle.layout.specs.Patch.{patch, patch-long, patch-in, patch-out, patch-far, patch-over}
+use Rattle.layout.specs.Fields.{Field, field, lay, Fits, In, here, there, lay-long}
 
 -- k is in no field
 pub record Clear (fs : List Field) (k : ℕ) : Type 0 where
@@ -37,11 +37,6 @@ lay-agree (f ∷ fs) l l′ e h = lay-agree fs (patch (f .at) (f .body) l) (patc
         sym (ap (λ (i : ℕ). getD (patch (f .at) (f .body) l′) i 0) z) ∙ a ∙ sym d ∙ ap (λ (i : ℕ). getD (patch (f .at) (f .body) l) i 0) z
     step k b c (yes x) (no y) = outside k b c (λ z. omega arith)
     step k b c (no x) y = outside k b c (λ z. absurd (x z))
-
--- an area that has each field, and is l elsewhere, is l with the fields written
-pub is-lay : (fs : List Field) (l l′ : List ℕ) → length l′ ≡ length l → ((f : Field) → In f fs → part (f .at) (length (f .body)) l′ ≡ f .body)
-    → ((k : ℕ) → k < length l → Clear fs k → getD l′ k 0 ≡ getD l k 0) → l′ ≡ lay fs l
-is-lay fs l l′ e h o = sym (lay-same fs l′ h) ∙ lay-agree fs l l′ e o
 
 -- one field with another body
 unfoldable pub swap : {f : Field} (fs : List Field) → In f fs → List ℕ → List Field
@@ -80,8 +75,3 @@ pub swap-fits : (fs : List Field) (lo hi : ℕ) {f : Field} (i : In f fs) (v : L
 unfolding swap
 swap-fits (f ∷ fs) lo hi (here) v h e = (h .0, rw e (h .1))
 swap-fits (g ∷ fs) lo hi (there i) v h e = (h .0, swap-fits fs (g .at + length (g .body)) hi i v (h .1) e)
-
-pub swap-right : {f : Field} (fs gs : List Field) (i : In f gs) (v : List ℕ) → swap (fs ++ gs) (in-right fs i) v ≡ fs ++ swap gs i v
-unfolding swap in-right
-swap-right [] gs i v = refl
-swap-right (g ∷ fs) gs i v = ap (λ (r : List Field). g ∷ r) (swap-right fs gs i v)

@@ -1,7 +1,7 @@
 -- Fields: several lists, one behind the other in place, written over a list. Assumes nothing.
-use mathlib.Core.Path.{_≡_, refl, sym, ap, _∙_}
-use mathlib.Core.List.{List, [], _∷_, _++_}
-use Prim.Native.Nat.{ℕ, _+_, _-_, _≤_, _<_}
+use mathlib.Core.Path.{_≡_, refl, ap, _∙_}
+use mathlib.Core.List.{List, [], _∷_}
+use Prim.Native.Nat.{ℕ, _+_, _≤_, _<_}
 use native.Mathlib.Omega.{arith}
 use lib.ListN.{length, getD}
 use Rattle.layout.specs.Patch.{patch, part, is-part, patch-long, patch-in, patch-out, patch-same}
@@ -64,26 +64,3 @@ lay-same (f ∷ fs) l h = ap (lay fs) (patch-same (f .at) (f .body) l (h f here)
 -- written twice is written once
 pub lay-again : (fs : List Field) (lo hi : ℕ) (l : List ℕ) → Fits lo fs hi → hi ≤ length l → lay fs (lay fs l) ≡ lay fs l
 lay-again fs lo hi l h b = lay-same fs (lay fs l) (lay-read fs lo hi l h b)
-
--- one list of fields after another
-pub lay-append : (fs gs : List Field) (l : List ℕ) → lay (fs ++ gs) l ≡ lay gs (lay fs l)
-unfolding lay
-lay-append [] gs l = refl
-lay-append (f ∷ fs) gs l = lay-append fs gs (patch (f .at) (f .body) l)
-
-pub in-left : {f : Field} {fs : List Field} (gs : List Field) → In f fs → In f (fs ++ gs)
-in-left gs (here) = here
-in-left gs (there i) = there (in-left gs i)
-
-unfoldable pub in-right : {f : Field} (fs : List Field) {gs : List Field} → In f gs → In f (fs ++ gs)
-in-right [] i = i
-in-right (g ∷ fs) i = there (in-right fs i)
-
-pub fits-append : (fs gs : List Field) (lo mid hi : ℕ) → Fits lo fs mid → Fits mid gs hi → Fits lo (fs ++ gs) hi
-fits-append [] [] lo mid hi a b = omega arith
-fits-append [] (g ∷ gs) lo mid hi a b = (omega (arith, b .0), b .1)
-fits-append (f ∷ fs) gs lo mid hi a b = (a .0, fits-append fs gs (f .at + length (f .body)) mid hi (a .1) b)
-
-pub fits-lower : (fs : List Field) (lo lo′ hi : ℕ) → lo ≤ lo′ → Fits lo′ fs hi → Fits lo fs hi
-fits-lower [] lo lo′ hi h f = omega arith
-fits-lower (g ∷ fs) lo lo′ hi h f = (omega (arith, f .0), f .1)

@@ -1,14 +1,14 @@
 -- A list written over another at a place, and a part read back. Assumes nothing.
 use mathlib.Core.Path.{_≡_, refl, sym, ap, _∙_, subst}
 use mathlib.Core.List.{List, [], _∷_, _++_}
-use mathlib.Core.Bool.{Bool, cond}
+use mathlib.Core.Bool.{cond}
 use Prim.Native.Nat.{ℕ, zero, suc, _+_, _-_, _≤_, _<_}
 use native.Mathlib.Omega.{arith}
 use native.Mathlib.Nat.{add-zero, zero-add}
 use native.Mathlib.Decide.{ℕ-discrete, decLt, decLe}
 use lib.Dec.{ltb}
-use lib.ListN.{length, getD, set, drop, length-set, length-append, length-drop, List·getD-append}
-use lib.Seq.{getD-set-same, getD-set-other, getD-append-add, getD-drop}
+use lib.ListN.{length, getD, set, length-set, length-append, List·getD-append}
+use lib.Seq.{getD-set-same, getD-set-other, getD-append-add}
 use borrow.Author.Tests.{lt-ltb, le-ltb}
 use Rattle.graphs.specs.Tab.{tab, tab-length, tab-at, is-tab}
 
@@ -177,24 +177,9 @@ patch-append at v w l e = is-patch at (v ++ w) l (patch (at + length v) w l) (pa
     outside : (k : ℕ) → k < length l → (at ≤ k → at + length (v ++ w) ≤ k) → getD (patch (at + length v) w l) k 0 ≡ getD l k 0
     outside k h z = patch-out (at + length v) w l k h (λ q. let y = z (omega arith) in omega (arith, length-append v w))
 
--- one number set; a list in place of another; a list in place of the front of another
+-- one number set; a list in place of another
 pub patch-one : (at x : ℕ) (l : List ℕ) → at < length l → set l at x ≡ patch at (x ∷ []) l
 patch-one at x l b = sym (patch-none (at + 1) (set l at x)) ∙ patch-set at x [] l b
 
 pub patch-all : (v l : List ℕ) → length v ≡ length l → patch 0 v l ≡ v
 patch-all v l e = sym (is-patch 0 v l v e (λ i a b. ap (λ (k : ℕ). getD v k 0) (zero-add i)) (λ k b h. absurd (let z = h (omega arith) in omega arith)))
-
-pub patch-front : (v l : List ℕ) → length v ≤ length l → v ++ drop (length v) l ≡ patch 0 v l
-patch-front v l b = is-patch 0 v l (v ++ drop (length v) l) (length-append v (drop (length v) l) ∙ long) inside outside
-  where
-    long : length v + length (drop (length v) l) ≡ length l
-    long = omega (arith, length-drop (length v) l)
-
-    inside : (i : ℕ) → i < length v → 0 + i < length l → getD (v ++ drop (length v) l) (0 + i) 0 ≡ getD v i 0
-    inside i h z = rw (zero-add i) (List·getD-append v (drop (length v) l) 0 i h)
-
-    outside : (k : ℕ) → k < length l → (0 ≤ k → 0 + length v ≤ k) → getD (v ++ drop (length v) l) k 0 ≡ getD l k 0
-    outside k h z =
-        let y : length v + (k - length v) ≡ k = (let x = z (omega arith) in omega arith) in
-        sym (ap (λ (i : ℕ). getD (v ++ drop (length v) l) i 0) y) ∙ getD-append-add v (drop (length v) l) (k - length v) 0 ∙ getD-drop (length v) l (k - length v) 0
-        ∙ ap (λ (i : ℕ). getD l i 0) y

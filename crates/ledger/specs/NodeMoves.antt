@@ -1,5 +1,5 @@
 -- For the code: a move in node numbers. Assumes nothing.
-use Prim.Native.Nat.{ℕ, _+_, _≤_, _<_}
+use Prim.Native.Nat.{ℕ, _≤_, _<_}
 use native.Mathlib.Omega.{arith}
 use native.Mathlib.Decide.{ℕ-discrete, decLt}
 use mathlib.Core.Path.{_≡_, refl, sym, ap, ap₂, subst, _∙_}
@@ -48,15 +48,8 @@ placing-first {load} {N} {sets} {size} r =
         pick (no h) (yes k) = absurd (row8-apart load sets (r .eight) x y k a (sym e))
         pick (no h) (no k) = omega arith
 
--- registering a set changes no atom's place, and no node's set
+-- registering a set leaves the others, and each atom's set
 module _ (T : ℕ) (sets : List ℕ) where
-  pub register-keeps : (x : ℕ) → x < length sets → at (register T sets) x ≡ at sets x
-  register-keeps x b = go (has T sets) refl
-    where
-      go : (t : Bool) → has T sets ≡ t → at (register T sets) x ≡ at sets x
-      go true q = rw (register-old T sets q) refl
-      go false q = rw (register-new T sets q) (snoc-old sets T x b)
-
   pub register-grows : length sets ≤ length (register T sets)
   register-grows = go (has T sets) refl
     where

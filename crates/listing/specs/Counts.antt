@@ -10,7 +10,7 @@ use Rattle.graphs.specs.Count.{ind, count, count-ext, count-add, count-all-no}
 use Rattle.graphs.specs.Lists.{has, has-at}
 use Rattle.graphs.specs.Total.{total}
 use Rattle.layout.specs.Patch.{part, part-long, part-at}
-use Rattle.ledger.specs.Graph.{Load, at, edges}
+use Rattle.ledger.specs.Graph.{Load, at}
 use Rattle.ledger.specs.LoadLaws.{InOrder}
 use Rattle.ledger.specs.Nodes.{Placing, node-edge}
 use Rattle.ledger.specs.NodeWalks.{edge-inside}
@@ -68,9 +68,6 @@ module _ {key : ℕ → ℕ} {order : List ℕ} {r : ℕ} (o : Ordered key order
 
 -- the nodes of an order that has a set for each
 module _ {load : Load} {nodes sets order : List ℕ} {key : ℕ → ℕ} (i : InOrder load) (p : Placing load nodes sets) (o : Ordered key order (length sets)) (keys : (x : ℕ) → x < length sets → key x ≡ at sets x) where
-  abbrev first : List ℕ
-  first = part 0 (length sets) order
-
   pub first-at : (q : ℕ) → q < length sets → at (part 0 (length sets) order) q ≡ getD order q 0
   first-at q h = part-at 0 (length sets) order q h ∙ ap (λ k. getD order k 0) (native.Mathlib.Nat.zero-add q)
 

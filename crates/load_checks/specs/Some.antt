@@ -5,7 +5,7 @@ use native.Mathlib.Decide.{ℕ-discrete}
 use mathlib.Core.Path.{_≡_, sym, ap, _∙_, subst}
 use mathlib.Core.Bool.{Bool, true, false, true≢false}
 use Rattle.graphs.specs.Bools.{fails}
-use Rattle.graphs.specs.Lists.{some-below, some-give, some-take, some-none}
+use Rattle.graphs.specs.Lists.{some-below, some-give, some-take}
 
 -- no number below k passes
 pub record None (p : ℕ → Bool) (k : ℕ) : Type 0 where
@@ -13,9 +13,6 @@ pub record None (p : ℕ → Bool) (k : ℕ) : Type 0 where
 
 pub none-some : {p : ℕ → Bool} {n : ℕ} → None p n → some-below p n ≡ false
 none-some {p} {n} f = fails _ (λ h. let r = some-take p n h in true≢false (sym (r .2) ∙ f .at (r .0) (r .1)))
-
-pub some-fails : (p : ℕ → Bool) (n : ℕ) → some-below p n ≡ false → None p n
-some-fails p n h = record { at = some-none p n h }
 
 pub none-first : {p : ℕ → Bool} → None p 0
 none-first = record { at = λ x b. absurd (omega arith) }

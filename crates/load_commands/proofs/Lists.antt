@@ -8,15 +8,11 @@ use native.Mathlib.Decide.{ℕ-discrete}
 use lib.Dec.{ltb}
 use lib.ListN.{length, getD, set, length-set}
 use lib.Seq.{getD-set-same, getD-set-other}
-use Rattle.graphs.specs.Count.{ind, count-none, count-more, count-le, ind-le}
+use Rattle.graphs.specs.Count.{ind, count-none, count-more, ind-le}
 use Rattle.graphs.specs.Tab.{tab, tab-length, tab-at}
 use Rattle.layout.specs.Patch.{patch, part, patch-long, patch-none, patch-one, patch-far, patch-set, patch-out, part-none, part-more, is-patch}
 use Rattle.load_commands.specs.Machine.{start, inserted}
 use Rattle.load_commands.specs.Lists.{CanStart}
-
-pub start-few : (sources : List ℕ) (d i : ℕ) → start sources d i ≤ d
-unfolding start
-start-few sources d i = count-le _ d
 
 -- counting
 pub record Counting (sources : List ℕ) (d i n k : ℕ) : Type 0 where

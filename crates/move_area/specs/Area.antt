@@ -14,7 +14,7 @@ use Rattle.entry_set.specs.Lanes.{lanes}
 use Rattle.ledger.specs.Graph.{Load, at, members, mult, edge}
 use Rattle.ledger.specs.Ledger.{Ledger}
 use Rattle.ledger.specs.Nodes.{placed}
-use Rattle.move_area.specs.Bodies.{laneAt, atomAt, Bodies, write, bodiesIn}
+use Rattle.move_area.specs.Bodies.{laneAt, atomAt, Bodies, write}
 
 -- the state of a move graph
 pub record State : Type 0 where

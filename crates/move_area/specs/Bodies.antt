@@ -3,8 +3,7 @@
 use mathlib.Core.Path.{_≡_}
 use mathlib.Core.List.{List, [], _∷_}
 use Prim.Native.Nat.{ℕ, _+_, _*_, _≤_, _<_}
-use lib.ListN.{length, getD}
-use Rattle.layout.specs.Patch.{part}
+use lib.ListN.{length}
 use Rattle.layout.specs.Fields.{Field, field, lay}
 
 -- where the node lane j starts, and the atoms' first lane
@@ -60,21 +59,6 @@ fieldsOf n b =
 -- an area with the fields written, and the rest as it was
 unfoldable pub write : ℕ → Bodies → List ℕ → List ℕ
 write n b l = lay (fieldsOf n b) l
-
--- what the fields of an area hold
-unfoldable pub bodiesIn : ℕ → ℕ → List ℕ → Bodies
-bodiesIn n a l =
-    record {
-      edges = part 0 (n * n) l;
-      registered = getD l (n * n) 0;
-      counter = getD l (n * n + 1) 0;
-      acyclic = getD l (n * n + 2) 0;
-      words = λ j. part (laneAt n j) (getD l (n * n) 0) l;
-      counts = part (laneAt n 8) n l;
-      marks = part (laneAt n 9) n l;
-      component = part (laneAt n 10) n l;
-      nodes = part (atomAt n) a l;
-    }
 
 -- the lists are as long as the places for them
 pub record Sized (n a : ℕ) (b : Bodies) : Type 0 where

@@ -5,10 +5,10 @@ use Prim.Native.Nat.{ℕ, zero, suc, _+_, _*_, _≤_, _<_}
 use native.Mathlib.Omega.{arith}
 use native.Mathlib.Nat.{add-zero}
 use lib.ListN.{length, getD}
-use Rattle.layout.specs.Patch.{patch, part, part-long, part-at, part-more, part-none}
+use Rattle.layout.specs.Patch.{patch, part, part-at, part-more, part-none}
 use Rattle.layout.specs.Fields.{Field, field, lay, Fits, In, here, there, lay-long, lay-read, lay-same, lay-again}
 use Rattle.layout.specs.Change.{swap, lay-swap, swap-fits}
-use Rattle.move_area.specs.Bodies.{laneAt, atomAt, Bodies, header, fieldsOf, write, bodiesIn, Sized}
+use Rattle.move_area.specs.Bodies.{laneAt, atomAt, Bodies, header, fieldsOf, write, Sized}
 
 pub write-long : (n : ℕ) (b : Bodies) (l : List ℕ) → length (write n b l) ≡ length l
 unfolding write
@@ -17,20 +17,6 @@ write-long n b l = lay-long (fieldsOf n b) l
 pub fields-fit : (n a : ℕ) (b : Bodies) → Sized n a b → Fits 0 (fieldsOf n b) (atomAt n + a)
 fields-fit n a b v =
     (omega arith, (omega (arith, v .edges), (omega arith, (omega (arith, v .few, v .words 0 (omega arith)), (omega (arith, v .few, v .words 1 (omega arith)), (omega (arith, v .few, v .words 2 (omega arith)), (omega (arith, v .few, v .words 3 (omega arith)), (omega (arith, v .few, v .words 4 (omega arith)), (omega (arith, v .few, v .words 5 (omega arith)), (omega (arith, v .few, v .words 6 (omega arith)), (omega (arith, v .few, v .words 7 (omega arith)), (omega (arith, v .counts), (omega (arith, v .marks), (omega (arith, v .component), omega (arith, v .nodes)))))))))))))))
-
--- what an area holds is as long as the places for it
-pub in-sized : (n a : ℕ) (l : List ℕ) → getD l (n * n) 0 ≤ n → Sized n a (bodiesIn n a l)
-unfolding bodiesIn
-in-sized n a l h =
-    record {
-      edges = part-long 0 (n * n) l;
-      few = h;
-      words = λ j b. part-long (laneAt n j) _ l;
-      counts = part-long _ n l;
-      marks = part-long _ n l;
-      component = part-long _ n l;
-      nodes = part-long _ a l;
-    }
 
 -- each field stands in the area that was written
 module _ (n a : ℕ) (b : Bodies) (v : Sized n a b) (l : List ℕ) (room : atomAt n + a ≤ length l) where

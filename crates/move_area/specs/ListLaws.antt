@@ -1,17 +1,16 @@
 -- Laws of the tests that `consistent` is made of. Assumes nothing.
-use mathlib.Core.Path.{_≡_, refl, sym, ap, subst, _∙_}
-use mathlib.Core.Logic.{_⊎_, inl, inr, ⊎-elim}
-use mathlib.Core.Bool.{Bool, true, false, not, cond, _&&_, _||_, true≢false}
+use mathlib.Core.Path.{_≡_, refl, sym, ap}
+use mathlib.Core.Bool.{Bool, true, false, not, cond, true≢false}
 use mathlib.Core.List.{List, [], _∷_}
-use Prim.Native.Nat.{ℕ, zero, suc, _+_, _≤_, _<_}
+use Prim.Native.Nat.{ℕ, suc, _<_}
 use native.Mathlib.Omega.{arith}
 use native.Mathlib.Decide.{ℕ-discrete, decLt}
-use lib.Dec.{eqb, ltb, leb}
-use lib.ListN.{length, getD}
+use lib.Dec.{eqb}
+use lib.ListN.{length}
 use lib.Seq.{ext-getD}
-use borrow.Author.Tests.{eqb-true, eqb-false, eq-eqb, ne-eqb, not-true, not-false}
-use Rattle.graphs.specs.Bools.{or-cases, or-left, or-right, and-left, and-right, and-both, fails, Same, it, other, same?}
-use Rattle.graphs.specs.Lists.{any, has, some-below, some-give, some-take, some-none, has-at}
+use borrow.Author.Tests.{eqb-true, eqb-false, eq-eqb, not-true, not-false}
+use Rattle.graphs.specs.Bools.{and-left, and-right, and-both, fails}
+use Rattle.graphs.specs.Lists.{any, has, some-below, some-take, some-none, has-at}
 use Rattle.ledger.specs.Graph.{at}
 use Rattle.move_area.specs.Area.{index, distinct, alike-lists}
 
@@ -69,15 +68,6 @@ index-has X (y ∷ ys) h = go (eqb X y) refl (index-has X ys)
         → (cond t 0 (suc (index X ys)) < suc (length ys)) × (at (y ∷ ys) (cond t 0 (suc (index X ys))) ≡ X)
     go true q f = (omega arith, sym (eqb-true X y q))
     go false q f = let r : (index X ys < length ys) × (at ys (index X ys) ≡ X) = f (rw q at h) in (omega (arith, r .0), r .1)
-
-pub index-none : (X : ℕ) (sets : List ℕ) → has X sets ≡ false → index X sets ≡ length sets
-unfolding index has any
-index-none X [] h = refl
-index-none X (y ∷ ys) h = go (eqb X y) refl (index-none X ys)
-  where
-    go : (t : Bool) → eqb X y ≡ t → (any (eqb X) ys ≡ false → index X ys ≡ length ys) → cond t 0 (suc (index X ys)) ≡ suc (length ys)
-    go true q f = absurd (true≢false (rw q at h))
-    go false q f = ap suc (f (rw q at h))
 
 pub index-at : {sets : List ℕ} → Distinct sets → (x : ℕ) → x < length sets → index (at sets x) sets ≡ x
 index-at {sets} d x b = let r = index-has (at sets x) sets (has-at sets x b) in one-place d _ x (r .0) b (r .1)

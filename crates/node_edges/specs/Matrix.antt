@@ -1,16 +1,15 @@
 -- The kept matrix: a square of n rows of n numbers that holds the multiplicities of slots, first in a list. Assumes nothing.
-use mathlib.Core.Path.{_≡_, refl, sym, ap, _∙_, subst}
+use mathlib.Core.Path.{_≡_, sym, _∙_, subst}
 use mathlib.Core.List.{List}
-use Prim.Native.Nat.{ℕ, zero, suc, _+_, _*_, _/_, _%_, _≤_, _<_}
+use Prim.Native.Nat.{ℕ, zero, suc, _+_, _*_, _/_, _%_, _<_}
 use native.Mathlib.Omega.{arith}
 use native.Mathlib.Decide.{decLt}
 use native.Mathlib.Nat.{div-add-mod', mod-lt, mul-le-mul-right}
 use lib.ListN.{length, getD}
-use Rattle.graphs.specs.Tab.{tab, tab-length, tab-at, is-tab}
-use Rattle.graphs.specs.Slots.{flat, mult, Ends, Counts}
+use Rattle.graphs.specs.Tab.{tab, tab-length, tab-at}
+use Rattle.graphs.specs.Slots.{flat, Ends, Counts}
 use Rattle.graphs.specs.SlotLaws.{flat-mult}
 use Rattle.graphs.specs.Square.{index-lt}
-use Rattle.layout.specs.Patch.{patch, part, part-long, part-at, patch-in}
 
 -- the matrix of the first m slots
 unfoldable pub matrix : List ℕ → List ℕ → ℕ → ℕ → List ℕ
@@ -56,25 +55,3 @@ module _ {e : List ℕ} {n : ℕ} {s t : List ℕ} {m : ℕ} where
 
   pub counts-holds : Ends s t n m → Counts e n s t m → Holds e n s t m
   counts-holds ends h = record { at = each-place (λ i. getD e i 0 ≡ flat s t n m i) n (λ x y hx hy. h .at x y hx hy ∙ sym (flat-mult s t n m x y ends hy)) }
-
-  -- as the first part of a list
-  pub holds-part : Holds e n s t m → part 0 (n * n) e ≡ matrix s t n m
-  unfolding matrix
-  holds-part h =
-      is-tab (part 0 (n * n) e) (n * n) _ (part-long 0 (n * n) e)
-      (λ i z. part-at 0 (n * n) e i z ∙ ap (λ (j : ℕ). getD e j 0) (native.Mathlib.Nat.zero-add i) ∙ h .at i z)
-
-  pub part-holds : part 0 (n * n) e ≡ matrix s t n m → Holds e n s t m
-  part-holds q = record {
-    at = λ i z.
-        sym (part-at 0 (n * n) e i z ∙ ap (λ (j : ℕ). getD e j 0) (native.Mathlib.Nat.zero-add i)) ∙ ap (λ (l : List ℕ). getD l i 0) q
-        ∙ matrix-at s t n m i z;
-  }
-
--- a list with the matrix written at its start holds it
-pub patch-holds : (s t : List ℕ) (n m : ℕ) (l : List ℕ) → n * n ≤ length l → Holds (patch 0 (matrix s t n m) l) n s t m
-patch-holds s t n m l h = record {
-  at = λ i z.
-      sym (ap (λ (j : ℕ). getD (patch 0 (matrix s t n m) l) j 0) (native.Mathlib.Nat.zero-add i))
-      ∙ patch-in 0 (matrix s t n m) l i (omega (arith, matrix-long s t n m)) (omega arith) ∙ matrix-at s t n m i z;
-}
