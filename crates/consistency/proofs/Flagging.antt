@@ -8,13 +8,14 @@ use native.Mathlib.Nat.{zero-add}
 use lib.Dec.{eqb}
 use lib.ListN.{length, getD}
 use borrow.Author.Tests.{lt-ltb}
-use Rattle.graphs.specs.Bools.{Decides}
+use Rattle.graphs.specs.Bools.{Decides, same-decides, both-decides, eqb-decides}
 use Rattle.graphs.specs.Count.{ind}
 use Rattle.graphs.specs.Lists.{below}
 use Rattle.graphs.specs.Slots.{slotEdge, Ends}
 use Rattle.graphs.specs.SlotLaws.{slot-turned}
 use Rattle.graphs.specs.Tab.{tab-at}
 use Rattle.graphs.specs.Walk.{cyclic}
+use Rattle.graphs.specs.Walks.{acyclic-none}
 use Rattle.neighbours.specs.Lists.{edge}
 use Rattle.ledger.specs.Graph.{at}
 use Rattle.placement.specs.Compare.{SamePart, PartUpTo}
@@ -24,10 +25,8 @@ use Rattle.components.specs.Only.{flagged, CanAsk}
 use Rattle.neighbours.specs.Steps.{CanGroup, Grouped}
 use Rattle.neighbours.specs.Grouped.{group-graph, group-edges}
 use Rattle.move_area.specs.Bodies.{laneAt}
-use Rattle.consistency.specs.Graph.{FlagsAre, componentOf, Flagged, acyclic-none}
+use Rattle.consistency.specs.Graph.{FlagsAre, componentOf, Flagged}
 use Rattle.consistency.specs.Ready.{CanLane, CanFlag}
-use Rattle.placement.proofs.Deciding.{eqb-decides}
-use Rattle.consistency.proofs.Tests.{same-decides, both-decides}
 
 -- the component's lane and the flag, tested one after the other
 pub empty-flags : {n : ℕ} {area : List ℕ} {r : Bool} → Decides (PartUpTo area (laneAt n 10) n 0) r → Decides (FlagsAre 1 (λ x. 0) n area) (r && eqb (getD area (n * n + 2) 0) 1)

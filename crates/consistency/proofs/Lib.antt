@@ -1,5 +1,4 @@
 -- Laws that the proofs of `consistency` share. Assumes nothing.
-pub mod Tests
 pub mod Ranging
 pub mod Filling
 pub mod Matching

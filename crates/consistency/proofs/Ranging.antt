@@ -5,7 +5,7 @@ use mathlib.Core.List.{List}
 use Prim.Native.Nat.{ℕ, _+_, _*_, _≤_, _<_}
 use native.Mathlib.Omega.{arith}
 use lib.ListN.{getD}
-use Rattle.graphs.specs.Bools.{Decides}
+use Rattle.graphs.specs.Bools.{Decides, no-decides, same-decides, both-decides}
 use Rattle.entry_set.specs.Lanes.{lanes}
 use Rattle.ledger.specs.Graph.{at}
 use Rattle.placement.specs.Compare.{PartUpTo, PartBelow}
@@ -16,7 +16,6 @@ use Rattle.move_area.specs.ListLaws.{one-place}
 use Rattle.move_area.specs.ListLaws as sets
 use Rattle.move_area.specs.Checked.{sets-length, sets-at}
 use Rattle.consistency.specs.Ranges.{SetsBelow, SetOrder, RangeTold}
-use Rattle.consistency.proofs.Tests.{no-decides, same-decides, both-decides}
 
 -- more sets than there is room for
 pub range-many : {a e n : ℕ} {area order : List ℕ} → n < getD area (n * n) 0 → RangeTold a e n area order false

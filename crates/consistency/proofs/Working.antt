@@ -6,23 +6,22 @@ use Prim.Native.Nat.{ℕ, _<_}
 use native.Mathlib.Omega.{arith}
 use native.Mathlib.Nat.{zero-add}
 use lib.ListN.{length, getD}
-use Rattle.graphs.specs.Bools.{Decides, and-left, and-right}
+use Rattle.graphs.specs.Bools.{Decides, and-left, and-right, same-decides, both-decides}
 use Rattle.graphs.specs.Count.{ind, count}
 use Rattle.graphs.specs.Lists.{below}
 use Rattle.graphs.specs.Slots.{slotEdge}
 use Rattle.graphs.specs.Walk.{only}
 use Rattle.ledger.specs.Graph.{Load}
+use Rattle.ledger.specs.Nodes.{node-edge}
 use Rattle.placement.specs.Compare.{SamePart}
 use Rattle.node_edges.specs.Matrix.{Holds}
 use Rattle.move_area.specs.Bodies.{laneAt}
 use Rattle.move_area.specs.Area.{setsIn}
-use Rattle.move_area.specs.NodeBodies.{nodeEdge}
 use Rattle.move_area.specs.Checked.{nodesIn, Worked, sets-length, ranged-placing}
 use Rattle.consistency.specs.Filled.{CanFillOwn, Filled}
 use Rattle.consistency.specs.Graph.{slotCount, Flagged, Counted, counted-ends, counted-le, counted-flat, counted-cyclic, counted-edge}
 use Rattle.consistency.specs.Matched.{CanMatch, Matched}
 use Rattle.consistency.specs.Ready.{Lanes, CanLane, CanFlag, CanWork, WorkTold}
-use Rattle.consistency.proofs.Tests.{same-decides, both-decides}
 
 module _ {load : Load} {n : ℕ} {area counts sources targets heads list row degrees turned back cursor stack low finish flags : List ℕ} (can : CanWork load n area counts sources targets heads list row degrees turned back cursor stack low finish flags) where
   pub work-fill : CanFillOwn load n area counts list sources targets
@@ -110,7 +109,7 @@ module _ {load : Load} {n m : ℕ} {area counts s t : List ℕ} (f : Filled load
       ))
       d
     where
-      same : (x : ℕ) → x < n → ind (only (slotEdge s t m) (below n) x) ≡ ind (only (nodeEdge load (nodesIn load n area) (setsIn n area)) (below n) x)
+      same : (x : ℕ) → x < n → ind (only (slotEdge s t m) (below n) x) ≡ ind (only (node-edge load (nodesIn load n area) (setsIn n area)) (below n) x)
       same x b = ap (λ (e : ℕ → ℕ → Bool). ind (only e (below n) x)) (counted-edge g (omega arith))
 
   pub work-done : {heads list degrees : List ℕ} {r₁ r₂ r₃ : Bool} → Decides (SamePart area (laneAt n 8) counts 0 n) r₁ → Matched area n m s t heads list degrees r₂

@@ -4,10 +4,9 @@ use mathlib.Core.Bool.{true}
 use mathlib.Core.List.{List}
 use Prim.Native.Nat.{ℕ, _+_, _*_, _≤_, _<_}
 use lib.ListN.{length, getD}
-use Rattle.ledger.specs.Graph.{Load, at}
+use Rattle.ledger.specs.Graph.{Load, at, members}
 use Rattle.ledger.specs.LoadLaws.{Loadable}
 use Rattle.placement.specs.SlotLaws.{Slotted}
-use Rattle.move_area.specs.NodeBodies.{tally}
 use Rattle.move_area.specs.Checked.{Ranged}
 
 -- the load passes the rows 1 to 6, the area names `registered` sets, each atom's node is one of them, and the lists are long enough
@@ -24,7 +23,7 @@ pub record CanFill (load : Load) (n : ℕ) (nodes area : List ℕ) (registered :
 
 -- how many atoms each node has, and the first D + E slots
 pub record Filled (load : Load) (n : ℕ) (nodes sets counts sources targets : List ℕ) : Type 0 where
-  pub count-at : (x : ℕ) → x < n → at counts x ≡ tally load nodes x
+  pub count-at : (x : ℕ) → x < n → at counts x ≡ members load nodes x
   pub slots : Slotted load nodes sets sources targets
 
 -- the same for the area's own nodes

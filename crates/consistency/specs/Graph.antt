@@ -1,25 +1,24 @@
 -- The first m slots of two lists as the graph of a placement, where m is 0 if there is no node: a slot's ends are nodes then. Assumes nothing.
 use mathlib.Core.Path.{_≡_, refl, sym, ap, subst, _∙_}
-use mathlib.Core.Bool.{Bool, true, false, not, cond, true≢false}
+use mathlib.Core.Bool.{Bool, false, not, cond}
 use mathlib.Core.List.{List}
-use Prim.Native.Nat.{ℕ, zero, suc, _+_, _*_, _≤_, _<_}
+use Prim.Native.Nat.{ℕ, _+_, _*_, _≤_, _<_}
 use native.Mathlib.Omega.{arith}
 use native.Mathlib.Decide.{ℕ-discrete}
 use lib.Dec.{eqb}
 use lib.ListN.{length, getD}
 use borrow.Author.Tests.{eq-eqb, ne-eqb}
-use Rattle.graphs.specs.Bools.{fails, and-left}
-use Rattle.graphs.specs.Count.{ind, count-ext}
-use Rattle.graphs.specs.Lists.{any, below, some-none}
+use Rattle.graphs.specs.Count.{ind}
+use Rattle.graphs.specs.Lists.{any, below}
 use Rattle.graphs.specs.Slots.{flat, slotEdge, Ends}
-use Rattle.graphs.specs.Walk.{via, cyclic, only}
+use Rattle.graphs.specs.Walk.{cyclic, only}
+use Rattle.graphs.specs.Square.{square-some}
 use Rattle.ledger.specs.Graph.{Load}
 use Rattle.ledger.specs.LoadLaws.{InOrder}
-use Rattle.ledger.specs.Nodes.{Placing, sources, targets}
+use Rattle.ledger.specs.Nodes.{Placing, sources, targets, node-edge}
 use Rattle.ledger.specs.NodeWalks.{ends-nodes}
-use Rattle.placement.specs.SlotLaws.{Slotted, slotted-edge, slotted-ends}
+use Rattle.placement.specs.SlotLaws.{Slotted, slotted-edge, slotted-ends, slotted-flat}
 use Rattle.move_area.specs.Bodies.{laneAt}
-use Rattle.move_area.specs.NodeBodies.{nodeEdge}
 
 -- how many slots there are
 abbrev pub slotCount : ℕ → ℕ → ℕ → ℕ
@@ -36,13 +35,6 @@ componentOf edge n x = ind (only edge (below n) x)
 -- they are those of a graph of n nodes
 abbrev pub Flagged : (ℕ → ℕ → Bool) → ℕ → List ℕ → Type 0
 Flagged edge n area = FlagsAre (ind (not (cyclic edge (below n)))) (componentOf edge n) n area
-
--- "component (none if acyclic)"
-pub acyclic-none : (edge : ℕ → ℕ → Bool) (n x : ℕ) → cyclic edge (below n) ≡ false → x < n → only edge (below n) x ≡ false
-unfolding cyclic only
-acyclic-none edge n x h b =
-    let z = some-none (λ y. via edge (below n) y y) n h x b in
-    fails _ (λ t. let y : via edge (below n) x x ≡ true = and-left (via edge (below n) x x) _ t in absurd (true≢false (sym y ∙ z)))
 
 no-nodes : (edge : ℕ → ℕ → Bool) → cyclic edge (below 0) ≡ false
 unfolding cyclic any below
@@ -78,19 +70,15 @@ module _ {load : Load} {nodes sets s t : List ℕ} {n m : ℕ} (g : Counted load
       go (yes z) = let q : m ≡ 0 = g .many ∙ rw (eq-eqb n 0 z) refl in omega arith
       go (no z) = omega (arith, some-nodes (omega arith))
 
-  pub counted-edge : 0 < n → slotEdge s t m ≡ nodeEdge load nodes sets
+  pub counted-edge : 0 < n → slotEdge s t m ≡ node-edge load nodes sets
   counted-edge b = ap (slotEdge s t) (some-nodes b) ∙ slotted-edge (g .slots)
 
   pub counted-flat : (i : ℕ) → i < n * n → flat s t n m i ≡ flat (sources load nodes sets) (targets load nodes sets) n (load .D + load .E) i
-  counted-flat i b = rw (some-nodes (some n b)) (count-ext _ _ (load .D + load .E) (λ k h. rw (g .slots .source-at k h, g .slots .target-at k h) refl))
-    where
-      some : (k : ℕ) → i < k * k → 0 < k
-      some zero h = absurd (omega arith)
-      some (suc k) h = omega arith
+  counted-flat i b = rw (some-nodes (square-some n i b)) (slotted-flat (g .slots) n i)
 
-  pub counted-cyclic : cyclic (slotEdge s t m) (below n) ≡ cyclic (nodeEdge load nodes sets) (below n)
+  pub counted-cyclic : cyclic (slotEdge s t m) (below n) ≡ cyclic (node-edge load nodes sets) (below n)
   counted-cyclic = go (ℕ-discrete n 0)
     where
-      go : Dec (n ≡ 0) → cyclic (slotEdge s t m) (below n) ≡ cyclic (nodeEdge load nodes sets) (below n)
+      go : Dec (n ≡ 0) → cyclic (slotEdge s t m) (below n) ≡ cyclic (node-edge load nodes sets) (below n)
       go (yes z) = rw z (no-nodes _ ∙ sym (no-nodes _))
       go (no z) = rw (counted-edge (omega arith)) refl

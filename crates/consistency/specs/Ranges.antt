@@ -15,7 +15,7 @@ use Rattle.move_area.specs.Checked.{Ranged}
 abbrev pub SetsBelow : List ℕ → ℕ → ℕ → ℕ → ℕ → Type 0
 SetsBelow area from stride registered e = (x : ℕ) → x < registered → lanes area (from + x) stride < 2 ^ e
 
--- a load of atoms and entry bits alone: the ranges ask no more
+-- a load of atoms and entry bits alone: the ranges and the entry sets ask no more
 abbrev pub bounds : ℕ → ℕ → Load
 bounds a e = lent a 0 e [] [] []
 

@@ -10,9 +10,9 @@ use Rattle.graphs.specs.Slots.{slotEdge, Ends}
 use Rattle.ledger.specs.Graph.{Load}
 use Rattle.ledger.specs.Loading.{refusal}
 use Rattle.ledger.specs.LoadLaws.{Loadable}
+use Rattle.ledger.specs.Nodes.{node-edge}
 use Rattle.neighbours.specs.Lists.{edge, Graph}
 use Rattle.move_area.specs.Area.{setsIn, consistent}
-use Rattle.move_area.specs.NodeBodies.{nodeEdge}
 use Rattle.move_area.specs.Checked.{nodesIn, Ranged, Worked}
 use Rattle.consistency.specs.Ranges.{SetOrder}
 use Rattle.consistency.specs.Filled.{Filled}
@@ -72,7 +72,7 @@ pub record CanWork (load : Load) (n : ℕ) (area counts sources targets heads li
 pub record WorkTold (load : Load) (n : ℕ) (area counts sources targets degrees : List ℕ) (r : Bool) : Type 0 where
   pub says : Decides (Worked load n area) r
   pub filled : Filled load n (nodesIn load n area) (setsIn n area) counts sources targets
-  pub degree-at : r ≡ true → (x : ℕ) → x < n → getD degrees x 0 ≡ count (nodeEdge load (nodesIn load n area) (setsIn n area) x) n
+  pub degree-at : r ≡ true → (x : ℕ) → x < n → getD degrees x 0 ≡ count (node-edge load (nodesIn load n area) (setsIn n area) x) n
 
 -- no row from 1 to 6 fits, and the lists are long enough
 pub record CanCheck (load : Load) (n : ℕ) (area counts sources targets heads list row degrees turned back cursor stack low finish flags order : List ℕ) : Type 0 where
@@ -88,7 +88,7 @@ pub record Ready (load : Load) (n : ℕ) (area counts sources targets degrees or
   pub ranged : Ranged load n area
   pub worked : Worked load n area
   pub filled : Filled load n (nodesIn load n area) (setsIn n area) counts sources targets
-  pub degree-at : (x : ℕ) → x < n → getD degrees x 0 ≡ count (nodeEdge load (nodesIn load n area) (setsIn n area) x) n
+  pub degree-at : (x : ℕ) → x < n → getD degrees x 0 ≡ count (node-edge load (nodesIn load n area) (setsIn n area) x) n
   pub ordered : SetOrder n area order
 
 -- row 9's answer

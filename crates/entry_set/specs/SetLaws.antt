@@ -1,12 +1,12 @@
 -- Laws of sets as numbers: the four numbers by value, legal sets, the range. Assumes nothing.
 use Prim.Native.Nat.{ℕ, zero, suc, _+_, _-_, _*_, _^_, _<_, _≤_}
 use mathlib.Core.Path.{_≡_, refl, sym, ap, _∙_, subst}
-use mathlib.Core.Bool.{Bool, true, false, _&&_, and-eq-true-iff}
+use mathlib.Core.Bool.{Bool, true, false, not, _&&_, and-eq-true-iff}
 use mathlib.Core.List.{List, [], _∷_}
 use native.Mathlib.Omega.{arith}
 use native.Mathlib.Nat.{mul-comm, mul-le-mul-left, mul-le-mul-right, suc-mul, lt-of-lt-of-le}
 use native.Mathlib.Decide.{decLe}
-use borrow.Author.Tests.{ltb-true, ltb-false, lt-ltb, le-ltb, eqb-true}
+use borrow.Author.Tests.{ltb-true, ltb-false, lt-ltb, le-ltb, eqb-true, not-false}
 use lib.Dec.{ltb, eqb}
 use lib.ListN.{length, getD}
 use lib.Arith.{digits-lt, lt-one}
@@ -47,9 +47,12 @@ holds-below {X} {s} h = subst (λ (n : ℕ). n < 2 ^ 256) (ap number (sym (h .se
 pub holds-numbers : {X : ℕ} {s : EntrySet} → Holds X s → numbers s ≡ words 4 X
 holds-numbers {X} h = ap numbers (h .set) ∙ numbers-entrySet X
 
--- a legal set has w numbers and no bit at or above e
-pub legal-length : (e : ℕ) (l : List ℕ) → legal e l ≡ true → length l ≡ width e
+-- a set that a test finds legal has w numbers, four at most, and no bit at or above e
+legal-length : (e : ℕ) (l : List ℕ) → legal e l ≡ true → length l ≡ width e
 legal-length e l h = eqb-true (length l) (width e) (and-eq-true-iff (eqb (length l) (width e)) (ltb (value l) (2 ^ e)) .0 h .0)
+
+pub legal-short : (e : ℕ) (l : List ℕ) {r : Bool} → e ≤ 256 → r ≡ legal e l → not r ≡ false → length l ≤ 4
+legal-short e l b q k = omega (arith, legal-length e l (sym q ∙ not-false _ k))
 
 pub legal-below : (e : ℕ) (l : List ℕ) → legal e l ≡ true → value l < 2 ^ e
 legal-below e l h = ltb-true (value l) (2 ^ e) (and-eq-true-iff (eqb (length l) (width e)) (ltb (value l) (2 ^ e)) .0 h .1)

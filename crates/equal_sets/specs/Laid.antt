@@ -1,7 +1,6 @@
 -- Sets laid out in lanes, and what their distinctness says. Assumes nothing.
-use Prim.Native.Nat.{ℕ, suc, _+_, _*_, _^_, _≤_, _<_}
+use Prim.Native.Nat.{ℕ, _+_, _*_, _^_, _≤_, _<_}
 use native.Mathlib.Omega.{arith}
-use native.Mathlib.Nat.{mul-le-mul-right, suc-mul}
 use native.Mathlib.Decide.{ℕ-discrete, decLt}
 use mathlib.Core.Path.{_≡_, refl, sym, ap, _∙_, subst}
 use mathlib.Core.Bool.{Bool, true, false, not}
@@ -9,8 +8,9 @@ use mathlib.Core.List.{List}
 use lib.Dec.{eqb}
 use lib.ListN.{length, take, drop}
 use borrow.Author.Tests.{eqb-true, eqb-false}
-use Rattle.graphs.specs.Bools.{Decides, fails}
+use Rattle.graphs.specs.Bools.{Decides, fails, same-decides}
 use Rattle.graphs.specs.Lists.{some-below, some-take, some-none}
+use Rattle.graphs.specs.Square.{index-column}
 use Rattle.entry_set.specs.Sets.{value}
 use Rattle.entry_set.specs.Joined.{parts}
 use Rattle.entry_set.specs.Lanes.{lanes, setLanes}
@@ -63,12 +63,7 @@ laid-none key n l = record { long = refl; each = λ i h. absurd (omega arith) }
 
 -- two sets in one row of lanes have no word in common
 apart : (n i k x y : ℕ) → i < n → k < n → (i ≡ k → ⊥) → i + x * n ≡ k + y * n → ⊥
-apart n i k x y a b d e = go (ℕ-discrete x y) (decLt x y)
-  where
-    go : Dec (x ≡ y) → Dec (x < y) → ⊥
-    go (yes q) o = d (omega (arith, ap (λ j. j * n) q))
-    go (no q) (yes o) = omega (arith, mul-le-mul-right {m = suc x} {n = y} n o, suc-mul x n)
-    go (no q) (no o) = omega (arith, mul-le-mul-right {m = suc y} {n = x} n (omega arith), suc-mul y n)
+apart n i k x y a b d e = d (index-column n x i y k a b (omega arith))
 
 module _ {key : ℕ → ℕ} {n k : ℕ} {l₀ l : List ℕ} (t : Laid key k n l₀ l) where
   pub laid-more : {l′ : List ℕ} → k < n → 8 * n ≤ length l₀ → (X : ℕ) → X ≡ key k → key k < 2 ^ 256 → l′ ≡ setLanes l k n X → Laid key (k + 1) n l₀ l′
@@ -87,10 +82,9 @@ module _ {key : ℕ → ℕ} {n k : ℕ} {l₀ l : List ℕ} (t : Laid key k n l
 module _ {key : ℕ → ℕ} {a n : ℕ} {l₀ l : List ℕ} (t : Laid key a n l₀ l) where
   -- the laid out sets are distinct where the sets are
   pub laid-distinct : {d : Bool} → Decides (Distinct (laneSet l 0 n) a) d → Decides (Distinct key a) d
-  laid-distinct r = record {
-    right = λ p. let q = r .right p in record { same = λ x y b c e. q .same x y b c (is x b ∙ e ∙ sym (is y c)) };
-    wrong = λ p q. r .wrong p (record { same = λ x y b c e. q .same x y b c (sym (is x b) ∙ e ∙ is y c) });
-  }
+  laid-distinct r =
+      same-decides (λ q. record { same = λ x y b c e. q .same x y b c (is x b ∙ e ∙ sym (is y c)) })
+      (λ q. record { same = λ x y b c e. q .same x y b c (sym (is x b) ∙ e ∙ is y c) }) r
     where
       is : (i : ℕ) → i < a → laneSet l 0 n i ≡ key i
       is i h = ap (λ z. lanes l z n) {x = 0 + i} {y = i} (omega arith) ∙ t .each i h

@@ -1,10 +1,11 @@
--- Laws of Booleans. Assumes nothing.
-use mathlib.Core.Path.{_≡_, refl, sym}
+-- Laws of Booleans, and of answers to a question. Assumes nothing.
+use mathlib.Core.Path.{_≡_, refl, sym, _∙_}
 use mathlib.Core.Logic.{_⊎_, inl, inr}
 use mathlib.Core.Bool.{Bool, true, false, _&&_, _||_, true≢false}
-use Prim.Native.Nat.{ℕ}
-use lib.Dec.{eqb}
-use borrow.Author.Tests.{eqb-true, eqb-false}
+use Prim.Native.Nat.{ℕ, _≤_, _<_}
+use native.Mathlib.Omega.{arith}
+use lib.Dec.{eqb, leb, ltb}
+use borrow.Author.Tests.{eqb-true, eqb-false, leb-true, leb-false, ltb-true, ltb-false}
 
 pub or-cases : (a b : Bool) → (a || b) ≡ true → (a ≡ true) ⊎ (b ≡ true)
 or-cases true b h = inl refl
@@ -56,6 +57,35 @@ alike false b f g = sym (fails b (λ h. true≢false (sym (g h))))
 pub record Decides (P : Type 0) (r : Bool) : Type 0 where
   pub right : r ≡ true → P
   pub wrong : r ≡ false → P → ⊥
+
+pub eqb-decides : (a b : ℕ) → Decides (a ≡ b) (eqb a b)
+eqb-decides a b = record { right = eqb-true a b; wrong = eqb-false a b }
+
+pub leb-decides : (a b : ℕ) → Decides (a ≤ b) (leb a b)
+leb-decides a b = record { right = leb-true a b; wrong = λ h y. omega (arith, leb-false a b h) }
+
+pub ltb-decides : {r : Bool} {x y : ℕ} → r ≡ ltb x y → Decides (x < y) r
+ltb-decides {r} {x} {y} e = record { right = λ h. ltb-true x y (sym e ∙ h); wrong = λ h b. omega (arith, ltb-false x y (sym e ∙ h)) }
+
+-- the answer no
+pub no-decides : {P : Type 0} → (P → ⊥) → Decides P false
+no-decides f = record { right = λ h. absurd (true≢false (sym h)); wrong = λ h p. f p }
+
+-- the answer to another question that comes to the same
+pub same-decides : {P Q : Type 0} {r : Bool} → (P → Q) → (Q → P) → Decides P r → Decides Q r
+same-decides f g d = record { right = λ h. f (d .right h); wrong = λ h q. d .wrong h (g q) }
+
+-- two questions at once
+pub both-decides : {P Q : Type 0} {p q : Bool} → Decides P p → Decides Q q → Decides (P × Q) (p && q)
+both-decides {P} {Q} {p} {q} d e = record {
+  right = λ h. (d .right (and-left p q h), e .right (and-right p q h));
+  wrong = λ h w. go p q refl refl h w;
+}
+  where
+    go : (s t : Bool) → p ≡ s → q ≡ t → (s && t) ≡ false → P × Q → ⊥
+    go true true a b h w = true≢false h
+    go true false a b h w = e .wrong b (w .1)
+    go false t a b h w = d .wrong a (w .0)
 
 -- a number is another or not
 pub data Same (a b : ℕ) : Type 0 where

@@ -1,15 +1,15 @@
 -- Tests on lists of numbers. Assumes nothing.
-use Prim.Native.Nat.{ℕ, zero, suc, _<_}
+use Prim.Native.Nat.{ℕ, zero, suc, _+_, _<_}
 use native.Mathlib.Omega.{arith}
 use native.Mathlib.Decide.{ℕ-discrete}
-use mathlib.Core.Path.{_≡_, refl, sym, _∙_}
+use mathlib.Core.Path.{_≡_, refl, sym, ap, _∙_}
 use mathlib.Core.Logic.{_⊎_, inl, inr, ⊎-elim}
 use mathlib.Core.Bool.{Bool, true, false, _&&_, _||_, true≢false}
 use mathlib.Core.List.{List, [], _∷_}
 use lib.Dec.{eqb}
 use lib.ListN.{length, getD}
 use borrow.Author.Tests.{eqb-true, eq-eqb}
-use Rattle.graphs.specs.Bools.{or-cases, or-left, or-right, and-left, and-right, and-both}
+use Rattle.graphs.specs.Bools.{or-cases, or-left, or-right, and-left, and-right, and-both, fails}
 
 -- some member, every member passes
 unfoldable pub any : (ℕ → Bool) → List ℕ → Bool
@@ -112,3 +112,16 @@ some-zero p = refl
 pub some-suc : (p : ℕ → Bool) (n : ℕ) → some-below p (suc n) ≡ (p n || some-below p n)
 unfolding any below
 some-suc p n = refl
+
+pub none-below : (p : ℕ → Bool) (n : ℕ) → ((x : ℕ) → x < n → p x ≡ false) → some-below p n ≡ false
+none-below p n f = fails _ (λ h. let r = some-take p n h in true≢false (sym (r .2) ∙ f (r .0) (r .1)))
+
+-- a search over the numbers below n: one more passed, found, the end
+pub none-more : (p : ℕ → Bool) (x : ℕ) → some-below p x ≡ false → p x ≡ false → some-below p (x + 1) ≡ false
+none-more p x a b = ap (some-below p) (native.Mathlib.Numerals.add-one x) ∙ some-suc p x ∙ (rw b a)
+
+pub some-found : (p : ℕ → Bool) (n x : ℕ) → x < n → p x ≡ true → true ≡ some-below p n
+some-found p n x b h = sym (some-give p n x b h)
+
+pub none-left : (p : ℕ → Bool) (n x : ℕ) → some-below p x ≡ false → x ≡ n → false ≡ some-below p n
+none-left p n x h e = sym (ap (some-below p) (sym e) ∙ h)

@@ -1,7 +1,7 @@
 -- Laws of edge slots. Assumes nothing.
 use mathlib.Core.Path.{_≡_, refl, sym, ap, _∙_}
 use mathlib.Core.List.{List}
-use mathlib.Core.Bool.{Bool, true, false, not, cond, _&&_, true≢false}
+use mathlib.Core.Bool.{Bool, true, false, not, cond, _&&_, true≢false, and-false, and-comm}
 use Prim.Native.Nat.{ℕ, _+_, _-_, _*_, _≤_, _<_}
 use native.Mathlib.Omega.{arith}
 use native.Mathlib.Decide.{decLt}
@@ -21,11 +21,7 @@ pub hits-yes : (a b i x : ℕ) → (a ≡ b → ⊥) → i ≡ x → hits a b i 
 hits-yes a b i x d e = rw (ne-eqb a b d, eq-eqb i x e) refl
 
 pub hits-no : (a b i x : ℕ) → (i ≡ x → ⊥) → hits a b i x ≡ false
-hits-no a b i x d = rw (ne-eqb i x d) (go (not (eqb a b)))
-  where
-    go : (t : Bool) → (t && false) ≡ false
-    go true = refl
-    go false = refl
+hits-no a b i x d = rw (ne-eqb i x d) (and-false (not (eqb a b)))
 
 pub stands-same : (n a b x y : ℕ) → b < n → y < n → stands n a b (x * n + y) ≡ same a b x y
 stands-same n a b x y hb hy = ap (λ t. not (eqb a b) && t) (go (same? a x) (same? b y))
@@ -110,18 +106,12 @@ pub mult-swap : (s t : List ℕ) (m x y : ℕ) → mult t s m y x ≡ mult s t m
 unfolding mult
 mult-swap s t m x y = count-ext _ _ m (λ j z. go (getD s j 0) (getD t j 0))
   where
-    turn : (p q : Bool) → (p && q) ≡ (q && p)
-    turn true true = refl
-    turn true false = refl
-    turn false true = refl
-    turn false false = refl
-
     flip : (a b : ℕ) → Same a b → eqb b a ≡ eqb a b
     flip a b (it q) = eq-eqb b a (sym q) ∙ sym (eq-eqb a b q)
     flip a b (other q) = ne-eqb b a (λ e. q (sym e)) ∙ sym (ne-eqb a b q)
 
     go : (a b : ℕ) → (not (eqb b a) && (eqb b y && eqb a x)) ≡ (not (eqb a b) && (eqb a x && eqb b y))
-    go a b = rw (flip a b (same? a b), turn (eqb b y) (eqb a x)) refl
+    go a b = rw (flip a b (same? a b), and-comm (eqb b y) (eqb a x)) refl
 
 -- the graph with each edge turned round is that of the slots turned round
 pub slot-turned : (s t : List ℕ) (m x y : ℕ) → slotEdge t s m y x ≡ slotEdge s t m x y

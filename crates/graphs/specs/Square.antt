@@ -1,11 +1,20 @@
--- The place x * n + y of a square of n rows of n numbers. Assumes nothing.
-use mathlib.Core.Path.{_≡_, refl, sym, ap, _∙_}
+-- Rows of numbers one behind the other, and the place x * n + y of a square of n rows of n numbers. Assumes nothing.
+use mathlib.Core.Path.{_≡_, sym, ap, _∙_}
 use Prim.Native.Nat.{ℕ, zero, suc, _+_, _*_, _/_, _%_, _≤_, _<_}
 use native.Mathlib.Nat.{mul-le-mul-right, suc-mul, mul-add-div-right, div-eq-of-lt, mul-add-mod-self-right, mod-eq-of-lt, add-zero}
 use native.Mathlib.Omega.{arith}
 
+-- a row before row n ends where row n starts, or earlier
+pub row-in : (n c x : ℕ) → x < n → x * c + c ≤ n * c
+row-in n c x h = omega (arith, mul-le-mul-right {m = suc x} {n = n} c h, suc-mul x c)
+
+-- a square with a place has a row
+pub square-some : (n i : ℕ) → i < n * n → 0 < n
+square-some zero i h = absurd (omega arith)
+square-some (suc n) i h = omega arith
+
 pub index-lt : (n x y : ℕ) → x < n → y < n → x * n + y < n * n
-index-lt n x y hx hy = omega (arith, mul-le-mul-right {m = suc x} {n = n} n hx, suc-mul x n)
+index-lt n x y hx hy = omega (arith, row-in n n x hx)
 
 pub index-div : (n x y : ℕ) → y < n → (x * n + y) / n ≡ x
 index-div n x y hy = mul-add-div-right {m = n} (omega arith) x y ∙ ap (λ z. x + z) (div-eq-of-lt hy) ∙ add-zero x

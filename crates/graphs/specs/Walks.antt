@@ -7,8 +7,8 @@ use mathlib.Core.Bool.{Bool, true, false, not, _&&_, _||_, true≢false}
 use mathlib.Core.List.{List, [], _∷_}
 use lib.Dec.{eqb}
 use borrow.Author.Tests.{eqb-true}
-use Rattle.graphs.specs.Bools.{or-cases, or-left, or-right, and-left, and-right, and-both, fails}
-use Rattle.graphs.specs.Lists.{any, all, has, any-give, any-take, all-give, all-take, below, has-below}
+use Rattle.graphs.specs.Bools.{or-cases, or-left, or-right, and-left, and-right, and-both, fails, alike}
+use Rattle.graphs.specs.Lists.{any, all, has, any-give, any-take, all-give, all-take, below, has-below, some-none}
 use Rattle.graphs.specs.Walk.{Walk, one, more, via, cyclic, only}
 
 pub join : {e : ℕ → ℕ → Bool} {x y z : ℕ} → Walk e x y → Walk e y z → Walk e x z
@@ -102,6 +102,24 @@ module _ (e : ℕ → ℕ → Bool) (ks : List ℕ) (f : (x y : ℕ) → e x y �
           pass : (y : ℕ) (t : Bool) → via e ks y y ≡ t → (not t || (via e ks x y && via e ks y x)) ≡ true
           pass y true q = let r = c .1 y (via-walk y y .0 q) in and-both (via e ks x y) _ (via-walk x y .1 (r .0)) (via-walk y x .1 (r .1))
           pass y false q = refl
+
+-- the tests are the same over any two lists that hold the source of every edge
+module _ (e : ℕ → ℕ → Bool) (ks ls : List ℕ) (f : (x y : ℕ) → e x y ≡ true → has x ks ≡ true) (g : (x y : ℕ) → e x y ≡ true → has x ls ≡ true) where
+  pub via-lists : (x y : ℕ) → via e ks x y ≡ via e ls x y
+  via-lists x y = alike _ _ (λ h. via-walk e ls g x y .1 (via-walk e ks f x y .0 h)) (λ h. via-walk e ks f x y .1 (via-walk e ls g x y .0 h))
+
+  pub cyclic-lists : cyclic e ks ≡ cyclic e ls
+  cyclic-lists = alike _ _ (λ h. cyclic-walk e ls g .1 (cyclic-walk e ks f .0 h)) (λ h. cyclic-walk e ks f .1 (cyclic-walk e ls g .0 h))
+
+  pub only-lists : (x : ℕ) → only e ks x ≡ only e ls x
+  only-lists x = alike _ _ (λ h. only-walk e ls g x .1 (only-walk e ks f x .0 h)) (λ h. only-walk e ks f x .1 (only-walk e ls g x .0 h))
+
+-- without a cycle there is no cyclic component
+pub acyclic-none : (e : ℕ → ℕ → Bool) (n x : ℕ) → cyclic e (below n) ≡ false → x < n → only e (below n) x ≡ false
+unfolding cyclic only
+acyclic-none e n x h b =
+    let z = some-none (λ y. via e (below n) y y) n h x b in
+    fails _ (λ t. let y : via e (below n) x x ≡ true = and-left (via e (below n) x x) _ t in absurd (true≢false (sym y ∙ z)))
 
 -- the source of every edge is below n
 abbrev pub Sources : (ℕ → ℕ → Bool) → ℕ → Type 0

@@ -2,7 +2,7 @@
 use Prim.Native.Nat.{ℕ, zero, suc, _+_, _≤_, _<_}
 use native.Mathlib.Omega.{arith}
 use mathlib.Core.Path.{_≡_, refl, sym, ap, ap₂, _∙_}
-use mathlib.Core.Bool.{Bool, true, false, cond, _&&_, _||_, true≢false}
+use mathlib.Core.Bool.{Bool, true, false, cond, _&&_, _||_, true≢false, and-false}
 use mathlib.Core.List.{List, [], _∷_, _++_}
 use lib.Dec.{eqb}
 use lib.ListN.{length, length-append}
@@ -30,11 +30,7 @@ has-kept p z (x ∷ l) = go (p x) refl (eqb z x) refl (has-kept p z l)
     go : (t : Bool) → p x ≡ t → (u : Bool) → eqb z x ≡ u → any (eqb z) (kept p l) ≡ (any (eqb z) l && p z) → any (eqb z) (cond t (x ∷ kept p l) (kept p l)) ≡ ((u || any (eqb z) l) && p z)
     go true q true r h = rw r (sym (ap p (eqb-true z x r) ∙ q))
     go true q false r h = rw r h
-    go false q true r h = h ∙ ap (λ t. any (eqb z) l && t) (ap p (eqb-true z x r) ∙ q) ∙ no (any (eqb z) l) ∙ sym (ap p (eqb-true z x r) ∙ q)
-      where
-        no : (t : Bool) → (t && false) ≡ false
-        no true = refl
-        no false = refl
+    go false q true r h = h ∙ ap (λ t. any (eqb z) l && t) (ap p (eqb-true z x r) ∙ q) ∙ and-false (any (eqb z) l) ∙ sym (ap p (eqb-true z x r) ∙ q)
     go false q false r h = h
 
 weaker : {a b : ℕ} {l : List ℕ} → a ≤ b → Rising b l → Rising a l
@@ -104,11 +100,7 @@ module _ (load : Load) (p : List ℕ) where
         where
           go : (t : Bool) → has z p ≡ t → (has z Xs && t) ≡ t
           go true q = rw (f z q) refl
-          go false q = no (has z Xs)
-            where
-              no : (t : Bool) → (t && false) ≡ false
-              no true = refl
-              no false = refl
+          go false q = and-false (has z Xs)
 
 -- counting and adding from the first
 count-first : (q : ℕ → Bool) (k : ℕ) → count q (suc k) ≡ ind (q 0) + count (λ j. q (suc j)) k

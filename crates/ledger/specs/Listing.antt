@@ -3,8 +3,8 @@ use Prim.Native.Nat.{ℕ, suc, _≤_}
 use native.Mathlib.Omega.{arith}
 use native.Mathlib.Decide.{ℕ-discrete}
 use mathlib.Core.Path.{_≡_, refl, sym, ap, ap₂, subst, _∙_}
-use mathlib.Core.Logic.{_⊎_, ⊎-elim}
-use mathlib.Core.Bool.{Bool, true, false, cond, _||_, true≢false}
+use mathlib.Core.Logic.{⊎-elim}
+use mathlib.Core.Bool.{Bool, true, false, cond, _||_, true≢false, or-self-left}
 use mathlib.Core.List.{List, [], _∷_}
 use lib.Dec.{ltb, eqb}
 use borrow.Author.Tests.{ltb-true, ltb-false, eqb-true, eqb-false, eq-eqb, ne-eqb}
@@ -38,11 +38,7 @@ has-insert z x [] = refl
 has-insert z x (y ∷ l) = go (eqb x y) (ltb x y) refl (has-insert z x l)
   where
     go : (e t : Bool) → eqb x y ≡ e → any (eqb z) (insert x l) ≡ (eqb z x || any (eqb z) l) → any (eqb z) (cond e (y ∷ l) (cond t (x ∷ y ∷ l) (y ∷ insert x l))) ≡ (eqb z x || (eqb z y || any (eqb z) l))
-    go true t p f = rw (eqb-true x y p) (double (eqb z y) _)
-      where
-        double : (a b : Bool) → (a || b) ≡ (a || (a || b))
-        double true b = refl
-        double false b = refl
+    go true t p f = rw (eqb-true x y p) (sym (or-self-left (eqb z y) _))
     go false true p f = refl
     go false false p f = ap (λ t. eqb z y || t) f ∙ swap (eqb z y) (eqb z x) _
       where

@@ -75,6 +75,11 @@ pub highest-more : (p : ℕ → Bool) (n : ℕ) → highest p (n + 1) ≡ cond (
 unfolding highest
 highest-more p n = rw add-one refl
 
+pub highest-ext : (p q : ℕ → Bool) (n : ℕ) → ((x : ℕ) → x < n → p x ≡ q x) → highest p n ≡ highest q n
+unfolding highest
+highest-ext p q zero h = refl
+highest-ext p q (suc n) h = rw (h n (omega arith), highest-ext p q n (λ x z. h x (omega arith))) refl
+
 -- what a slot of a facade edge holds
 pub data Facing (load : Load) (nodes sets : List ℕ) (e : ℕ) (s t : ℕ) : Type 0 where
   facing : s < length sets → at sets s ≡ 2 ^ e → occupied load nodes s ≡ true → (at (load .hosts) e ≡ none → ⊥) → t ≡ at nodes (at (load .hosts) e) → Facing load nodes sets e s t

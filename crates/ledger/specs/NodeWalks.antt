@@ -4,7 +4,7 @@ use native.Mathlib.Omega.{arith}
 use native.Mathlib.Decide.{ℕ-discrete, decLt}
 use mathlib.Core.Path.{_≡_, refl, sym, ap, ap₂, subst, _∙_}
 use mathlib.Core.Logic.{_⊎_, inl, inr, ⊎-elim}
-use mathlib.Core.Bool.{Bool, true, false, _&&_, true≢false}
+use mathlib.Core.Bool.{true, false, _&&_, true≢false}
 use mathlib.Core.List.{List}
 use lib.Dec.{ltb, eqb}
 use lib.ListN.{length, getD}
@@ -16,24 +16,13 @@ use Rattle.graphs.specs.Slots.{same, slot, slotEdge, Ends}
 use Rattle.graphs.specs.Slots as slots
 use Rattle.graphs.specs.SlotLaws.{same-yes, same-ends, edge-slot, mult-self}
 use Rattle.graphs.specs.Walk.{via, cyclic, only}
-use Rattle.graphs.specs.Walks.{via-walk, cyclic-walk, only-walk, walk-from}
+use Rattle.graphs.specs.Walks.{only-walk, walk-from, via-lists, cyclic-lists, only-lists}
 use Rattle.graphs.specs.Relabel.{Named, via-named, cyclic-named, only-named}
 use Rattle.ledger.specs.Graph.{Load, none, at, owner, lies, members, occupied, entry, facade, mult, edge}
 use Rattle.ledger.specs.GraphLaws.{lies-atom, lies-set, lies-in, occupied-by, entry-lies, lies-entry, facade-faces, faces-facade, edge-source, edge-target}
 use Rattle.ledger.specs.LoadLaws.{InOrder}
 use Rattle.ledger.specs.Nodes.{placed, Placing, sources, targets, node-edge, node-mult}
 use Rattle.ledger.specs.NodeLaws.{placed-length, placed-at, members-nodes, source-entry, target-entry, Facing, facing, blank, hostless, slot-facing}
-
--- the tests are the same over any two lists that hold the source of every edge
-module _ (e : ℕ → ℕ → Bool) (ks ls : List ℕ) (f : (x y : ℕ) → e x y ≡ true → has x ks ≡ true) (g : (x y : ℕ) → e x y ≡ true → has x ls ≡ true) where
-  pub via-lists : (x y : ℕ) → via e ks x y ≡ via e ls x y
-  via-lists x y = alike _ _ (λ h. via-walk e ls g x y .1 (via-walk e ks f x y .0 h)) (λ h. via-walk e ks f x y .1 (via-walk e ls g x y .0 h))
-
-  pub cyclic-lists : cyclic e ks ≡ cyclic e ls
-  cyclic-lists = alike _ _ (λ h. cyclic-walk e ls g .1 (cyclic-walk e ks f .0 h)) (λ h. cyclic-walk e ks f .1 (cyclic-walk e ls g .0 h))
-
-  pub only-lists : (x : ℕ) → only e ks x ≡ only e ls x
-  only-lists x = alike _ _ (λ h. only-walk e ls g x .1 (only-walk e ks f x .0 h)) (λ h. only-walk e ks f x .1 (only-walk e ls g x .0 h))
 
 module _ {load : Load} {nodes sets : List ℕ} (o : InOrder load) (p : Placing load nodes sets) where
   at-placed : (i : ℕ) → i < load .A → at (placed nodes sets) i ≡ at sets (at nodes i)

@@ -10,8 +10,8 @@ use Rattle.ledger.specs.Graph.{Load}
 use Rattle.ledger.specs.LoadLaws.{Loadable}
 use Rattle.ledger.specs.Answer.{Answer}
 use Rattle.ledger.specs.Answer as answer
+use Rattle.ledger.specs.Nodes.{node-edge}
 use Rattle.move_area.specs.Area.{setsIn, decode}
-use Rattle.move_area.specs.NodeBodies.{nodeEdge}
 use Rattle.move_area.specs.Checked.{nodesIn, Ranged, Worked}
 use Rattle.set_order.specs.Order.{laneSet, Ordered}
 use Rattle.listing.specs.declared.Edge.{Edge}
@@ -39,7 +39,7 @@ pub record Listable (load : Load) (n : ℕ) (area : List ℕ) (registered : ℕ)
   pub order-long : registered ≤ length order
   pub degrees-long : n ≤ length degrees
   pub ordered : Ordered (laneSet area (setLane n) n) order registered
-  pub degree-at : (x : ℕ) → x < n → getD degrees x 0 ≡ count (nodeEdge load (nodesIn load n area) (setsIn n area) x) n
+  pub degree-at : (x : ℕ) → x < n → getD degrees x 0 ≡ count (node-edge load (nodesIn load n area) (setsIn n area) x) n
 
 -- what is read of the edge from node x to node y
 pub record CanReadEdge (area : List ℕ) (n x y : ℕ) : Type 0 where

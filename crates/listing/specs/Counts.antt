@@ -1,5 +1,5 @@
 -- Counts in another order, and what a sorted list of nodes gives the listing. Assumes nothing.
-use Prim.Native.Nat.{ℕ, zero, suc, _+_, _-_, _≤_, _<_}
+use Prim.Native.Nat.{ℕ, suc, _+_, _-_, _≤_, _<_}
 use native.Mathlib.Omega.{arith}
 use native.Mathlib.Decide.{decLt}
 use mathlib.Core.Path.{_≡_, refl, sym, ap, subst, _∙_}
@@ -8,7 +8,7 @@ use mathlib.Core.List.{List}
 use lib.ListN.{length, getD}
 use Rattle.graphs.specs.Count.{ind, count, count-ext, count-add, count-all-no}
 use Rattle.graphs.specs.Lists.{has, has-at}
-use Rattle.graphs.specs.Total.{total}
+use Rattle.graphs.specs.Total.{count-total}
 use Rattle.layout.specs.Patch.{part, part-long, part-at}
 use Rattle.ledger.specs.Graph.{Load, at}
 use Rattle.ledger.specs.LoadLaws.{InOrder}
@@ -17,11 +17,6 @@ use Rattle.ledger.specs.NodeWalks.{edge-inside}
 use Rattle.ledger.specs.NodeListing.{Sorted, in-row}
 use Rattle.set_order.specs.Order.{Ordered, Distinct, order-inside, order-place, order-one, order-strict}
 use Rattle.listing.specs.Permute.{Order, total-order}
-
-count-total : (p : ℕ → Bool) (k : ℕ) → count p k ≡ total (λ j. ind (p j)) k
-unfolding count total
-count-total p zero = refl
-count-total p (suc k) = ap (λ z. z + ind (p k)) (count-total p k)
 
 -- a count over numbers in another order
 pub count-order : (p : ℕ → Bool) (o place : ℕ → ℕ) (r : ℕ) → Order o place r → count (λ q. p (o q)) r ≡ count p r

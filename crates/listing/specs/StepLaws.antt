@@ -1,7 +1,6 @@
 -- Laws of the listing's steps. Assumes nothing.
 use Prim.Native.Nat.{ℕ, _+_, _-_, _*_, _≤_, _<_}
 use native.Mathlib.Omega.{arith}
-use native.Mathlib.Numerals.{add-one}
 use mathlib.Core.Path.{_≡_, refl, ap}
 use mathlib.Core.Bool.{not}
 use mathlib.Core.List.{List}
@@ -9,17 +8,8 @@ use lib.Dec.{eqb}
 use lib.ListN.{length}
 use borrow.Author.Tests.{eq-eqb, ne-eqb}
 use Rattle.graphs.specs.Count.{count-yes, count-no}
-use Rattle.graphs.specs.Total.{total}
 use Rattle.graphs.specs.Square.{index-lt}
 use Rattle.listing.specs.Steps.{at, cells-before, passed, CanFindCell}
-
-pub total-none : (f : ℕ → ℕ) → total f 0 ≡ 0
-unfolding total
-total-none f = refl
-
-pub total-more : (f : ℕ → ℕ) (k : ℕ) → total f (k + 1) ≡ total f k + f k
-unfolding total
-total-more f k = rw add-one refl
 
 pub passed-none : (cell rest : ℕ) → cell ≡ 0 → passed cell rest ≡ rest
 unfolding passed

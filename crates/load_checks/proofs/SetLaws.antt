@@ -1,7 +1,6 @@
 -- Lent entry sets by their place, and the rows that look at them. Assumes nothing.
-use Prim.Native.Nat.{ℕ, suc, _*_, _≤_, _<_}
+use Prim.Native.Nat.{ℕ, _*_, _≤_, _<_}
 use native.Mathlib.Omega.{arith}
-use native.Mathlib.Nat.{mul-le-mul-right, suc-mul}
 use mathlib.Core.Path.{_≡_, refl, sym, ap, _∙_}
 use mathlib.Core.Bool.{Bool, true, false, not, cond}
 use mathlib.Core.List.{List, []}
@@ -9,6 +8,7 @@ use lib.Dec.{leb, ltb, eqb}
 use lib.ListN.{length}
 use borrow.Author.Tests.{ltb-true, ltb-false, le-leb, lt-leb, eq-eqb, ne-eqb, eqb-true}
 use Rattle.graphs.specs.Bools.{Decides}
+use Rattle.graphs.specs.Square.{row-in}
 use Rattle.entry_set.specs.Sets.{width}
 use Rattle.set_order.specs.Order.{Distinct}
 use Rattle.equal_sets.specs.Laid.{nth-set, repeats}
@@ -27,7 +27,7 @@ not-ltb x y = go (ltb x y) refl
 
 pub can-set : {sets : List ℕ} {w a : ℕ} → CanSets sets w a → (i : ℕ) → i < a → CanSet sets w i
 can-set {sets} {w} {a} can i l =
-    record { narrow = can .narrow; within = omega (arith, can .full, mul-le-mul-right {m = suc i} {n = a} w l, suc-mul i w) }
+    record { narrow = can .narrow; within = omega (arith, can .full, row-in a w i l) }
 
 -- row 8 by distinct sets
 pub alike-is : (sets : List ℕ) (w a : ℕ) {d : Bool} → Decides (Distinct (nth-set sets w) a) d → not d ≡ alike-sets sets w a

@@ -1,5 +1,4 @@
 -- The checks of a move graph's load: what they test, and what a load is that passes them. Assumes nothing.
-pub mod Some
 pub mod Checks
 pub mod Legal
 pub mod EntrySets

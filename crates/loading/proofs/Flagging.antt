@@ -1,25 +1,23 @@
 -- What the writes of the graph and of the flags ask and make. Assumes nothing.
 use mathlib.Core.Path.{_≡_, refl, sym, ap, _∙_}
-use mathlib.Core.Bool.{Bool, true, false, cond, true≢false}
+use mathlib.Core.Bool.{Bool, true, false, true≢false}
 use mathlib.Core.List.{List}
-use Prim.Native.Nat.{ℕ, _+_, _*_, _≤_, _<_}
+use Prim.Native.Nat.{ℕ, _+_, _*_, _≤_}
 use native.Mathlib.Omega.{arith}
 use native.Mathlib.Nat.{zero-add}
-use lib.Dec.{ltb}
 use lib.ListN.{length, getD, set}
 use borrow.Author.Tests.{lt-ltb}
-use Rattle.graphs.specs.Count.{ind}
 use Rattle.graphs.specs.Lists.{below}
-use Rattle.graphs.specs.Tab.{tab, tab-length, tab-at, is-tab}
-use Rattle.graphs.specs.Walk.{cyclic, only}
+use Rattle.graphs.specs.Tab.{tab-at, is-tab}
+use Rattle.graphs.specs.Walk.{cyclic}
 use Rattle.layout.specs.Patch.{patch, part, part-long, part-at}
 use Rattle.node_edges.specs.Matrix.{matrix}
 use Rattle.node_edges.specs.Steps.{CanFill}
 use Rattle.components.specs.Only.{flagged}
 use Rattle.ledger.specs.Graph.{Load}
-use Rattle.move_area.specs.Bodies.{laneAt, atomAt}
+use Rattle.move_area.specs.Bodies.{laneAt}
 use Rattle.move_area.specs.Area.{setsIn}
-use Rattle.move_area.specs.Checked.{nodesIn, Ranged, ranged-placing, sets-length}
+use Rattle.move_area.specs.Checked.{nodesIn, ranged-placing, sets-length}
 use Rattle.consistency.specs.Filled.{CanFillOwn, Filled}
 use Rattle.consistency.specs.Graph.{slotCount, Counted, counted-ends, counted-le}
 use Rattle.loading.specs.Steps.{GraphWritten, componentLane, CanWriteFlags, FlagsWritten}

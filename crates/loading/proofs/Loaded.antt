@@ -1,34 +1,36 @@
 -- The steps of a loading make the area of the first state. Assumes nothing.
-use mathlib.Core.Path.{_≡_, refl, sym, ap, ap₂, subst, _∙_}
+use mathlib.Core.Path.{_≡_, refl, sym, ap, ap₂, _∙_}
 use mathlib.Core.Bool.{Bool, true, false, not}
 use mathlib.Core.List.{List, [], _∷_}
-use Prim.Native.Nat.{ℕ, zero, suc, _+_, _*_, _≤_, _<_}
+use Prim.Native.Nat.{ℕ, _+_, _*_, _≤_}
 use native.Mathlib.Omega.{arith}
 use native.Mathlib.Nat.{zero-add}
 use lib.ListN.{length, getD, set, replicate, length-replicate}
 use Rattle.graphs.specs.Count.{ind}
 use Rattle.graphs.specs.Lists.{below}
 use Rattle.graphs.specs.Slots.{flat, slotEdge}
-use Rattle.graphs.specs.Tab.{tab, tab-length, tab-at, is-tab}
+use Rattle.graphs.specs.Tab.{tab, tab-length, is-tab, zeros, tab-alike}
 use Rattle.graphs.specs.Walk.{cyclic, only}
+use Rattle.graphs.specs.Walks.{acyclic-none}
 use Rattle.layout.specs.Patch.{patch, part, part-long, part-at, part-none, part-more, patch-long, patch-one, patch-append}
 use Rattle.node_edges.specs.Matrix.{matrix}
-use Rattle.ledger.specs.Graph.{Load, at, edge}
+use Rattle.ledger.specs.Graph.{Load, at, edge, members}
 use Rattle.ledger.specs.Loading.{entry-sets}
 use Rattle.ledger.specs.LoadLaws.{Loadable-sets, entry-sets-length}
-use Rattle.ledger.specs.Nodes.{Placing, sources, targets}
+use Rattle.ledger.specs.Nodes.{sources, targets, node-edge}
 use Rattle.ledger.specs.NodeMoves.{placed-first, placing-first}
 use Rattle.ledger.specs.NodeWalks.{cyclic-nodes}
-use Rattle.move_area.specs.Bodies.{laneAt, atomAt, Bodies, write, Sized}
+use Rattle.move_area.specs.Bodies.{laneAt, Bodies, write, Sized}
 use Rattle.move_area.specs.BodyLaws.{write-long, read-registered, read-counter, renew-edges, renew-counts, renew-component, renew-header}
 use Rattle.move_area.specs.Area.{encode}
 use Rattle.move_area.specs.Calls.{first}
-use Rattle.move_area.specs.NodeBodies.{Nodes, nodeEdge, tally, nodeBodies, stateOf, tab-alike, encode-nodes}
+use Rattle.move_area.specs.NodeBodies.{Nodes, nodeBodies, stateOf, encode-nodes}
 use Rattle.consistency.specs.Filled.{Filled}
-use Rattle.consistency.specs.Graph.{Counted, counted-ends, counted-le, counted-flat, counted-edge, counted-cyclic, acyclic-none}
-use Rattle.loading.specs.Start.{bounds, startBodies}
+use Rattle.consistency.specs.Graph.{Counted, counted-ends, counted-le, counted-flat, counted-edge, counted-cyclic}
+use Rattle.consistency.specs.Ranges.{bounds}
+use Rattle.loading.specs.Start.{startBodies}
 use Rattle.loading.specs.Steps.{GraphWritten, componentLane, CanWriteFlags, FlagsWritten, CanLoad}
-use Rattle.loading.proofs.Reading.{same-sets, zeros, room-is, startOf, start-sized, start-long, sets-are, nodes-are}
+use Rattle.loading.proofs.Reading.{same-sets, room-is, startOf, start-sized, start-long, sets-are, nodes-are}
 
 module _ (load : Load) (n : ℕ) (sets l : List ℕ) (r : Loadable-sets load n sets (length l)) where
   abbrev X : List ℕ
@@ -39,7 +41,7 @@ module _ (load : Load) (n : ℕ) (sets l : List ℕ) (r : Loadable-sets load n s
 
   -- the edges of the first placement
   abbrev edges : ℕ → ℕ → Bool
-  edges = nodeEdge load nodes X
+  edges = node-edge load nodes X
 
   long : length X ≡ load .A
   long = entry-sets-length load sets
@@ -59,7 +61,7 @@ module _ (load : Load) (n : ℕ) (sets l : List ℕ) (r : Loadable-sets load n s
         counter = 0;
         acyclic = y;
         words = startOf load n sets l r .words;
-        counts = tab (tally load nodes) n;
+        counts = tab (members load nodes) n;
         marks = replicate n 0;
         component = w;
         nodes = nodes;
@@ -114,7 +116,7 @@ module _ (load : Load) (n : ℕ) (sets l : List ℕ) (r : Loadable-sets load n s
     pub counted : Counted load nodes X s t n m
     counted = record { order = r .loadable .order; placing = placing-first r; few = few; slots = filled .slots; many = g .many }
 
-    counts-are : part 0 n counts ≡ tab (tally load nodes) n
+    counts-are : part 0 n counts ≡ tab (members load nodes) n
     counts-are = is-tab (part 0 n counts) n _ (part-long 0 n counts) (λ x b. part-at 0 n counts x b ∙ ap (λ i. getD counts i 0) (zero-add x) ∙ filled .count-at x b)
 
     matrix-is : matrix s t n m ≡ tab (flat (sources load nodes X) (targets load nodes X) n (load .D + load .E)) (n * n)
@@ -124,8 +126,8 @@ module _ (load : Load) (n : ℕ) (sets l : List ℕ) (r : Loadable-sets load n s
     graph-is : l₂ ≡ write n (graphBodies 0 (replicate n 0)) l
     graph-is =
         g .area ∙ ap₂ (λ (u v : List ℕ). patch 0 u (patch (laneAt n 8) v l₁)) matrix-is counts-are
-        ∙ ap (λ (u : List ℕ). patch 0 M (patch (laneAt n 8) (tab (tally load nodes) n) u)) e₁
-        ∙ ap (patch 0 M) (renew-counts n (load .A) (startOf load n sets l r) (start-sized load n sets l r) l (tab (tally load nodes) n) (tab-length _ n))
+        ∙ ap (λ (u : List ℕ). patch 0 M (patch (laneAt n 8) (tab (members load nodes) n) u)) e₁
+        ∙ ap (patch 0 M) (renew-counts n (load .A) (startOf load n sets l r) (start-sized load n sets l r) l (tab (members load nodes) n) (tab-length _ n))
         ∙ renew-edges n (load .A) _ (record {
           edges = start-sized load n sets l r .edges;
           few = r .loadable .sizes .wide;

@@ -1,42 +1,32 @@
 -- What the start of a loaded area names: the entry sets, and a node of its own for each atom. Assumes nothing.
 use mathlib.Core.Path.{_≡_, refl, sym, ap, subst, _∙_}
-use mathlib.Core.Bool.{Bool, true, false}
-use mathlib.Core.List.{List, [], _∷_}
-use Prim.Native.Nat.{ℕ, zero, suc, _+_, _*_, _^_, _≤_, _<_}
+use mathlib.Core.Bool.{true}
+use mathlib.Core.List.{List}
+use Prim.Native.Nat.{ℕ, _+_, _*_, _^_, _≤_, _<_}
 use native.Mathlib.Omega.{arith}
-use native.Mathlib.Nat.{pow-le-pow-right}
-use lib.ListN.{length, getD, replicate, length-replicate}
+use lib.ListN.{length, getD, length-replicate}
 use borrow.Author.Tests.{eqb-true}
-use Rattle.graphs.specs.Tab.{tab, tab-length, tab-at, is-tab}
+use Rattle.graphs.specs.Tab.{tab, tab-length, tab-at, is-tab, zeros}
 use Rattle.layout.specs.Patch.{part, part-long, part-at}
 use Rattle.entry_set.specs.LaneLaws.{lanes-is}
+use Rattle.entry_set.specs.SetLaws.{below-256}
 use Rattle.ledger.specs.Graph.{Load, at}
 use Rattle.ledger.specs.Loading.{entry-sets}
 use Rattle.ledger.specs.LoadLaws.{Loadable, Loadable-sets, entry-sets-length}
-use Rattle.ledger.specs.Nodes.{Placing}
-use Rattle.ledger.specs.NodeMoves.{placing-first}
-use Rattle.ledger.specs.Sound.{Sound, loading-sound}
+use Rattle.ledger.specs.Sound.{loading-sound}
 use Rattle.move_area.specs.Bodies.{laneAt, atomAt, Bodies, write, Sized}
-use Rattle.move_area.specs.BodyLaws.{write-long, read-registered, read-counter, read-words, read-marks, read-nodes}
+use Rattle.move_area.specs.BodyLaws.{write-long, read-registered, read-words, read-marks, read-nodes}
 use Rattle.move_area.specs.Area.{setsIn}
 use Rattle.move_area.specs.Checked.{nodesIn, Ranged}
 use Rattle.consistency.specs.Filled.{CanFillOwn}
-use Rattle.loading.specs.Start.{bounds, startBodies, CanStart}
-use Rattle.loading.specs.Steps.{LoadRoom, CanLoad}
+use Rattle.consistency.specs.Ranges.{bounds}
+use Rattle.loading.specs.Start.{startBodies, CanStart}
+use Rattle.loading.specs.Steps.{CanLoad}
 
 -- the entry sets are those of the atoms and the entry bits alone
 pub same-sets : (load : Load) (sets : List ℕ) → entry-sets (bounds (load .A) (load .E)) sets ≡ entry-sets load sets
 unfolding entry-sets
 same-sets load sets = refl
-
-below-power : (x e k : ℕ) → x < 2 ^ e → e ≤ k → x < 2 ^ k
-below-power x e k h b = omega (arith, pow-le-pow-right {n = 2} (omega arith) {i = e} {j = k} b)
-
-pub zeros : (n i : ℕ) → _≡_ {A = ℕ} (getD (replicate n 0) i 0) 0
-zeros zero zero = refl
-zeros zero (suc i) = refl
-zeros (suc n) zero = refl
-zeros (suc n) (suc i) = zeros n i
 
 module _ (load : Load) (n : ℕ) (sets l : List ℕ) (r : Loadable-sets load n sets (length l)) where
   pub passes : Loadable load n true (length l)
@@ -74,7 +64,7 @@ module _ (load : Load) (n : ℕ) (sets l : List ℕ) (r : Loadable-sets load n s
     cell b k w h x z = ap (λ (u : List ℕ). getD u (b + x) 0) e ∙ sym (part-at b k (write n startOf l) x z) ∙ ap (λ (u : List ℕ). getD u x 0) h
 
     wide : (x : ℕ) → x < load .A → at (entry-sets load sets) x < 2 ^ 256
-    wide x b = below-power (at (entry-sets load sets) x) (load .E) 256 (loading-sound r .in-range x (omega (arith, long))) (r .loadable .sizes .bits)
+    wide x b = below-256 (r .loadable .sizes .bits) (loading-sound r .in-range x (omega (arith, long)))
 
     pub sets-are : setsIn n l₁ ≡ entry-sets load sets
     unfolding setsIn

@@ -1,11 +1,13 @@
 -- The writes of the start are the fields of an area. Assumes nothing.
 use mathlib.Core.Path.{_≡_, sym, ap, _∙_}
 use mathlib.Core.List.{List, [], _∷_}
-use Prim.Native.Nat.{ℕ, suc, _+_, _*_, _≤_, _<_}
+use Prim.Native.Nat.{ℕ, _+_, _*_, _≤_, _<_}
 use native.Mathlib.Omega.{arith}
-use native.Mathlib.Nat.{mul-le-mul-right, suc-mul}
+use native.Mathlib.Nat.{mul-le-mul-right}
 use lib.ListN.{length, getD, set, length-set, replicate}
-use Rattle.graphs.specs.Tab.{tab}
+use Rattle.consistency.specs.Ranges.{bounds}
+use Rattle.graphs.specs.Tab.{tab, tab-alike}
+use Rattle.graphs.specs.Square.{row-in}
 use Rattle.layout.specs.Patch.{patch, part, part-long, patch-set, patch-none, patch-same}
 use Rattle.layout.specs.Fields.{lay}
 use Rattle.entry_set.specs.Joined.{parts}
@@ -14,8 +16,7 @@ use Rattle.ledger.specs.Graph.{at}
 use Rattle.ledger.specs.Loading.{entry-sets}
 use Rattle.ledger.specs.LoadLaws.{entry-sets-at}
 use Rattle.move_area.specs.Bodies.{laneAt, atomAt, write}
-use Rattle.move_area.specs.NodeBodies.{tab-alike}
-use Rattle.loading.specs.Start.{lentWord, wordFields, bounds, startBodies, CanWords, CanStart}
+use Rattle.loading.specs.Start.{lentWord, wordFields, startBodies, CanWords, CanStart}
 
 -- three numbers set are a patch
 pub set-three : (at x y z : ℕ) (l : List ℕ) → at + 3 ≤ length l → set (set (set l at x) (at + 1) y) (at + 2) z ≡ patch at (x ∷ y ∷ z ∷ []) l
@@ -32,7 +33,7 @@ lane-room {area} {n} can j h = omega (arith, can .room, can .few, mul-le-mul-rig
 
 -- set i is lent
 pub set-room : {area : List ℕ} {n : ℕ} {sets : List ℕ} {w a : ℕ} → CanWords area n sets w a → (i : ℕ) → i < a → i * w + w ≤ length sets
-set-room {area} {n} {sets} {w} {a} can i h = omega (arith, can .lent, suc-mul i w, mul-le-mul-right {m = suc i} {n = a} w (omega arith))
+set-room {area} {n} {sets} {w} {a} can i h = omega (arith, can .lent, row-in a w i h)
 
 -- eight lanes written one after the other
 pub sets-lay : (n w a : ℕ) (sets l₀ : List ℕ) {l₁ l₂ l₃ l₄ l₅ l₆ l₇ l₈ : List ℕ} → l₁ ≡ patch (laneAt n 0) (tab (lentWord w sets 0) a) l₀

@@ -1,14 +1,14 @@
 -- What a loaded area holds before anything is worked out. Assumes nothing.
 use mathlib.Core.Path.{_≡_}
 use mathlib.Core.List.{List, [], _∷_}
-use Prim.Native.Nat.{ℕ, _+_, _*_, _≤_, _<_}
+use Prim.Native.Nat.{ℕ, _+_, _*_, _≤_}
 use lib.ListN.{length, getD, take, drop, replicate}
 use Rattle.graphs.specs.Tab.{tab}
 use Rattle.layout.specs.Patch.{part}
 use Rattle.layout.specs.Fields.{Field, field}
 use Rattle.entry_set.specs.Joined.{parts}
 use Rattle.entry_set.specs.Sets.{value, width}
-use Rattle.ledger.specs.Graph.{Load, at, lent}
+use Rattle.ledger.specs.Graph.{at, lent}
 use Rattle.move_area.specs.Bodies.{laneAt, atomAt, Bodies}
 
 -- word j of set i, of sets of w numbers each
@@ -27,10 +27,6 @@ wordFields n w sets a =
     ∷ field (laneAt n 6) (tab (lentWord w sets 6) a)
     ∷ field (laneAt n 7) (tab (lentWord w sets 7) a)
     ∷ []
-
--- a load of atoms and entry bits alone: the entry sets ask no more
-abbrev pub bounds : ℕ → ℕ → Load
-bounds a e = lent a 0 e [] [] []
 
 -- the header, the sets of a atoms, a node for each atom, and no walk yet; the edges are those of l
 abbrev pub startBodies : ℕ → ℕ → List ℕ → List ℕ → Bodies

@@ -3,12 +3,13 @@ ghost use mathlib.Core.Path.{_≡_};
 ghost use mathlib.Core.List.{[], _∷_};
 ghost use Prim.Native.Nat.{ℕ, _+_, _*_, _≤_, _<_};
 ghost use lib.ListN.{length};
+ghost use Rattle.consistency.specs.Ranges.{bounds};
 ghost use Rattle.graphs.specs.Tab.{tab};
 ghost use Rattle.layout.specs.Patch.{patch};
 ghost use Rattle.layout.specs.Fields.{lay};
 ghost use Rattle.ledger.specs.Loading.{entry-sets};
 ghost use Rattle.move_area.specs.Bodies.{laneAt, write};
-ghost use Rattle.loading.specs.Start.{lentWord, wordFields, bounds, startBodies, CanWords, CanStart};
+ghost use Rattle.loading.specs.Start.{lentWord, wordFields, startBodies, CanWords, CanStart};
 
 // Word j of set i of a list of sets of w numbers each.
 fn lent_word(sets: &[u64], w: usize, i: usize, j: usize) -> u32

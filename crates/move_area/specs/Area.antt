@@ -1,11 +1,11 @@
 -- What a move graph's area holds: the ledger, the walk counter and the walk marks, and what is worked out from them. Assumes nothing.
 use mathlib.Core.Bool.{Bool, not, cond, _&&_}
 use mathlib.Core.List.{List, [], _∷_}
-use Prim.Native.Nat.{ℕ, zero, suc, _+_, _*_, _^_, _/_, _%_}
+use Prim.Native.Nat.{ℕ, suc, _+_, _*_, _^_, _/_, _%_}
 use lib.Dec.{eqb, ltb, leb}
 use lib.ListN.{length, getD}
 use Rattle.graphs.specs.Count.{ind}
-use Rattle.graphs.specs.Lists.{any, all, has, below, some-below}
+use Rattle.graphs.specs.Lists.{all, has, some-below}
 use Rattle.graphs.specs.Tab.{tab}
 use Rattle.graphs.specs.Walk.{cyclic, only}
 use Rattle.layout.specs.Patch.{part}

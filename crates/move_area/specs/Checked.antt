@@ -1,8 +1,8 @@
 -- For the code: an area is consistent exactly where its numbers are those worked out by nodes and slots. Assumes nothing.
 use mathlib.Core.Path.{_≡_, refl, sym, ap, subst, _∙_}
-use mathlib.Core.Bool.{Bool, true, false, not}
+use mathlib.Core.Bool.{true, not}
 use mathlib.Core.List.{List}
-use Prim.Native.Nat.{ℕ, zero, suc, _+_, _*_, _^_, _≤_, _<_}
+use Prim.Native.Nat.{ℕ, _+_, _*_, _^_, _≤_, _<_}
 use native.Mathlib.Omega.{arith}
 use native.Mathlib.Nat.{zero-add}
 use lib.ListN.{length, getD}
@@ -16,16 +16,16 @@ use Rattle.layout.specs.Patch.{part, part-long, part-at}
 use Rattle.entry_set.specs.Joined.{parts}
 use Rattle.entry_set.specs.Lanes.{lanes}
 use Rattle.entry_set.specs.LaneLaws.{lanes-word}
-use Rattle.ledger.specs.Graph.{Load, at}
+use Rattle.ledger.specs.Graph.{Load, at, members}
 use Rattle.ledger.specs.LoadLaws.{InOrder}
-use Rattle.ledger.specs.Nodes.{placed, Placing, sources, targets}
+use Rattle.ledger.specs.Nodes.{Placing, sources, targets, node-edge}
 use Rattle.ledger.specs.NodeLaws.{placed-length, placed-at}
-use Rattle.move_area.specs.Bodies.{laneAt, atomAt, Bodies, write, Sized}
+use Rattle.move_area.specs.Bodies.{laneAt, atomAt, write, Sized}
 use Rattle.move_area.specs.BodyLaws.{write-same, read-edges, read-acyclic, read-counts, read-component, read-nodes}
 use Rattle.move_area.specs.Area.{index, bodies, encode, setsIn, decode, in-order, consistent}
 use Rattle.move_area.specs.ListLaws.{one-alike, Distinct, one-place, index-has}
 use Rattle.move_area.specs.Held.{Held, held-in-order, held-distinct, bodies-sized, consistent-held, consistent-whole}
-use Rattle.move_area.specs.NodeBodies.{Nodes, nodeEdge, tally, nodeBodies, stateOf, bodies-nodes, encode-nodes}
+use Rattle.move_area.specs.NodeBodies.{Nodes, nodeBodies, stateOf, bodies-nodes, encode-nodes}
 
 -- each atom's node
 abbrev pub nodesIn : Load → ℕ → List ℕ → List ℕ
@@ -46,11 +46,11 @@ pub record Ranged (load : Load) (N : ℕ) (area : List ℕ) : Type 0 where
 
 -- and the rest is what is worked out
 pub record Worked (load : Load) (N : ℕ) (area : List ℕ) : Type 0 where
-  pub counts : (x : ℕ) → x < N → getD area (laneAt N 8 + x) 0 ≡ tally load (nodesIn load N area) x
+  pub counts : (x : ℕ) → x < N → getD area (laneAt N 8 + x) 0 ≡ members load (nodesIn load N area) x
   pub edges : (i : ℕ) → i < N * N
       → getD area i 0 ≡ flat (sources load (nodesIn load N area) (setsIn N area)) (targets load (nodesIn load N area) (setsIn N area)) N (load .D + load .E) i
-  pub acyclic : getD area (N * N + 2) 0 ≡ ind (not (cyclic (nodeEdge load (nodesIn load N area) (setsIn N area)) (below N)))
-  pub component : (x : ℕ) → x < N → getD area (laneAt N 10 + x) 0 ≡ ind (only (nodeEdge load (nodesIn load N area) (setsIn N area)) (below N) x)
+  pub acyclic : getD area (N * N + 2) 0 ≡ ind (not (cyclic (node-edge load (nodesIn load N area) (setsIn N area)) (below N)))
+  pub component : (x : ℕ) → x < N → getD area (laneAt N 10 + x) 0 ≡ ind (only (node-edge load (nodesIn load N area) (setsIn N area)) (below N) x)
 
 pub sets-length : (N : ℕ) (area : List ℕ) → length (setsIn N area) ≡ getD area (N * N) 0
 unfolding setsIn

@@ -1,11 +1,10 @@
 -- The states that an area can hold, and that each is read back from its area. Assumes nothing.
-use mathlib.Core.Path.{_≡_, refl, sym, ap, ap₂, subst, _∙_}
-use mathlib.Core.Bool.{Bool, true, false, not, cond, _&&_}
-use mathlib.Core.List.{List, [], _∷_}
-use Prim.Native.Nat.{ℕ, zero, suc, _+_, _*_, _^_, _≤_, _<_}
+use mathlib.Core.Path.{_≡_, refl, sym, ap, subst, _∙_}
+use mathlib.Core.Bool.{Bool, true, _&&_}
+use mathlib.Core.List.{List}
+use Prim.Native.Nat.{ℕ, _+_, _*_, _^_, _≤_, _<_}
 use native.Mathlib.Omega.{arith}
-use native.Mathlib.Nat.{pow-le-pow-right}
-use lib.Dec.{eqb, ltb, leb}
+use lib.Dec.{ltb, leb}
 use lib.ListN.{length, getD}
 use lib.Seq.{ext-getD}
 use borrow.Author.Tests.{ltb-true, lt-ltb, leb-true, le-leb}
@@ -14,20 +13,16 @@ use Rattle.graphs.specs.Lists.{all, has, all-take, all-give, has-at, has-place}
 use Rattle.graphs.specs.Tab.{tab, tab-length, tab-at, is-tab}
 use Rattle.layout.specs.Patch.{part, part-long, part-at}
 use Rattle.entry_set.specs.Joined.{parts}
-use Rattle.entry_set.specs.Lanes.{lanes}
 use Rattle.entry_set.specs.LaneLaws.{lanes-is}
-use Rattle.ledger.specs.Graph.{Load, at, members}
-use Rattle.ledger.specs.Ledger.{Ledger}
+use Rattle.entry_set.specs.SetLaws.{below-256}
+use Rattle.ledger.specs.Graph.{Load, at}
 use Rattle.ledger.specs.Sound.{Sound}
 use Rattle.ledger.specs.Nodes.{placed}
 use Rattle.ledger.specs.NodeLaws.{placed-length, placed-at}
-use Rattle.move_area.specs.Bodies.{laneAt, atomAt, Bodies, write, Sized}
-use Rattle.move_area.specs.BodyLaws.{write-long, fields-fit, read-registered, read-counter, read-words, read-marks, read-nodes, write-again}
-use Rattle.move_area.specs.Area.{State, index, bodies, encode, setsIn, decode, distinct, in-order, alike-lists, consistent}
+use Rattle.move_area.specs.Bodies.{laneAt, atomAt, Sized}
+use Rattle.move_area.specs.BodyLaws.{write-long, read-registered, read-counter, read-words, read-marks, read-nodes, write-again}
+use Rattle.move_area.specs.Area.{State, index, bodies, encode, setsIn, decode, distinct, in-order, consistent}
 use Rattle.move_area.specs.ListLaws.{alike-one, one-alike, Distinct, distinct-apart, apart-distinct, index-has}
-
-below-power : (x e k : ℕ) → x < 2 ^ e → e ≤ k → x < 2 ^ k
-below-power x e k h b = omega (arith, pow-le-pow-right {n = 2} (omega arith) {i = e} {j = k} b)
 
 -- a state that an area can hold
 pub record Held (load : Load) (N : ℕ) (st : State) : Type 0 where
@@ -120,7 +115,7 @@ module _ (load : Load) (N : ℕ) (st : State) (h : Held load N st) (l : List ℕ
     sets = st .ledger .registered
 
     wide : (x : ℕ) → x < length sets → at sets x < 2 ^ 256
-    wide x b = below-power (at sets x) (load .E) 256 (h .sound .in-range x b) bits
+    wide x b = below-256 bits (h .sound .in-range x b)
 
     word : (x : ℕ) → x < length sets → (j : ℕ) → j < 8 → getD (encode load N st l) (laneAt N 0 + x + j * N) 0 ≡ getD (parts 32 8 (at sets x)) j 0
     unfolding encode bodies tab

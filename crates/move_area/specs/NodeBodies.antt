@@ -1,26 +1,26 @@
 -- For the code: what an area holds, worked out by node numbers and edge slots. Assumes nothing.
-use mathlib.Core.Path.{_≡_, refl, sym, ap, ap₂, _∙_}
-use mathlib.Core.Bool.{Bool, true, false, not, cond, _&&_}
+use mathlib.Core.Path.{_≡_, refl, sym, ap, _∙_}
+use mathlib.Core.Bool.{not}
 use mathlib.Core.List.{List}
-use Prim.Native.Nat.{ℕ, zero, suc, _+_, _*_, _/_, _%_, _≤_, _<_}
+use Prim.Native.Nat.{ℕ, _+_, _*_, _/_, _%_, _≤_, _<_}
 use native.Mathlib.Omega.{arith}
 use native.Mathlib.Decide.{decLt}
-use native.Mathlib.Nat.{div-add-mod', div-lt-iff-lt-mul, mod-lt}
-use lib.Dec.{eqb, ltb}
+use native.Mathlib.Nat.{div-add-mod', mod-lt}
 use lib.ListN.{length, getD}
 use borrow.Author.Tests.{lt-ltb, le-ltb, ne-eqb}
-use Rattle.graphs.specs.Count.{ind, count, count-all-no}
+use Rattle.graphs.specs.Count.{ind, count-all-no}
 use Rattle.graphs.specs.Lists.{below}
-use Rattle.graphs.specs.Tab.{tab, tab-length, tab-at, is-tab}
+use Rattle.graphs.specs.Tab.{tab, is-tab, tab-alike}
 use Rattle.graphs.specs.Walk.{cyclic, only}
-use Rattle.graphs.specs.Slots.{flat, slotEdge}
+use Rattle.graphs.specs.Slots.{flat}
 use Rattle.graphs.specs.Slots as slots
 use Rattle.graphs.specs.SlotLaws.{flat-mult}
+use Rattle.graphs.specs.Square.{square-some}
 use Rattle.entry_set.specs.Joined.{parts}
 use Rattle.ledger.specs.Graph.{Load, at, members, mult, edge}
 use Rattle.ledger.specs.LoadLaws.{InOrder}
-use Rattle.ledger.specs.Nodes.{placed, Placing, sources, targets}
-use Rattle.ledger.specs.NodeLaws.{placed-length, placed-at, members-nodes}
+use Rattle.ledger.specs.Nodes.{placed, Placing, sources, targets, node-edge}
+use Rattle.ledger.specs.NodeLaws.{placed-at, members-nodes}
 use Rattle.ledger.specs.NodeWalks.{mult-nodes, mult-outside, ends-nodes, cyclic-nodes, only-nodes, only-outside}
 use Rattle.move_area.specs.Bodies.{Bodies, write}
 use Rattle.move_area.specs.Area.{State, index, square, nodewise, bodies, encode}
@@ -33,34 +33,23 @@ pub record Nodes : Type 0 where
   pub counter : ℕ
   pub marks : List ℕ
 
--- the edges between nodes
-abbrev pub nodeEdge : Load → List ℕ → List ℕ → ℕ → ℕ → Bool
-nodeEdge load nodes sets = slotEdge (sources load nodes sets) (targets load nodes sets) (load .D + load .E)
-
--- how many atoms node x has
-abbrev pub tally : Load → List ℕ → ℕ → ℕ
-tally load nodes x = count (λ i. eqb (at nodes i) x) (load .A)
-
 unfoldable pub nodeBodies : Load → ℕ → Nodes → Bodies
 nodeBodies load N s =
     record {
       edges = tab (flat (sources load (s .nodes) (s .sets)) (targets load (s .nodes) (s .sets)) N (load .D + load .E)) (N * N);
       registered = length (s .sets);
       counter = s .counter;
-      acyclic = ind (not (cyclic (nodeEdge load (s .nodes) (s .sets)) (below N)));
+      acyclic = ind (not (cyclic (node-edge load (s .nodes) (s .sets)) (below N)));
       words = λ j. tab (λ x. getD (parts 32 8 (at (s .sets) x)) j 0) (length (s .sets));
-      counts = tab (tally load (s .nodes)) N;
+      counts = tab (members load (s .nodes)) N;
       marks = s .marks;
-      component = tab (λ x. ind (only (nodeEdge load (s .nodes) (s .sets)) (below N) x)) N;
+      component = tab (λ x. ind (only (node-edge load (s .nodes) (s .sets)) (below N) x)) N;
       nodes = s .nodes;
     }
 
 -- the same state by sets
 abbrev pub stateOf : Nodes → State
 stateOf s = record { ledger = record { place = placed (s .nodes) (s .sets); registered = s .sets }; counter = s .counter; marks = s .marks }
-
-pub tab-alike : (f g : ℕ → ℕ) (n : ℕ) → ((k : ℕ) → k < n → f k ≡ g k) → tab f n ≡ tab g n
-tab-alike f g n h = is-tab (tab f n) n g (tab-length f n) (λ k b. tab-at f n k b ∙ h k b)
 
 module _ (load : Load) (N : ℕ) (s : Nodes) (o : InOrder load) (p : Placing load (s .nodes) (s .sets)) (few : length (s .sets) ≤ N) where
   inside : (f : ℕ → ℕ) (x : ℕ) → x < length (s .sets) → nodewise (s .sets) f x ≡ f (at (s .sets) x)
@@ -96,11 +85,7 @@ module _ (load : Load) (N : ℕ) (s : Nodes) (o : InOrder load) (p : Placing loa
       m = load .D + load .E
 
       wide : 0 < N
-      wide = go N b
-        where
-          go : (k : ℕ) → i < k * k → 0 < k
-          go zero h = absurd (omega arith)
-          go (suc k) h = omega arith
+      wide = square-some N i b
 
   nodes-alike : tab (λ i. index (at (placed (s .nodes) (s .sets)) i) (s .sets)) (load .A) ≡ s .nodes
   nodes-alike =
@@ -114,18 +99,18 @@ module _ (load : Load) (N : ℕ) (s : Nodes) (o : InOrder load) (p : Placing loa
       ≡ tab (flat (sources load (s .nodes) (s .sets)) (targets load (s .nodes) (s .sets)) N (load .D + load .E)) (N * N)
   edges-one = tab-alike _ _ (N * N) edges-alike
 
-  counts-one : tab (nodewise (s .sets) (members load (placed (s .nodes) (s .sets)))) N ≡ tab (tally load (s .nodes)) N
+  counts-one : tab (nodewise (s .sets) (members load (placed (s .nodes) (s .sets)))) N ≡ tab (members load (s .nodes)) N
   unfolding members
-  counts-one = tab-alike _ _ N (λ x b. nodewise-is (members load (placed (s .nodes) (s .sets))) (tally load (s .nodes)) (λ x c. sym (members-nodes p x c)) none x)
+  counts-one = tab-alike _ _ N (λ x b. nodewise-is (members load (placed (s .nodes) (s .sets))) (members load (s .nodes)) (λ x c. sym (members-nodes p x c)) none x)
     where
-      none : (x : ℕ) → length (s .sets) ≤ x → tally load (s .nodes) x ≡ 0
+      none : (x : ℕ) → length (s .sets) ≤ x → members load (s .nodes) x ≡ 0
       none x c = count-all-no _ (load .A) (λ i b. ne-eqb (at (s .nodes) i) x (λ e. omega (arith, p .inside i b)))
 
   component-one : tab (nodewise (s .sets) (λ X. ind (only (edge load (placed (s .nodes) (s .sets))) (placed (s .nodes) (s .sets)) X))) N
-      ≡ tab (λ x. ind (only (nodeEdge load (s .nodes) (s .sets)) (below N) x)) N
+      ≡ tab (λ x. ind (only (node-edge load (s .nodes) (s .sets)) (below N) x)) N
   component-one =
       tab-alike _ _ N (λ x b.
-      nodewise-is (λ X. ind (only (edge load (placed (s .nodes) (s .sets))) (placed (s .nodes) (s .sets)) X)) (λ x. ind (only (nodeEdge load (s .nodes) (s .sets)) (below N) x))
+      nodewise-is (λ X. ind (only (edge load (placed (s .nodes) (s .sets))) (placed (s .nodes) (s .sets)) X)) (λ x. ind (only (node-edge load (s .nodes) (s .sets)) (below N) x))
       (λ x c. ap ind (sym (only-nodes o p N few x c))) (λ x c. ap ind (only-outside o p N few x c)) x)
 
   pub bodies-nodes : bodies load N (stateOf s) ≡ nodeBodies load N s

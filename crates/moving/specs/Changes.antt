@@ -1,24 +1,24 @@
 -- An area that holds a state holds the next one after each step's writing: the counter, the marks, an accepted move. Assumes nothing.
 use mathlib.Core.Path.{_≡_, refl, sym, ap, subst, _∙_}
-use mathlib.Core.Bool.{Bool, true, false, cond, true≢false}
+use mathlib.Core.Bool.{Bool, true, false, cond}
 use mathlib.Core.List.{List}
 use Prim.Native.Nat.{ℕ, _+_, _*_, _≤_, _<_}
 use native.Mathlib.Omega.{arith}
 use lib.ListN.{length, set, replicate, length-set, length-replicate, getD-replicate}
-use Rattle.graphs.specs.Bools.{fails, and-left}
 use Rattle.graphs.specs.Count.{ind}
-use Rattle.graphs.specs.Lists.{below, has-below, any-give}
+use Rattle.graphs.specs.Lists.{below}
 use Rattle.graphs.specs.Tab.{tab, tab-length, is-tab}
-use Rattle.graphs.specs.Walk.{via, cyclic, only}
+use Rattle.graphs.specs.Walk.{cyclic, only}
+use Rattle.graphs.specs.Walks.{acyclic-none}
 use Rattle.layout.specs.Patch.{patch, part, is-part, patch-same, patch-cell}
 use Rattle.node_edges.specs.Matrix.{matrix, matrix-long}
-use Rattle.ledger.specs.Graph.{Load, at}
-use Rattle.ledger.specs.Nodes.{sources, targets}
+use Rattle.ledger.specs.Graph.{Load, at, members}
+use Rattle.ledger.specs.Nodes.{sources, targets, node-edge}
 use Rattle.ledger.specs.NodeMoves.{placing-set}
 use Rattle.move_area.specs.Bodies.{laneAt, atomAt, Bodies, header, write, Sized}
 use Rattle.move_area.specs.BodyLaws.{write-long, read-header, read-nodes, renew-edges, renew-counts, renew-marks, renew-component, renew-nodes, renew-header}
 use Rattle.move_area.specs.Calls.{last, next}
-use Rattle.move_area.specs.NodeBodies.{Nodes, nodeEdge, tally, nodeBodies}
+use Rattle.move_area.specs.NodeBodies.{Nodes, nodeBodies}
 use Rattle.moving.specs.Stands.{Stands, stands-sized, counter-at}
 use Rattle.moving.specs.Areas.{raised, committed}
 
@@ -104,14 +104,9 @@ raised-fresh {load} {N} {s} v x h = rw (v .long) (go (last (s .counter)))
     go true = rw (getD-replicate {A = ℕ} N x 0 0 h) (omega arith)
     go false = omega (arith, v .marks x h)
 
--- a graph without a cycle has no component
-none-only : (e : ℕ → ℕ → Bool) (n : ℕ) → cyclic e (below n) ≡ false → (x : ℕ) → x < n → only e (below n) x ≡ false
-unfolding cyclic only
-none-only e n q x h = fails _ (λ z. true≢false (sym (any-give (λ x. via e (below n) x x) (below n) x (has-below x n h) (and-left (via e (below n) x x) _ z)) ∙ q))
-
 -- an accepted move: atom a in node y, where the moved graph has no cycle
 module _ {load : Load} {N : ℕ} {s : Nodes} {l₀ l : List ℕ} (v : Stands load N s l₀ l) (a y : ℕ) (ha : a < load .A) (hy : y < length (s .sets))
-    (free : cyclic (nodeEdge load (set (s .nodes) a y) (s .sets)) (below N) ≡ false) where
+    (free : cyclic (node-edge load (set (s .nodes) a y) (s .sets)) (below N) ≡ false) where
   abbrev moved : List ℕ
   moved = set (s .nodes) a y
 
@@ -119,7 +114,7 @@ module _ {load : Load} {N : ℕ} {s : Nodes} {l₀ l : List ℕ} (v : Stands loa
   edges = matrix (sources load moved (s .sets)) (targets load moved (s .sets)) N (load .D + load .E)
 
   abbrev counts : List ℕ
-  counts = tab (tally load moved) N
+  counts = tab (members load moved) N
 
   abbrev b₀ : Bodies
   b₀ = nodeBodies load N s
@@ -141,7 +136,7 @@ module _ {load : Load} {N : ℕ} {s : Nodes} {l₀ l : List ℕ} (v : Stands loa
   chain =
       let z = stands-sized v in
       let le = matrix-long (sources load moved (s .sets)) (targets load moved (s .sets)) N (load .D + load .E) in
-      let lc = tab-length (tally load moved) N in
+      let lc = tab-length (members load moved) N in
       let z₁ = sized edges (b₀ .counts) (b₀ .nodes) (b₀ .acyclic) (b₀ .component) le (z .counts) (z .nodes) (z .component) in
       let z₂ = sized edges counts (b₀ .nodes) (b₀ .acyclic) (b₀ .component) le lc (z .nodes) (z .component) in
       let z₃ = sized edges counts moved (b₀ .acyclic) (b₀ .component) le lc placed-long (z .component) in
@@ -156,8 +151,8 @@ module _ {load : Load} {N : ℕ} {s : Nodes} {l₀ l : List ℕ} (v : Stands loa
   unfolding nodeBodies matrix
   done = rw (free, none) refl
     where
-      none : replicate N 0 ≡ tab (λ x. ind (only (nodeEdge load (set (s .nodes) a y) (s .sets)) (below N) x)) N
-      none = is-tab (replicate N 0) N _ (length-replicate N 0) (λ x h. getD-replicate {A = ℕ} N x 0 0 h ∙ sym (ap ind (none-only _ N free x h)))
+      none : replicate N 0 ≡ tab (λ x. ind (only (node-edge load (set (s .nodes) a y) (s .sets)) (below N) x)) N
+      none = is-tab (replicate N 0) N _ (length-replicate N 0) (λ x h. getD-replicate {A = ℕ} N x 0 0 h ∙ sym (ap ind (acyclic-none _ N x free h)))
 
   pub stands-committed : Stands load N (with-node s a y) l₀ (committed N edges counts a y l)
   stands-committed =

@@ -16,12 +16,12 @@ use Rattle.entry_set.specs.Lanes.{lanes}
 use Rattle.ledger.specs.Graph.{Load, at}
 use Rattle.ledger.specs.Ledger.{register, step1, full}
 use Rattle.ledger.specs.MoveLaws.{register-old, register-new}
-use Rattle.ledger.specs.Nodes.{placed}
+use Rattle.ledger.specs.Nodes.{placed, node-edge}
 use Rattle.ledger.specs.NodeMoves.{step1-nodes}
 use Rattle.ledger.specs.Sound.{snoc-new, snoc-length}
 use Rattle.set_order.specs.Order.{laneSet, First}
 use Rattle.move_area.specs.Bodies.{laneAt, atomAt}
-use Rattle.move_area.specs.NodeBodies.{Nodes, nodeEdge}
+use Rattle.move_area.specs.NodeBodies.{Nodes}
 use Rattle.moving.specs.Stands.{Stands, acyclic-at, component-at, node-at, set-at}
 use Rattle.moving.specs.Settle.{flag-tells}
 
@@ -51,8 +51,8 @@ module _ {load : Load} {N : ℕ} {s : Nodes} {l₀ l : List ℕ} (v : Stands loa
       let q : x ≡ at (s .nodes) a = e ∙ node-at v a h in
       let b : x < N = omega (arith, v .placing .inside a h, v .few) in
       ap₂ (λ i j. eqb i 0 && eqb j 0) (acyclic-at v) (component-at v x b)
-      ∙ ap₂ _&&_ (flag-tells (cyclic (nodeEdge load (s .nodes) (s .sets)) (below N))) (flag-none (only (nodeEdge load (s .nodes) (s .sets)) (below N) x))
-      ∙ ap (λ i. cyclic (nodeEdge load (s .nodes) (s .sets)) (below N) && not (only (nodeEdge load (s .nodes) (s .sets)) (below N) i)) q
+      ∙ ap₂ _&&_ (flag-tells (cyclic (node-edge load (s .nodes) (s .sets)) (below N))) (flag-none (only (node-edge load (s .nodes) (s .sets)) (below N) x))
+      ∙ ap (λ i. cyclic (node-edge load (s .nodes) (s .sets)) (below N) && not (only (node-edge load (s .nodes) (s .sets)) (below N) i)) q
       ∙ sym (step1-nodes (v .order) (v .placing) a N h (v .few))
 
   -- the target's node y among the registered ones

@@ -10,7 +10,7 @@ use lib.ListN.{length, getD, set, replicate, length-replicate, getD-replicate}
 use borrow.Author.Tests.{lt-ltb, le-ltb, lt-leb}
 use Rattle.graphs.specs.Bools.{fails}
 use Rattle.graphs.specs.Lists.{has, below}
-use Rattle.graphs.specs.Tab.{tab}
+use Rattle.graphs.specs.Tab.{tab, tab-alike}
 use Rattle.graphs.specs.Walk.{via, cyclic}
 use Rattle.graphs.specs.Walks.{sound, walk-to}
 use Rattle.walks.specs.Marks.{marking, marked}
@@ -20,13 +20,13 @@ use Rattle.ledger.specs.Answer.{refused, accepted, rejected}
 use Rattle.ledger.specs.Ledger.{Ledger, gives, register, step1, step2, step3, full, move}
 use Rattle.ledger.specs.MoveLaws.{register-old, register-new}
 use Rattle.ledger.specs.LoadLaws.{InOrder}
-use Rattle.ledger.specs.Nodes.{placed, Placing}
+use Rattle.ledger.specs.Nodes.{placed, Placing, node-edge}
 use Rattle.ledger.specs.NodeWalks.{cyclic-nodes, edge-inside}
 use Rattle.ledger.specs.NodeMoves.{register-grows, placed-register, placing-moved, placed-moved, moved-cyclic, moved-reaches, moved-decides}
 use Rattle.ledger.specs.Sound.{room-free}
 use Rattle.move_area.specs.Area.{State}
 use Rattle.move_area.specs.Calls.{tried, last, next, marks-for, walked, after}
-use Rattle.move_area.specs.NodeBodies.{Nodes, nodeEdge, stateOf, tab-alike}
+use Rattle.move_area.specs.NodeBodies.{Nodes, stateOf}
 use Rattle.moving.specs.Stands.{Stands}
 use Rattle.moving.specs.Changes.{with-node, with-raised}
 use Rattle.moving.specs.Registering.{stands-registered}
@@ -51,7 +51,7 @@ stands-target {load} {N} {s} {l₀} {l} v T q wide = go (has T (s .sets)) refl
 
 -- the marks after the walk from node y, with atom a there
 abbrev pub walk-marks : Load → ℕ → Nodes → ℕ → ℕ → List ℕ
-walk-marks load N s a y = marked (nodeEdge load (set (s .nodes) a y) (s .sets)) N (next (s .counter)) y (with-raised s .marks)
+walk-marks load N s a y = marked (node-edge load (set (s .nodes) a y) (s .sets)) N (next (s .counter)) y (with-raised s .marks)
 
 -- the state after the test of step 3: the walk is made where the graph had no cycle
 abbrev pub with-test : Load → ℕ → Nodes → ℕ → ℕ → Bool → Nodes
@@ -84,7 +84,7 @@ module _ {load : Load} {N : ℕ} {s : Nodes} {a T y : ℕ} (v : Trial load N s a
   m = marks-for (s .sets) T (s .marks)
 
   abbrev E : ℕ → ℕ → Bool
-  E = nodeEdge load (set (s .nodes) a y) sets′
+  E = node-edge load (set (s .nodes) a y) sets′
 
   few : length sets′ ≤ none
   few = omega (arith, v .wide, v .small)
@@ -114,14 +114,14 @@ module _ {load : Load} {N : ℕ} {s : Nodes} {a T y : ℕ} (v : Trial load N s a
   room : length (s .sets) ≤ N
   room = omega (arith, register-grows T (s .sets), v .wide)
 
-  before : cyclic (nodeEdge load (s .nodes) (s .sets)) (below N) ≡ cyclic (edge load place) place
+  before : cyclic (node-edge load (s .nodes) (s .sets)) (below N) ≡ cyclic (edge load place) place
   before = cyclic-nodes (v .order) (v .placing) N room
 
   -- step 3's test
   pub test-cyclic : cyclic (edge load (set place a T)) (set place a T) ≡ cyclic E (below N)
   test-cyclic = moved-cyclic (v .order) (v .placing) a T y few (v .node) (v .set) N (v .wide)
 
-  pub test-walk : cyclic (nodeEdge load (s .nodes) (s .sets)) (below N) ≡ false → cyclic E (below N) ≡ via E (below N) y y
+  pub test-walk : cyclic (node-edge load (s .nodes) (s .sets)) (below N) ≡ false → cyclic E (below N) ≡ via E (below N) y y
   test-walk h =
       sym test-cyclic
       ∙ moved-decides (v .order) (v .placing) a T y few (v .node) (v .set) N (v .wide) (v .atom) (sym before ∙ h)
@@ -141,20 +141,20 @@ module _ {load : Load} {N : ℕ} {s : Nodes} {a T y : ℕ} (v : Trial load N s a
     by-sets : after load N (stateOf s) a w
         ≡ record {
           ledger = move load N (ledgerOf s) a w .after;
-          counter = cond (cyclic (nodeEdge load (s .nodes) (s .sets)) (below N)) (s .counter) (next (s .counter));
-          marks = cond (cyclic (nodeEdge load (s .nodes) (s .sets)) (below N)) m (walk-marks load N (with-target s T) a y);
+          counter = cond (cyclic (node-edge load (s .nodes) (s .sets)) (below N)) (s .counter) (next (s .counter));
+          marks = cond (cyclic (node-edge load (s .nodes) (s .sets)) (below N)) m (walk-marks load N (with-target s T) a y);
         }
     unfolding after
     by-sets = rw (is-tried, is, before, walked-nodes) refl
 
     -- rejected: the target is registered
     pub trial-rejected : cyclic E (below N) ≡ true
-        → (move load N (ledgerOf s) a w .answer ≡ rejected) × (after load N (stateOf s) a w ≡ stateOf (with-test load N (with-target s T) a y (cyclic (nodeEdge load (s .nodes) (s .sets)) (below N))))
+        → (move load N (ledgerOf s) a w .answer ≡ rejected) × (after load N (stateOf s) a w ≡ stateOf (with-test load N (with-target s T) a y (cyclic (node-edge load (s .nodes) (s .sets)) (below N))))
     trial-rejected q = (rw (late, q) refl, by-sets ∙ rw (late, q, placed-register (v .placing) T) refl)
 
     -- accepted: and the atom moved
     pub trial-accepted : cyclic E (below N) ≡ false
-        → (move load N (ledgerOf s) a w .answer ≡ accepted) × (after load N (stateOf s) a w ≡ stateOf (with-node (with-test load N (with-target s T) a y (cyclic (nodeEdge load (s .nodes) (s .sets)) (below N))) a y))
+        → (move load N (ledgerOf s) a w .answer ≡ accepted) × (after load N (stateOf s) a w ≡ stateOf (with-node (with-test load N (with-target s T) a y (cyclic (node-edge load (s .nodes) (s .sets)) (below N))) a y))
     trial-accepted q = (rw (late, q) refl, by-sets ∙ rw (late, q, moved) refl)
       where
         moved : placed (set (s .nodes) a y) sets′ ≡ set place a T

@@ -1,10 +1,10 @@
 -- Registering a set: an area that holds a state holds it with one registered set more. Assumes nothing.
 use mathlib.Core.Path.{_≡_, refl, sym, ap, subst, _∙_}
-use mathlib.Core.Bool.{Bool, true, false, cond, _&&_}
+use mathlib.Core.Bool.{Bool, true, false, cond, and-false}
 use mathlib.Core.List.{List, [], _∷_, _++_}
-use Prim.Native.Nat.{ℕ, zero, suc, _+_, _-_, _*_, _^_, _≤_, _<_}
+use Prim.Native.Nat.{ℕ, _+_, _-_, _*_, _^_, _≤_, _<_}
 use native.Mathlib.Omega.{arith}
-use native.Mathlib.Nat.{zero-add, mul-le-mul-right, suc-mul}
+use native.Mathlib.Nat.{zero-add, mul-le-mul-right}
 use native.Mathlib.Decide.{ℕ-discrete, decLt}
 use lib.Dec.{eqb, ltb}
 use lib.ListN.{length, getD, set, length-set}
@@ -12,7 +12,8 @@ use lib.Seq.{getD-set-same, getD-set-other, ext-getD}
 use borrow.Author.Tests.{ne-eqb}
 use Rattle.graphs.specs.Count.{count-all-no}
 use Rattle.graphs.specs.Lists.{has}
-use Rattle.graphs.specs.Tab.{tab, tab-length, tab-at, is-tab}
+use Rattle.graphs.specs.Tab.{tab, tab-length, tab-at, is-tab, tab-alike}
+use Rattle.graphs.specs.Square.{index-column}
 use Rattle.layout.specs.Patch.{part, part-long, part-at}
 use Rattle.entry_set.specs.Joined.{parts}
 use Rattle.entry_set.specs.JoinedLaws.{length-parts}
@@ -22,11 +23,11 @@ use Rattle.ledger.specs.Graph.{Load, at, owner, members}
 use Rattle.ledger.specs.Ledger.{register}
 use Rattle.ledger.specs.MoveLaws.{register-old, register-new}
 use Rattle.ledger.specs.Nodes.{Placing, highest, fronts, front, face-source, face-target, source, target, sources, targets}
-use Rattle.ledger.specs.NodeLaws.{highest-more}
+use Rattle.ledger.specs.NodeLaws.{highest-more, highest-ext}
 use Rattle.ledger.specs.NodeMoves.{placing-register}
 use Rattle.ledger.specs.Sound.{snoc-old, snoc-new, snoc-length}
 use Rattle.move_area.specs.Bodies.{laneAt, atomAt, Bodies, write, Sized}
-use Rattle.move_area.specs.NodeBodies.{Nodes, nodeBodies, tab-alike}
+use Rattle.move_area.specs.NodeBodies.{Nodes, nodeBodies}
 use Rattle.moving.specs.Stands.{Stands, nodes-sized, stands-sized, stands-long, counter-at, acyclic-at, edge-at, word-at, count-at, mark-at, component-at, node-at}
 use Rattle.moving.specs.Areas.{registered}
 use Rattle.moving.specs.Grown.{Free, is-write}
@@ -35,16 +36,7 @@ use Rattle.moving.specs.Grown.{Free, is-write}
 module _ {load : Load} {nodes sets : List ℕ} (p : Placing load nodes sets) (T : ℕ) where
   empty : (e : ℕ) → fronts load nodes (sets ++ T ∷ []) e (length sets) ≡ false
   unfolding members
-  empty e = rw (count-all-no (λ i. eqb (at nodes i) (length sets)) (load .A) (λ i b. ne-eqb (at nodes i) (length sets) (λ q. omega (arith, p .inside i b)))) (both (eqb (at (sets ++ T ∷ []) (length sets)) (2 ^ e)))
-    where
-      both : (t : Bool) → (t && false) ≡ false
-      both true = refl
-      both false = refl
-
-  highest-ext : (f g : ℕ → Bool) (n : ℕ) → ((x : ℕ) → x < n → f x ≡ g x) → highest f n ≡ highest g n
-  unfolding highest
-  highest-ext f g zero h = refl
-  highest-ext f g (suc n) h = rw (h n (omega arith), highest-ext f g n (λ x z. h x (omega arith))) refl
+  empty e = rw (count-all-no (λ i. eqb (at nodes i) (length sets)) (load .A) (λ i b. ne-eqb (at nodes i) (length sets) (λ q. omega (arith, p .inside i b)))) (and-false (eqb (at (sets ++ T ∷ []) (length sets)) (2 ^ e)))
 
   front-more : (e : ℕ) → front load nodes (sets ++ T ∷ []) e ≡ front load nodes sets e
   unfolding front
@@ -82,12 +74,7 @@ module _ {load : Load} {nodes sets : List ℕ} (p : Placing load nodes sets) (T 
 
 -- the words of two nodes in two lanes stand apart, and before the other lanes
 apart : (n i j x r : ℕ) → x < n → r < n → (x ≡ r → ⊥) → n * n + 24 + i * n + x ≡ n * n + 24 + j * n + r → ⊥
-apart n i j x r hx hr ne e = go (decLt i j) (decLt j i)
-  where
-    go : Dec (i < j) → Dec (j < i) → ⊥
-    go (yes h) k = omega (arith, suc-mul i n, mul-le-mul-right {m = suc i} {n = j} n (omega arith))
-    go (no h) (yes k) = omega (arith, suc-mul j n, mul-le-mul-right {m = suc j} {n = i} n (omega arith))
-    go (no h) (no k) = let q : i ≡ j = omega arith in ne (omega (arith, ap (λ z. z * n) q))
+apart n i j x r hx hr ne e = ne (index-column n i x j r hx hr (omega arith))
 
 lane-below : (n j r : ℕ) → j < 8 → r < n → laneAt n j + r < laneAt n 8
 lane-below n j r h hr = omega (arith, mul-le-mul-right {m = j} {n = 7} n (omega arith))

@@ -7,26 +7,26 @@ use native.Mathlib.Omega.{arith}
 use native.Mathlib.Nat.{zero-add}
 use lib.Dec.{eqb}
 use lib.ListN.{length, getD, set}
-use Rattle.graphs.specs.Count.{ind, count-ext}
+use Rattle.graphs.specs.Count.{ind}
 use Rattle.graphs.specs.Lists.{below, has-at}
-use Rattle.graphs.specs.Tab.{tab, tab-at, is-tab}
+use Rattle.graphs.specs.Tab.{tab, tab-at, is-tab, tab-alike}
 use Rattle.graphs.specs.Walk.{via, cyclic}
-use Rattle.graphs.specs.Slots.{flat, slotEdge, Ends}
+use Rattle.graphs.specs.Slots.{slotEdge, Ends}
 use Rattle.walks.specs.Marks.{marking}
 use Rattle.layout.specs.Patch.{part, part-long, part-at}
 use Rattle.node_edges.specs.Matrix.{matrix}
-use Rattle.ledger.specs.Graph.{Load, at}
+use Rattle.ledger.specs.Graph.{Load, at, members}
 use Rattle.ledger.specs.Ledger.{register}
 use Rattle.ledger.specs.LoadLaws.{Loadable}
 use Rattle.ledger.specs.MoveLaws.{register-old}
-use Rattle.ledger.specs.Nodes.{Placing, sources, targets}
+use Rattle.ledger.specs.Nodes.{Placing, sources, targets, node-edge}
 use Rattle.ledger.specs.NodeMoves.{placing-set}
-use Rattle.placement.specs.SlotLaws.{Slotted, slotted-edge, slotted-ends}
+use Rattle.placement.specs.SlotLaws.{Slotted, slotted-edge, slotted-ends, slotted-flat}
 use Rattle.ledger.specs.NodeWalks.{ends-nodes}
 use Rattle.move_area.specs.Bodies.{atomAt}
 use Rattle.move_area.specs.Area.{setsIn}
 use Rattle.move_area.specs.Checked.{nodesIn, nodesState}
-use Rattle.move_area.specs.NodeBodies.{Nodes, nodeEdge, tally, tab-alike}
+use Rattle.move_area.specs.NodeBodies.{Nodes}
 use Rattle.move_area.specs.Calls.{next}
 use Rattle.consistency.specs.Filled.{Filled}
 use Rattle.moving.specs.Stands.{Stands, stands-long, registered-at, counter-at, acyclic-at, edge-at, mark-at, marks-part}
@@ -45,10 +45,10 @@ flag-tells false = refl
 -- the area after the test
 module _ {load : Load} {N : ℕ} {s : Nodes} {l₀ l : List ℕ} (v : Stands load N s l₀ l) (a y : ℕ) where
   abbrev E : ℕ → ℕ → Bool
-  E = nodeEdge load (set (s .nodes) a y) (s .sets)
+  E = node-edge load (set (s .nodes) a y) (s .sets)
 
   abbrev was : Bool
-  was = cyclic (nodeEdge load (s .nodes) (s .sets)) (below N)
+  was = cyclic (node-edge load (s .nodes) (s .sets)) (below N)
 
   flag : eqb (getD l (N * N + 2) 0) 0 ≡ was
   flag = ap (λ k. eqb k 0) (acyclic-at v) ∙ flag-tells was
@@ -119,10 +119,10 @@ pub record SettleRoom (load : Load) (n : ℕ) (counts s t starts list colour cur
 
 -- the graph with the atom in its new node, and the present one
 abbrev pub movedEdge : Load → ℕ → List ℕ → ℕ → ℕ → ℕ → ℕ → Bool
-movedEdge load n area atom to = nodeEdge load (set (nodesIn load n area) atom to) (setsIn n area)
+movedEdge load n area atom to = node-edge load (set (nodesIn load n area) atom to) (setsIn n area)
 
 abbrev pub presentEdge : Load → ℕ → List ℕ → ℕ → ℕ → Bool
-presentEdge load n area = nodeEdge load (nodesIn load n area) (setsIn n area)
+presentEdge load n area = node-edge load (nodesIn load n area) (setsIn n area)
 
 -- the state after the test
 abbrev pub testedState : Load → ℕ → List ℕ → ℕ → ℕ → Nodes
@@ -134,10 +134,6 @@ pub record Settled (load : Load) (n : ℕ) (area : List ℕ) (atom to : ℕ) (r 
   pub stands : Stands load n (cond r (with-node (testedState load n area atom to) atom to) (testedState load n area atom to)) area l
 
 -- slots that are the ledger's have its matrix
-slotted-flat : {load : Load} {nodes sets s t : List ℕ} → Slotted load nodes sets s t → (n i : ℕ)
-    → flat s t n (load .D + load .E) i ≡ flat (sources load nodes sets) (targets load nodes sets) n (load .D + load .E) i
-slotted-flat {load} v n i = count-ext _ _ (load .D + load .E) (λ k h. rw (v .source-at k h, v .target-at k h) refl)
-
 slotted-matrix : {load : Load} {nodes sets s t : List ℕ} → Slotted load nodes sets s t → (n : ℕ)
     → matrix s t n (load .D + load .E) ≡ matrix (sources load nodes sets) (targets load nodes sets) n (load .D + load .E)
 unfolding matrix
@@ -235,5 +231,5 @@ module _ {load : Load} {n : ℕ} {area : List ℕ} {atom to : ℕ} {sources targ
             stands = rw (e, slotted-matrix (f .slots) n, tallies) (stands-committed after atom to (can .there) (can .node) (sym answer ∙ h));
           }
         where
-          tallies : part 0 n counts ≡ tab (tally load (set (nodesIn load n area) atom to)) n
+          tallies : part 0 n counts ≡ tab (members load (set (nodesIn load n area) atom to)) n
           tallies = is-tab (part 0 n counts) n _ (part-long 0 n counts) (λ x z. part-at 0 n counts x z ∙ ap (λ i. getD counts i 0) (zero-add x) ∙ f .count-at x z)

@@ -4,7 +4,7 @@ use mathlib.Core.Bool.{true, not}
 use mathlib.Core.List.{List}
 use Prim.Native.Nat.{ℕ, _+_, _*_, _^_, _≤_, _<_}
 use native.Mathlib.Omega.{arith}
-use native.Mathlib.Nat.{zero-add, pow-le-pow-right}
+use native.Mathlib.Nat.{zero-add}
 use lib.ListN.{length, getD}
 use Rattle.graphs.specs.Count.{ind}
 use Rattle.graphs.specs.Lists.{below}
@@ -15,14 +15,15 @@ use Rattle.layout.specs.Patch.{part, part-at}
 use Rattle.entry_set.specs.Joined.{parts}
 use Rattle.entry_set.specs.Lanes.{lanes}
 use Rattle.entry_set.specs.LaneLaws.{lanes-is}
-use Rattle.ledger.specs.Graph.{Load, at}
+use Rattle.entry_set.specs.SetLaws.{below-256}
+use Rattle.ledger.specs.Graph.{Load, at, members}
 use Rattle.ledger.specs.LoadLaws.{InOrder}
-use Rattle.ledger.specs.Nodes.{Placing, sources, targets}
+use Rattle.ledger.specs.Nodes.{Placing, sources, targets, node-edge}
 use Rattle.move_area.specs.Bodies.{laneAt, atomAt, write, Sized}
 use Rattle.move_area.specs.BodyLaws.{write-long, read-edges, read-registered, read-counter, read-acyclic, read-words, read-counts, read-marks, read-component, read-nodes}
 use Rattle.move_area.specs.Area.{setsIn, decode, encode, consistent}
 use Rattle.move_area.specs.Held.{Held, consistent-held, consistent-whole}
-use Rattle.move_area.specs.NodeBodies.{Nodes, nodeEdge, tally, nodeBodies, stateOf, encode-nodes}
+use Rattle.move_area.specs.NodeBodies.{Nodes, nodeBodies, stateOf, encode-nodes}
 use Rattle.move_area.specs.Checked.{nodesState, Ranged, sets-length, ranged-placing, consistent-ranged}
 
 -- l is the area l₀ with the state s written
@@ -66,7 +67,7 @@ module _ {load : Load} {N : ℕ} {s : Nodes} {l₀ l : List ℕ} (v : Stands loa
   unfolding nodeBodies
   counter-at = ap (λ (u : List ℕ). getD u (N * N + 1) 0) (v .is) ∙ read-counter N (load .A) (nodeBodies load N s) stands-sized l₀ (v .room)
 
-  pub acyclic-at : getD l (N * N + 2) 0 ≡ ind (not (cyclic (nodeEdge load (s .nodes) (s .sets)) (below N)))
+  pub acyclic-at : getD l (N * N + 2) 0 ≡ ind (not (cyclic (node-edge load (s .nodes) (s .sets)) (below N)))
   unfolding nodeBodies
   acyclic-at = ap (λ (u : List ℕ). getD u (N * N + 2) 0) (v .is) ∙ read-acyclic N (load .A) (nodeBodies load N s) stands-sized l₀ (v .room)
 
@@ -93,7 +94,7 @@ module _ {load : Load} {N : ℕ} {s : Nodes} {l₀ l : List ℕ} (v : Stands loa
   unfolding setsIn
   sets-in = sym (is-tab (s .sets) (getD l (N * N) 0) _ (sym registered-at) (λ x h. sym (set-at x (omega (arith, registered-at)))))
 
-  pub count-at : (x : ℕ) → x < N → getD l (laneAt N 8 + x) 0 ≡ tally load (s .nodes) x
+  pub count-at : (x : ℕ) → x < N → getD l (laneAt N 8 + x) 0 ≡ members load (s .nodes) x
   unfolding nodeBodies
   count-at x h = cell (laneAt N 8) N _ (read-counts N (load .A) (nodeBodies load N s) stands-sized l₀ (v .room)) x h ∙ tab-at _ N x h
 
@@ -101,7 +102,7 @@ module _ {load : Load} {N : ℕ} {s : Nodes} {l₀ l : List ℕ} (v : Stands loa
   unfolding nodeBodies
   mark-at x h = cell (laneAt N 9) N _ (read-marks N (load .A) (nodeBodies load N s) stands-sized l₀ (v .room)) x h
 
-  pub component-at : (x : ℕ) → x < N → getD l (laneAt N 10 + x) 0 ≡ ind (only (nodeEdge load (s .nodes) (s .sets)) (below N) x)
+  pub component-at : (x : ℕ) → x < N → getD l (laneAt N 10 + x) 0 ≡ ind (only (node-edge load (s .nodes) (s .sets)) (below N) x)
   unfolding nodeBodies
   component-at x h = cell (laneAt N 10) N _ (read-component N (load .A) (nodeBodies load N s) stands-sized l₀ (v .room)) x h ∙ tab-at _ N x h
 
@@ -121,9 +122,6 @@ module _ {load : Load} {N : ℕ} {s : Nodes} {l₀ l : List ℕ} (v : Stands loa
   pub stands-encode : l ≡ encode load N (stateOf s) l₀
   stands-encode = v .is ∙ sym (encode-nodes load N s (v .order) (v .placing) (v .few) l₀)
 
-pub higher : (x e k : ℕ) → x < 2 ^ e → e ≤ k → x < 2 ^ k
-higher x e k h b = omega (arith, pow-le-pow-right {n = 2} (omega arith) {i = e} {j = k} b)
-
 -- a consistent area holds the state that it names
 pub consistent-stands : (load : Load) (N : ℕ) (l : List ℕ) → InOrder load → N ≤ 1024 → load .E ≤ 256 → atomAt N + load .A ≤ length l → consistent load N l ≡ true
     → Stands load N (nodesState load N l) l l
@@ -135,7 +133,7 @@ consistent-stands load N l o small bits room c =
       room = room;
       placing = placing;
       few = few;
-      wide = λ x h. higher (at (setsIn N l) x) (load .E) 256 (held .sound .in-range x h) bits;
+      wide = λ x h. below-256 bits (held .sound .in-range x h);
       long = held .long;
       marks = held .marks;
       is = sym (consistent-whole load N l c) ∙ encode-nodes load N (nodesState load N l) o placing few l;

@@ -10,11 +10,12 @@ use borrow.Author.Tests.{eq-eqb, ne-eqb}
 use Rattle.graphs.specs.Lists.{has, below}
 use Rattle.graphs.specs.Walk.{cyclic}
 use Rattle.entry_set.specs.Sets.{value, legal}
+use Rattle.entry_set.specs.SetLaws.{below-256}
 use Rattle.ledger.specs.Graph.{Load, at}
 use Rattle.ledger.specs.Answer.{Answer, refused, accepted, rejected}
 use Rattle.ledger.specs.Ledger.{register, step1, full, move}
 use Rattle.ledger.specs.LoadLaws.{Loadable}
-use Rattle.ledger.specs.Nodes.{placed}
+use Rattle.ledger.specs.Nodes.{placed, node-edge}
 use Rattle.placement.specs.SlotLaws.{Slotted}
 use Rattle.set_order.specs.Order.{laneSet, First}
 use Rattle.set_order.specs.Steps.{CanFind}
@@ -23,11 +24,11 @@ use Rattle.move_area.specs.BodyLaws.{write-again}
 use Rattle.move_area.specs.Area.{setsIn, decode, encode, consistent}
 use Rattle.move_area.specs.Held.{consistent-whole}
 use Rattle.move_area.specs.Checked.{nodesIn, nodesState}
-use Rattle.move_area.specs.NodeBodies.{Nodes, nodeEdge, nodeBodies}
+use Rattle.move_area.specs.NodeBodies.{Nodes, nodeBodies}
 use Rattle.move_area.specs.Calls.{after}
 use Rattle.moving.specs.declared.Tried.{Tried}
 use Rattle.moving.specs.declared.Tried.the-variants.{Accepted, Rejected, Full}
-use Rattle.moving.specs.Stands.{Stands, stands-sized, stands-long, registered-at, counter-at, sets-in, node-at, marks-part, nodes-part, stands-encode, higher, consistent-stands}
+use Rattle.moving.specs.Stands.{Stands, stands-sized, stands-long, registered-at, counter-at, sets-in, node-at, marks-part, nodes-part, stands-encode, consistent-stands}
 use Rattle.moving.specs.Areas.{registered}
 use Rattle.moving.specs.Changes.{with-node}
 use Rattle.moving.specs.Grown.{write-over}
@@ -159,7 +160,7 @@ module _ {load : Load} {n : ℕ} {area : List ℕ} {atom T : ℕ} {s t : List �
         target =
             subst (Stands load n (with-target st T) area)
             (sym (e₁ ∙ ap (λ k. cond (eqb y k) (registered n k T area) area) registered-many ∙ ap (λ b. cond b (registered n (length (setsIn n area)) T area) area) (target-new try-stands T y first) ∙ turned (has T (setsIn n area))))
-            (stands-target try-stands T (sym row13 ∙ ne-eqb y n free) (higher T (load .E) 256 (can .range) (can .loadable .sizes .bits)))
+            (stands-target try-stands T (sym row13 ∙ ne-eqb y n free) (below-256 (can .loadable .sizes .bits) (can .range)))
           where
             turned : (b : Bool) → cond (not b) (registered n (length (setsIn n area)) T area) area ≡ cond b area (registered n (length (setsIn n area)) T area)
             turned true = refl
@@ -204,11 +205,11 @@ module _ {load : Load} {n : ℕ} {area : List ℕ} {atom T : ℕ} {s t : List �
                 }
 
         -- the graph before is the same with the target registered
-        present : cyclic (nodeEdge load (nodesIn load n area) (register T (setsIn n area))) (below n) ≡ cyclic (nodeEdge load (nodesIn load n area) (setsIn n area)) (below n)
+        present : cyclic (node-edge load (nodesIn load n area) (register T (setsIn n area))) (below n) ≡ cyclic (node-edge load (nodesIn load n area) (setsIn n area)) (below n)
         present = rw (sources-register (try-stands .placing) T, targets-register (try-stands .placing) T) refl
 
         abbrev tested : Nodes → Nodes
-        tested z = with-test load n z atom y (cyclic (nodeEdge load (z .nodes) (z .sets)) (below n))
+        tested z = with-test load n z atom y (cyclic (node-edge load (z .nodes) (z .sets)) (below n))
 
         module _ {l₂ : List ℕ} where
           pub try-accepted : Settled load n l₁ atom y true l₂ → Answers load n area atom T (answerOf Accepted) l₂
@@ -219,8 +220,8 @@ module _ {load : Load} {n : ℕ} {area : List ℕ} {atom T : ℕ} {s t : List �
                 (sym (x .0), stands-encode held ∙ ap (λ u. encode load n u area) (rw present (sym (x .1))));
           }
             where
-              says : cyclic (nodeEdge load (set (nodesIn load n area) atom y) (register T (setsIn n area))) (below n) ≡ false
-              says = subst (λ z. cyclic (nodeEdge load (set (z .nodes) atom y) (z .sets)) (below n) ≡ false) named (z .says)
+              says : cyclic (node-edge load (set (nodesIn load n area) atom y) (register T (setsIn n area))) (below n) ≡ false
+              says = subst (λ z. cyclic (node-edge load (set (z .nodes) atom y) (z .sets)) (below n) ≡ false) named (z .says)
 
               held : Stands load n (with-node (tested (with-target st T)) atom y) area l₂
               held = stands-over target (subst (λ z. Stands load n (with-node (tested z) atom y) l₁ l₂) named (z .stands)) (omega arith)
@@ -233,8 +234,8 @@ module _ {load : Load} {n : ℕ} {area : List ℕ} {atom T : ℕ} {s t : List �
                 (sym (x .0), stands-encode held ∙ ap (λ u. encode load n u area) (rw present (sym (x .1))));
           }
             where
-              says : cyclic (nodeEdge load (set (nodesIn load n area) atom y) (register T (setsIn n area))) (below n) ≡ true
-              says = subst (λ z. cyclic (nodeEdge load (set (z .nodes) atom y) (z .sets)) (below n) ≡ true) named (z .says)
+              says : cyclic (node-edge load (set (nodesIn load n area) atom y) (register T (setsIn n area))) (below n) ≡ true
+              says = subst (λ z. cyclic (node-edge load (set (z .nodes) atom y) (z .sets)) (below n) ≡ true) named (z .says)
 
               held : Stands load n (tested (with-target st T)) area l₂
               held = stands-over target (subst (λ z. Stands load n (tested z) l₁ l₂) named (z .stands)) (omega arith)

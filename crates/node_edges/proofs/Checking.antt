@@ -2,22 +2,23 @@
 use mathlib.Core.Path.{_≡_, refl, sym, ap, _∙_, subst}
 use mathlib.Core.List.{List}
 use mathlib.Core.Bool.{Bool, true, false, not}
-use Prim.Native.Nat.{ℕ, zero, suc, _+_, _-_, _*_, _≤_, _<_}
+use Prim.Native.Nat.{ℕ, zero, suc, _+_, _*_, _≤_, _<_}
 use native.Mathlib.Omega.{arith}
 use native.Mathlib.Decide.{decLt}
-use native.Mathlib.Nat.{mul-le-mul-right, suc-mul, zero-add}
+use native.Mathlib.Nat.{zero-add}
 use lib.Dec.{eqb, ltb, T}
 use lib.ListN.{length, getD, set, length-set, take, replicate, length-replicate, getD-replicate}
 use lib.Seq.{getD-set-same, getD-set-other, take-length, length-take-le}
 use borrow.Author.Count.{below-more}
-use borrow.Author.Tests.{lt-ltb, le-ltb, eq-eqb, ne-eqb, eqb-true, eqb-false, not-false}
-use Rattle.graphs.specs.Bools.{Decides, Same, it, other, same?}
+use borrow.Author.Tests.{lt-ltb, le-ltb, eq-eqb, ne-eqb, eqb-true}
+use Rattle.graphs.specs.Bools.{Same, it, other, same?}
 use Rattle.graphs.specs.Count.{ind, count, ind-le, count-none, count-more, count-le, count-ext, count-pos, count-all-no}
+use Rattle.graphs.specs.Square.{row-in}
 use Rattle.neighbours.specs.Groups.{occ, occ-more, occ-le}
 use Rattle.neighbours.specs.Parts.{partOf}
-use Rattle.neighbours.specs.Lists.{Graph, deg, nb, part-long}
+use Rattle.neighbours.specs.Lists.{part-long}
 use Rattle.layout.specs.Patch.{patch, patch-in, patch-long}
-use Rattle.node_edges.specs.Rows.{CanBump, CanTally, Tallied, CanWipe, Wiped, differing, nonzero, numbersOf, CanCompare, CanCount, Compared, Clean, CanCheckRow, RowChecked, RowsAre, CanCheck, Checked}
+use Rattle.node_edges.specs.Rows.{CanBump, CanTally, Tallied, CanWipe, Wiped, differing, nonzero, numbersOf, CanCompare, CanCount, Compared, Clean, CanCheckRow, RowChecked, CanCheck, Checked}
 
 -- two counts of tests that differ at v alone
 count-change : (p q : ℕ → Bool) (v : ℕ) → ((y : ℕ) → (y ≡ v → ⊥) → q y ≡ p y) → (n : ℕ) → v < n → count q n + ind (p v) ≡ count p n + ind (q v)
@@ -145,7 +146,7 @@ module _ {e : List ℕ} {n x : ℕ} {part row : List ℕ} (can : CanCheckRow e n
   }
 
   pub row-fits : x * n + n ≤ length e
-  row-fits = omega (arith, mul-le-mul-right {m = suc x} {n = n} n (can .row-of), suc-mul x n, can .square)
+  row-fits = omega (arith, row-in n n x (can .row-of), can .square)
 
   pub row-count : CanCount e (x * n) n
   row-count = record { fits = row-fits; few = can .nodes }

@@ -1,7 +1,7 @@
 -- The kept matrix: a square of n rows of n numbers that holds the multiplicities of slots, first in a list. Assumes nothing.
 use mathlib.Core.Path.{_≡_, sym, _∙_, subst}
 use mathlib.Core.List.{List}
-use Prim.Native.Nat.{ℕ, zero, suc, _+_, _*_, _/_, _%_, _<_}
+use Prim.Native.Nat.{ℕ, _+_, _*_, _/_, _%_, _<_}
 use native.Mathlib.Omega.{arith}
 use native.Mathlib.Decide.{decLt}
 use native.Mathlib.Nat.{div-add-mod', mod-lt, mul-le-mul-right}
@@ -9,7 +9,7 @@ use lib.ListN.{length, getD}
 use Rattle.graphs.specs.Tab.{tab, tab-length, tab-at}
 use Rattle.graphs.specs.Slots.{flat, Ends, Counts}
 use Rattle.graphs.specs.SlotLaws.{flat-mult}
-use Rattle.graphs.specs.Square.{index-lt}
+use Rattle.graphs.specs.Square.{index-lt, square-some}
 
 -- the matrix of the first m slots
 unfoldable pub matrix : List ℕ → List ℕ → ℕ → ℕ → List ℕ
@@ -31,15 +31,8 @@ matrix-at s t n m i h = tab-at _ (n * n) i h
 pub each-place : (P : ℕ → Type 0) (n : ℕ) → ((x y : ℕ) → x < n → y < n → P (x * n + y)) → (i : ℕ) → i < n * n → P i
 each-place P n f i h = subst P (div-add-mod' i n) (f (i / n) (i % n) row column)
   where
-    some : 0 < n
-    some = go n h
-      where
-        go : (k : ℕ) → i < k * k → 0 < k
-        go zero z = absurd (omega arith)
-        go (suc k) z = omega arith
-
     column : i % n < n
-    column = mod-lt i some
+    column = mod-lt i (square-some n i h)
 
     row : i / n < n
     row = go (decLt (i / n) n)

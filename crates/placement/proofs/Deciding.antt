@@ -4,15 +4,9 @@ use mathlib.Core.Bool.{Bool, true, false, _&&_, true≢false}
 use Prim.Native.Nat.{ℕ, _+_, _-_, _≤_, _<_}
 use native.Mathlib.Omega.{arith}
 use native.Mathlib.Decide.{ℕ-discrete}
-use lib.Dec.{eqb, leb}
-use borrow.Author.Tests.{eqb-true, eqb-false, leb-true, leb-false}
-use Rattle.graphs.specs.Bools.{Decides}
-
-pub eqb-decides : (a b : ℕ) → Decides (a ≡ b) (eqb a b)
-eqb-decides a b = record { right = eqb-true a b; wrong = eqb-false a b }
-
-pub leb-decides : (a b : ℕ) → Decides (a ≤ b) (leb a b)
-leb-decides a b = record { right = leb-true a b; wrong = λ h y. omega (arith, leb-false a b h) }
+use lib.Dec.{eqb}
+use borrow.Author.Tests.{eqb-true, eqb-false}
+use Rattle.graphs.specs.Bools.{Decides, same-decides}
 
 -- every number below k has P
 abbrev pub Each : (ℕ → Type 0) → ℕ → Type 0
@@ -42,4 +36,4 @@ none-below f k b z = record { right = λ h i y. absurd (omega (arith, eqb-true k
 
 -- below b is up to b - 1
 pub below-up-to : (f : ℕ → ℕ) (k b : ℕ) {r : Bool} → (b ≡ 0 → ⊥) → Decides (Each (λ i. f i ≤ b - 1) k) r → Decides (Each (λ i. f i < b) k) r
-below-up-to f k b n d = record { right = λ h i y. omega (arith, d .right h i y); wrong = λ h g. d .wrong h (λ i y. omega (arith, g i y)) }
+below-up-to f k b n d = same-decides (λ g i y. omega (arith, g i y)) (λ g i y. omega (arith, g i y)) d

@@ -1,8 +1,8 @@
 -- How the code's lists give the slots of the ledger, and what the first slots of a longer list say. Assumes nothing.
 use mathlib.Core.Path.{_≡_, refl, sym, ap, fun-ext, _∙_}
 use mathlib.Core.List.{List}
-use mathlib.Core.Bool.{Bool, cond, _&&_}
-use Prim.Native.Nat.{ℕ, zero, suc, _+_, _-_, _^_, _≤_, _<_}
+use mathlib.Core.Bool.{cond, _&&_}
+use Prim.Native.Nat.{ℕ, _+_, _-_, _^_, _≤_, _<_}
 use native.Mathlib.Omega.{arith}
 use native.Mathlib.Nat.{zero-add}
 use native.Mathlib.Decide.{decLt}
@@ -11,12 +11,12 @@ use lib.ListN.{length, getD}
 use borrow.Author.Tests.{lt-ltb}
 use Rattle.graphs.specs.Count.{count-ext}
 use Rattle.graphs.specs.Tab.{tab, tab-length, tab-at, is-tab}
-use Rattle.graphs.specs.Slots.{mult, slotEdge, Ends}
+use Rattle.graphs.specs.Slots.{mult, flat, slotEdge, Ends}
 use Rattle.layout.specs.Patch.{patch, patch-in}
 use Rattle.entry_set.specs.Lanes.{lanes}
 use Rattle.ledger.specs.Graph.{Load, at, owner, members}
 use Rattle.ledger.specs.Nodes.{highest, fronts, front, face-source, face-target, source, target, sources, targets}
-use Rattle.ledger.specs.NodeLaws.{sources-length, targets-length}
+use Rattle.ledger.specs.NodeLaws.{highest-ext, sources-length, targets-length}
 use Rattle.placement.specs.Slots.{atoms, source-by, target-by, sources-by, targets-by}
 use Rattle.placement.specs.Facades.{fronting, fronts-in}
 
@@ -31,11 +31,6 @@ unfolding members
 tally-members load nodes n counts b q x h =
     let t = tab-length (atoms nodes (load .A)) n in
     rw q (patch-first (tab (atoms nodes (load .A)) n) counts x (omega arith) (omega arith) ∙ tab-at (atoms nodes (load .A)) n x h)
-
-highest-ext : (p q : ℕ → Bool) (n : ℕ) → ((x : ℕ) → x < n → p x ≡ q x) → highest p n ≡ highest q n
-unfolding highest
-highest-ext p q zero h = refl
-highest-ext p q (suc n) h = rw (h n (omega arith), highest-ext p q n (λ x z. h x (omega arith))) refl
 
 -- `facade` has the front of each entry bit
 pub record Fronts (load : Load) (nodes sets facade : List ℕ) : Type 0 where
@@ -109,6 +104,9 @@ module _ {load : Load} {nodes sets s t : List ℕ} (v : Slotted load nodes sets 
   pub slotted-mult : (x y : ℕ) → mult s t (load .D + load .E) x y ≡ mult (sources load nodes sets) (targets load nodes sets) (load .D + load .E) x y
   unfolding mult
   slotted-mult x y = count-ext _ _ (load .D + load .E) (λ k h. rw (v .source-at k h, v .target-at k h) refl)
+
+  pub slotted-flat : (n i : ℕ) → flat s t n (load .D + load .E) i ≡ flat (sources load nodes sets) (targets load nodes sets) n (load .D + load .E) i
+  slotted-flat n i = count-ext _ _ (load .D + load .E) (λ k h. rw (v .source-at k h, v .target-at k h) refl)
 
   pub slotted-edge : slotEdge s t (load .D + load .E) ≡ slotEdge (sources load nodes sets) (targets load nodes sets) (load .D + load .E)
   unfolding slotEdge

@@ -8,7 +8,7 @@ use lib.ListN.{length, getD}
 use borrow.Author.Tests.{le-leb, lt-leb, not-true, not-false}
 use Rattle.layout.specs.Patch.{part-long, part-at}
 use Rattle.entry_set.specs.Sets.{value, words, legal, numbers, number, Holds}
-use Rattle.entry_set.specs.SetLaws.{holds-numbers, legal-length}
+use Rattle.entry_set.specs.SetLaws.{holds-numbers}
 use Rattle.entry_set.specs.Lanes.{lanes}
 use Rattle.entry_set.specs.declared.EntrySet.{EntrySet}
 use Rattle.ledger.specs.Graph.{Load, at, members, mult, edges}
@@ -97,9 +97,6 @@ module _ (load : Load) (N : ℕ) (area : List ℕ) (q : ℕ) (first : q ≡ late
     head-inside = omega (arith, loads .sizes .area)
 
     -- row 11: t tells whether the lent set s is legal
-    pub legal-short : (s : List ℕ) (t : Bool) → t ≡ legal (load .E) s → not t ≡ false → length s ≤ 4
-    legal-short s t e h = omega (arith, legal-length (load .E) s (sym e ∙ not-false t h), loads .sizes .bits)
-
     module _ (s : List ℕ) where
       one : Bool → Answer
       one t = cond t (answer.number (members load (placeIn load N area) (value s))) (refused 11)

@@ -1,29 +1,27 @@
 -- The rows 10 to 12 of a move, and what comes after them. Assumes nothing.
-use Prim.Native.Nat.{ℕ, _+_, _*_, _^_, _≤_, _<_}
+use Prim.Native.Nat.{ℕ, _+_, _*_, _≤_, _<_}
 use native.Mathlib.Omega.{arith}
-use mathlib.Core.Path.{_≡_, refl, sym, ap, subst, _∙_}
+use mathlib.Core.Path.{_≡_, refl, sym, ap, _∙_}
 use mathlib.Core.Bool.{Bool, true, false, not, cond, _&&_, true≢false}
 use mathlib.Core.List.{List}
 use lib.Dec.{leb, ltb, eqb}
 use lib.ListN.{length, getD}
 use borrow.Author.Tests.{le-leb, lt-leb, le-ltb, leb-true, eqb-true, eqb-false, eq-eqb, ne-eqb}
 use Rattle.graphs.specs.Walk.{cyclic}
-use Rattle.layout.specs.Patch.{part-at, part-long}
-use Rattle.entry_set.specs.Sets.{value, legal, width}
-use Rattle.entry_set.specs.SetLaws.{legal-length, legal-below}
+use Rattle.layout.specs.Patch.{part-at}
+use Rattle.entry_set.specs.Sets.{value, legal}
+use Rattle.entry_set.specs.SetLaws.{legal-below}
 use Rattle.entry_set.specs.Lanes.{lanes}
 use Rattle.ledger.specs.Graph.{Load, at, edge}
 use Rattle.ledger.specs.Answer.{Answer, refused, is-refused}
-use Rattle.ledger.specs.Ledger.{Ledger, step1, step2, step3, full, move}
+use Rattle.ledger.specs.Ledger.{step1, step2, step3, full, move}
 use Rattle.ledger.specs.MoveLaws.{steps}
 use Rattle.ledger.specs.Loading.{refusal}
-use Rattle.ledger.specs.LoadLaws.{Loadable}
-use Rattle.ledger.specs.Nodes.{placed}
 use Rattle.ledger.specs.NodeLaws.{placed-at}
 use Rattle.move_area.specs.Bodies.{laneAt, atomAt}
 use Rattle.move_area.specs.Area.{State, encode, decode, consistent, setsIn}
 use Rattle.move_area.specs.Held.{consistent-whole}
-use Rattle.move_area.specs.Checked.{nodesIn, Ranged, consistent-ranged, ranged-placing, sets-at, sets-length}
+use Rattle.move_area.specs.Checked.{nodesIn, Ranged, consistent-ranged, ranged-placing, sets-at}
 use Rattle.move_area.specs.Calls.{tried, after, checked}
 use Rattle.move_area.specs.Calls as calls
 use Rattle.moving.specs.Tried.{CanTry, Answers}
@@ -98,10 +96,6 @@ module _ {load : Load} {n : ℕ} {area s t : List ℕ} (can : CanGoOn load n are
       ∙ sym (sets-at n area x (omega (arith, go-ranged .nodes atom h)))
       ∙ ap (at (setsIn n area)) (e ∙ sym (part-at (atomAt n) (load .A) area atom h))
       ∙ sym (placed-at (nodesIn load n area) (setsIn n area) atom (omega (arith, p .atoms)))
-
--- a lent set that is legal has four numbers at most
-pub legal-short : (e : ℕ) (bits : List ℕ) → e ≤ 256 → legal e bits ≡ true → length bits ≤ 4
-legal-short e bits b h = omega (arith, legal-length e bits h)
 
 -- row 9 comes before
 module _ {load : Load} {n : ℕ} {area : List ℕ} {atom : ℕ} {bits : List ℕ} where

@@ -1,8 +1,7 @@
 -- What the marks are at the end of a walk. Assumes nothing.
-use Prim.Native.Nat.{ℕ, zero, suc, _+_, _-_, _*_, _^_, _<_, _≤_}
+use Prim.Native.Nat.{ℕ, _+_, _*_, _<_}
 use native.Mathlib.Omega.{arith}
 use native.Mathlib.Decide.{ℕ-discrete, decLt}
-use native.Mathlib.Nat.{mul-le-mul-right, suc-mul}
 use mathlib.Core.Path.{_≡_, refl, sym, ap, _∙_}
 use mathlib.Core.Logic.{_⊎_, inl, inr, ⊎-elim}
 use mathlib.Core.Bool.{Bool, true, false, not, cond, true≢false}
@@ -13,11 +12,12 @@ use Rattle.graphs.specs.Lists.{below}
 use Rattle.graphs.specs.Tab.{is-tab}
 use Rattle.graphs.specs.Walk.{Walk, one, more, via}
 use Rattle.graphs.specs.Walks.{sources-below, join, sound, complete, walk-to}
-use Rattle.neighbours.specs.Lists.{deg, nb, edge, Graph, Listed, listed, listed-to}
+use Rattle.graphs.specs.Square.{row-in}
+use Rattle.neighbours.specs.Lists.{deg, nb, edge, Graph, listed, listed-to}
 use Rattle.walks.specs.Closed.{flagEdge, closed}
 use Rattle.walks.specs.ClosedLaws.{flag-from, flag-to, flag-is, closed-first, closed-next, closed-all}
 use Rattle.walks.specs.Marks.{marking}
-use Rattle.walks.specs.Spread.{met, stk, every, wide, itself, Offers, Spread, Ready, Kept, CanLook, LookedFlag, HandsOn, Scanned, Done, CanReach, Rows, CanScanRow, CanSpreadRows, CanClose}
+use Rattle.walks.specs.Spread.{met, stk, every, wide, itself, Offers, Spread, Ready, Kept, CanLook, LookedFlag, HandsOn, Scanned, Done, CanReach, Rows, CanScanRow, CanClose}
 use Rattle.walks.proofs.Layer.{met-yes, met-no, yes-met, kept-trans, kept-met, look-can, turn-skip, turn-more}
 use Rattle.walks.proofs.Moves as moves
 
@@ -37,9 +37,6 @@ offers-rows l c n = record {
   from = flag-from l c n;
   find = λ x y h. (y, flag-to l c n x y h, h, refl);
 }
-
-pub row-in : (c n x : ℕ) → x < n → n ≤ c → x * c + n ≤ n * c
-row-in c n x h b = omega (arith, mul-le-mul-right {m = suc x} {n = n} c h, suc-mul x c)
 
 -- the marks after a walk before which no node below n was marked, and which marked the nodes that pass the test r
 pub marking-is : {r : ℕ → Bool} {n mark : ℕ} (l : List ℕ) {l′ : List ℕ} → Kept n mark l l′ → length l′ ≡ length l → ((x : ℕ) → x < n → getD l x 0 < mark) → ((x : ℕ) → r x ≡ true → x < n)
@@ -175,4 +172,4 @@ module _ {q : List ℕ} {c n mark : ℕ} {l₀ s₀ l s : List ℕ} {sp₀ sp t 
       go (no h) = turn-more (offers-rows q c n) v tn jn (flag-is q c n t j tn jn ∙ ap not (ne-eqb _ _ h)) refl (w .looked h)
 
 pub row-can : {q : List ℕ} {c n mark : ℕ} {l s : List ℕ} {sp t : ℕ} → Rows q c n → Ready n mark l s sp → t < n → CanScanRow q c n mark l s sp t
-row-can {c} {n} {t} r v h = record { rows = r; ready = v; node = h; inside = omega (arith, row-in c n t h (r .narrow), r .cells) }
+row-can {c} {n} {t} r v h = record { rows = r; ready = v; node = h; inside = omega (arith, row-in n c t h, r .narrow, r .cells) }

@@ -3,8 +3,8 @@ use borrow.Author.Needs.{needs}
 use native.Mathlib.Omega.{arith}
 use Prim.Native.Nat.{_+_, _-_, _≤_}
 use mathlib.Core.Path.{_≡_}
+use Rattle.graphs.specs.Total.{total-none, total-more}
 use Rattle.listing.specs.Steps.{at, edges-before}
-use Rattle.listing.specs.StepLaws.{total-none, total-more}
 use Rattle.listing.proofs.find_row.Statement.{statement}
 use Rattle.listing.proofs.find_row.Tie as tie
 

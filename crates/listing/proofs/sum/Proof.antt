@@ -3,9 +3,8 @@ use borrow.Author.Needs.{needs}
 use native.Mathlib.Omega.{arith}
 use Prim.Native.Nat.{_-_, _*_, _≤_}
 use mathlib.Core.Path.{_≡_, sym, ap, _∙_}
-use Rattle.graphs.specs.Total.{total}
+use Rattle.graphs.specs.Total.{total, total-none, total-more}
 use Rattle.listing.specs.Steps.{at}
-use Rattle.listing.specs.StepLaws.{total-none, total-more}
 use Rattle.listing.proofs.sum.Statement.{statement}
 use Rattle.listing.proofs.sum.Tie as tie
 

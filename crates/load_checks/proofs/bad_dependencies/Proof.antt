@@ -1,16 +1,17 @@
 -- `load_checks::bad_dependencies` meets its contract. Assumes nothing.
+use mathlib.Core.Bool.{false}
 use Prim.Native.Nat.{_-_, _≤_}
 use native.Mathlib.Omega.{arith}
-use mathlib.Core.Path.{sym, _∙_}
+use mathlib.Core.Path.{_≡_, sym, _∙_}
 use lib.ListN.{getD}
-use Rattle.load_checks.specs.Some.{None}
+use Rattle.graphs.specs.Lists.{some-below}
 use Rattle.load_checks.specs.Checks.{spans}
 use Rattle.load_checks.proofs.Spans.{wrong, span-first, span-hit, span-more, span-done, span-can}
 use Rattle.load_checks.proofs.bad_dependencies.Statement.{statement}
 use Rattle.load_checks.proofs.bad_dependencies.Tie as tie
 
 abbrev Inv-loop : tie.InvT-loop
-Inv-loop a d starts dependencies atom₀ atom = (atom ≤ a) × None (wrong (spans a d starts dependencies)) (getD starts atom 0)
+Inv-loop a d starts dependencies atom₀ atom = (atom ≤ a) × (some-below (wrong (spans a d starts dependencies)) (getD starts atom 0) ≡ false)
 
 abbrev μ-loop : tie.MeasureT-loop
 μ-loop a d starts dependencies atom₀ atom = a - atom

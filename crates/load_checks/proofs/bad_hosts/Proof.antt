@@ -1,22 +1,23 @@
 -- `load_checks::bad_hosts` meets its contract. Assumes nothing.
+use mathlib.Core.Bool.{false}
 use Prim.Native.Nat.{_-_, _≤_}
 use native.Mathlib.Omega.{arith}
-use mathlib.Core.Path.{sym, _∙_}
+use mathlib.Core.Path.{_≡_, sym, _∙_}
 use lib.ListN.{length, getD}
 use borrow.Author.Needs.{needs}
-use Rattle.load_checks.specs.Some.{None, none-first, none-more, none-done, some-hit}
+use Rattle.graphs.specs.Lists.{some-below, some-zero, none-more, none-left, some-found}
 use Rattle.load_checks.specs.Checks.{no-host, bad-hosts}
 use Rattle.load_checks.proofs.bad_hosts.Statement.{statement}
 use Rattle.load_checks.proofs.bad_hosts.Tie as tie
 
 abbrev Inv-loop : tie.InvT-loop
-Inv-loop hosts a k₀ k = (k ≤ length hosts) × None (λ e. no-host a (getD hosts e 0)) k
+Inv-loop hosts a k₀ k = (k ≤ length hosts) × (some-below (λ e. no-host a (getD hosts e 0)) k ≡ false)
 
 abbrev μ-loop : tie.MeasureT-loop
 μ-loop hosts a k₀ k = length hosts - k
 
 loop-holds : tie.Need-loop-holds Inv-loop μ-loop
-loop-holds c = (omega arith, none-first)
+loop-holds c = (omega arith, some-zero _)
 
 mul-not-host : tie.Need-mul-not-host Inv-loop μ-loop
 mul-not-host c = omega arith
@@ -29,7 +30,7 @@ not-host-requires c κs = search needs
 
 returns : tie.Need-returns Inv-loop μ-loop
 unfolding bad-hosts
-returns c = some-hit (c .before .before .before .before .loop .inv .1) (c .before .before .before .loop-test .taken) (sym (c .before .not-host .ensures) ∙ c .if1 .taken)
+returns c = some-found _ _ _ (c .before .before .before .loop-test .taken) (sym (c .before .not-host .ensures) ∙ c .if1 .taken)
 
 add-k : tie.Need-add-k Inv-loop μ-loop
 add-k c = omega arith
@@ -38,11 +39,11 @@ loop-less : tie.Need-loop-less Inv-loop μ-loop
 loop-less c = omega arith
 
 loop-again : tie.Need-loop-again Inv-loop μ-loop
-loop-again c = (omega arith, none-more (c .before .before .before .before .loop .inv .1) (sym (c .before .not-host .ensures) ∙ c .if1 .left))
+loop-again c = (omega arith, none-more _ _ (c .before .before .before .before .loop .inv .1) (sym (c .before .not-host .ensures) ∙ c .if1 .left))
 
 returns-2 : tie.Need-returns-2 Inv-loop μ-loop
 unfolding bad-hosts
-returns-2 c = none-done (c .before .loop .inv .1) (omega arith)
+returns-2 c = none-left _ _ _ (c .before .loop .inv .1) (omega arith)
 
 pub bad-hosts-spec : {M : Type 1} → statement M
 bad-hosts-spec =

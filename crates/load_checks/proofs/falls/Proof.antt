@@ -1,21 +1,23 @@
 -- `load_checks::falls` meets its contract. Assumes nothing.
+use mathlib.Core.Bool.{false}
+use mathlib.Core.Path.{_≡_}
 use borrow.Author.Tests.{lt-ltb, le-ltb}
 use Prim.Native.Nat.{_-_, _≤_}
 use native.Mathlib.Omega.{arith}
 use native.Mathlib.Numerals.{add-one}
-use Rattle.load_checks.specs.Some.{None, none-first, none-more, none-done, some-hit}
+use Rattle.graphs.specs.Lists.{some-below, some-zero, none-more, none-left, some-found}
 use Rattle.load_checks.specs.Checks.{drops, falling}
 use Rattle.load_checks.proofs.falls.Statement.{statement}
 use Rattle.load_checks.proofs.falls.Tie as tie
 
 abbrev Inv-loop : tie.InvT-loop
-Inv-loop starts count k₀ k = (k ≤ count) × None (drops starts) k
+Inv-loop starts count k₀ k = (k ≤ count) × (some-below (drops starts) k ≡ false)
 
 abbrev μ-loop : tie.MeasureT-loop
 μ-loop starts count k₀ k = count - k
 
 loop-holds : tie.Need-loop-holds Inv-loop μ-loop
-loop-holds c = (omega arith, none-first)
+loop-holds c = (omega arith, some-zero _)
 
 add-next : tie.Need-add-next Inv-loop μ-loop
 add-next c = omega arith
@@ -34,17 +36,17 @@ shared-slice-read-if1-2 c = omega arith
 
 returns : tie.Need-returns Inv-loop μ-loop
 unfolding falling
-returns c = some-hit (c .before .before .before .before .loop .inv .1) (c .before .before .before .loop-test .taken) (rw (← add-one (c .before .before .before .before .loop .k)) (lt-ltb _ _ (c .if1 .taken)))
+returns c = some-found _ _ _ (c .before .before .before .loop-test .taken) (rw (← add-one (c .before .before .before .before .loop .k)) (lt-ltb _ _ (c .if1 .taken)))
 
 loop-less : tie.Need-loop-less Inv-loop μ-loop
 loop-less c = omega arith
 
 loop-again : tie.Need-loop-again Inv-loop μ-loop
-loop-again c = (omega arith, none-more (c .before .before .before .before .loop .inv .1) (rw (← add-one (c .before .before .before .before .loop .k)) (le-ltb _ _ (c .if1 .left))))
+loop-again c = (omega arith, none-more _ _ (c .before .before .before .before .loop .inv .1) (rw (← add-one (c .before .before .before .before .loop .k)) (le-ltb _ _ (c .if1 .left))))
 
 returns-2 : tie.Need-returns-2 Inv-loop μ-loop
 unfolding falling
-returns-2 c = none-done (c .before .loop .inv .1) (omega arith)
+returns-2 c = none-left _ _ _ (c .before .loop .inv .1) (omega arith)
 
 pub falls-spec : {M : Type 1} → statement M
 falls-spec =

@@ -1,25 +1,25 @@
 -- `load_checks::span_fails` meets its contract. Assumes nothing.
 use Prim.Native.Nat.{_-_, _≤_}
 use native.Mathlib.Omega.{arith}
-use mathlib.Core.Path.{refl, sym, _∙_}
-use mathlib.Core.Bool.{_&&_}
+use mathlib.Core.Path.{_≡_, refl, sym, _∙_}
+use mathlib.Core.Bool.{false, _&&_}
 use lib.ListN.{getD}
 use lib.Dec.{leb}
 use borrow.Author.Needs.{needs}
 use borrow.Author.Tests.{le-leb, lt-leb}
-use Rattle.load_checks.specs.Some.{None, none-more, none-done, some-hit}
+use Rattle.graphs.specs.Lists.{some-below, none-more, none-left, some-found, none-below}
 use Rattle.load_checks.specs.Checks.{not-other, bad-span}
 use Rattle.load_checks.proofs.span_fails.Statement.{statement}
 use Rattle.load_checks.proofs.span_fails.Tie as tie
 
 abbrev Inv-loop : tie.InvT-loop
-Inv-loop dependencies from end atom a k₀ k = (from ≤ k) × (k ≤ end) × None (λ i. leb from i && not-other a atom (getD dependencies i 0)) k
+Inv-loop dependencies from end atom a k₀ k = (from ≤ k) × (k ≤ end) × (some-below (λ i. leb from i && not-other a atom (getD dependencies i 0)) k ≡ false)
 
 abbrev μ-loop : tie.MeasureT-loop
 μ-loop dependencies from end atom a k₀ k = end - k
 
 loop-holds : tie.Need-loop-holds Inv-loop μ-loop
-loop-holds c = (omega arith, omega arith, record { at = λ x b. rw (lt-leb (c .before .args .from) x b) refl })
+loop-holds c = (omega arith, omega arith, none-below _ _ (λ x b. rw (lt-leb (c .before .args .from) x b) refl))
 
 mul-not-another : tie.Need-mul-not-another Inv-loop μ-loop
 mul-not-another c = omega arith
@@ -32,7 +32,7 @@ not-another-requires c κs = search needs
 
 returns : tie.Need-returns Inv-loop μ-loop
 unfolding bad-span
-returns c = some-hit (c .before .before .before .before .loop .inv .2) (c .before .before .before .loop-test .taken) (rw (le-leb (c .before .before .before .before .before .before .args .from) (c .before .before .before .before .loop .k) (omega arith)) (sym (c .before .not-another .ensures) ∙ c .if1 .taken))
+returns c = some-found _ _ _ (c .before .before .before .loop-test .taken) (rw (le-leb (c .before .before .before .before .before .before .args .from) (c .before .before .before .before .loop .k) (omega arith)) (sym (c .before .not-another .ensures) ∙ c .if1 .taken))
 
 add-k : tie.Need-add-k Inv-loop μ-loop
 add-k c = omega arith
@@ -41,11 +41,11 @@ loop-less : tie.Need-loop-less Inv-loop μ-loop
 loop-less c = omega arith
 
 loop-again : tie.Need-loop-again Inv-loop μ-loop
-loop-again c = (omega arith, omega arith, none-more (c .before .before .before .before .loop .inv .2) (rw (le-leb (c .before .before .before .before .before .before .args .from) (c .before .before .before .before .loop .k) (omega arith)) (sym (c .before .not-another .ensures) ∙ c .if1 .left)))
+loop-again c = (omega arith, omega arith, none-more _ _ (c .before .before .before .before .loop .inv .2) (rw (le-leb (c .before .before .before .before .before .before .args .from) (c .before .before .before .before .loop .k) (omega arith)) (sym (c .before .not-another .ensures) ∙ c .if1 .left)))
 
 returns-2 : tie.Need-returns-2 Inv-loop μ-loop
 unfolding bad-span
-returns-2 c = none-done (c .before .loop .inv .2) (omega arith)
+returns-2 c = none-left _ _ _ (c .before .loop .inv .2) (omega arith)
 
 pub span-fails-spec : {M : Type 1} → statement M
 span-fails-spec =

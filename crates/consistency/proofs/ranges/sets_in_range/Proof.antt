@@ -1,10 +1,9 @@
 -- `consistency::ranges::sets_in_range` meets its contract. Assumes nothing.
 use Prim.Native.Nat.{_+_, _-_, _^_, _≤_, _<_}
 use native.Mathlib.Omega.{arith}
-use Rattle.graphs.specs.Bools.{Decides}
+use Rattle.graphs.specs.Bools.{Decides, ltb-decides}
 use Rattle.entry_set.specs.Lanes.{lanes}
 use Rattle.placement.proofs.Deciding.{each-none, each-more, each-done}
-use Rattle.consistency.proofs.Tests.{ltb-decides}
 use Rattle.consistency.specs.Ranges.{SetsBelow}
 use Rattle.consistency.proofs.ranges.sets_in_range.Statement.{statement}
 use Rattle.consistency.proofs.ranges.sets_in_range.Tie as tie

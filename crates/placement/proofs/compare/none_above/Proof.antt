@@ -2,9 +2,9 @@
 use Prim.Native.Nat.{_+_, _-_, _≤_}
 use native.Mathlib.Omega.{arith}
 use lib.ListN.{getD}
-use Rattle.graphs.specs.Bools.{Decides}
+use Rattle.graphs.specs.Bools.{Decides, leb-decides}
 use Rattle.placement.specs.Compare.{PartUpTo}
-use Rattle.placement.proofs.Deciding.{leb-decides, each-none, each-more, each-done}
+use Rattle.placement.proofs.Deciding.{each-none, each-more, each-done}
 use Rattle.placement.proofs.compare.none_above.Statement.{statement}
 use Rattle.placement.proofs.compare.none_above.Tie as tie
 use Rattle.placement.proofs.compare.none_above.Reads as reads

@@ -2,9 +2,9 @@
 use mathlib.Core.Path.{_≡_}
 use Prim.Native.Nat.{_+_, _-_, _≤_}
 use lib.ListN.{getD}
-use Rattle.placement.proofs.Deciding.{eqb-decides, each-none, each-more, each-done}
+use Rattle.placement.proofs.Deciding.{each-none, each-more, each-done}
 use native.Mathlib.Omega.{arith}
-use Rattle.graphs.specs.Bools.{Decides}
+use Rattle.graphs.specs.Bools.{Decides, eqb-decides}
 use Rattle.placement.specs.Compare.{SamePart}
 use Rattle.placement.proofs.compare.same_numbers.Statement.{statement}
 use Rattle.placement.proofs.compare.same_numbers.Tie as tie

@@ -1,7 +1,7 @@
 use native.Mathlib.Omega.{arith}
 use mathlib.Core.Path.{refl, sym, _∙_}
 use borrow.Author.Tests.{not-true, not-false}
-use Rattle.reduced_chunk_graph.specs.MoveLaws.{goes-ten, goes-eleven, go-node, legal-short, twelve-fits, can-try, tried-goes}
+use Rattle.reduced_chunk_graph.specs.MoveLaws.{goes-ten, goes-eleven, go-node, twelve-fits, can-try, tried-goes}
 use borrow.Author.Needs.{needs}
 use Rattle.reduced_chunk_graph.proofs.moves.go_on.Statement.{statement}
 use Rattle.reduced_chunk_graph.proofs.moves.go_on.Tie as tie
@@ -11,6 +11,7 @@ use Rattle.entry_set.proofs.equal.Reads as equal-reads
 use Rattle.entry_set.proofs.from_list.Reads as from-list-reads
 use Rattle.entry_set.proofs.is_legal.Reads as is-legal-reads
 use Rattle.entry_set.proofs.read_lanes.Reads as read-lanes-reads
+use Rattle.entry_set.specs.SetLaws.{legal-short}
 use Rattle.moving.proofs.try_checked.Reads as try-checked-reads
 
 -- src/moves.rt:32:9
@@ -27,7 +28,7 @@ returns-2 c = goes-eleven (c .before .before .before .before .before .before .be
 
 -- src/moves.rt:37:9
 from-list-requires : tie.Need-from-list-requires
-from-list-requires c κs = legal-short _ (c .before .before .before .before .before .before .before .before .before .before .args .bits .now) (c .before .before .before .before .before .before .before .before .before .before .pre .loadable .sizes .bits) (sym (c .before .is-legal .ensures) ∙ not-false _ (c .if2 .left))
+from-list-requires c κs = legal-short _ (c .before .before .before .before .before .before .before .before .before .before .args .bits .now) (c .before .before .before .before .before .before .before .before .before .before .pre .loadable .sizes .bits) (c .before .is-legal .ensures) (c .if2 .left)
 
 -- src/moves.rt:38:17
 mul-lanes : tie.Need-mul-lanes

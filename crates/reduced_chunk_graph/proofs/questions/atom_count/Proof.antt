@@ -1,7 +1,8 @@
 -- `questions::atom_count` meets its contract. Assumes nothing.
 use denote.Ref.{now}
 use native.Mathlib.Omega.{arith}
-use Rattle.reduced_chunk_graph.specs.Asked.{asked-back, loads, head-inside, checks-some, legal-short, count-eleven, count-told}
+use Rattle.entry_set.specs.SetLaws.{legal-short}
+use Rattle.reduced_chunk_graph.specs.Asked.{asked-back, loads, head-inside, checks-some, count-eleven, count-told}
 use borrow.Author.Needs.{needs}
 use Rattle.reduced_chunk_graph.proofs.questions.atom_count.Statement.{statement}
 use Rattle.reduced_chunk_graph.proofs.questions.atom_count.Tie as tie
@@ -22,7 +23,7 @@ registered-requires : tie.Need-registered-requires
 registered-requires c κs = head-inside _ _ _ _ (c .before .before .before .later-row .ensures) (omega arith)
 
 from-list-requires : tie.Need-from-list-requires
-from-list-requires c κs = legal-short _ _ _ _ (c .before .before .before .before .later-row .ensures) (omega arith) (now (c .before .before .before .before .before .before .before .before .before .before .args .bits)) _ (c .before .before .is-legal .ensures) (c .before .if2 .left)
+from-list-requires c κs = legal-short _ (now (c .before .before .before .before .before .before .before .before .before .before .args .bits)) (loads _ _ _ _ (c .before .before .before .before .later-row .ensures) (omega arith) .sizes .bits) (c .before .before .is-legal .ensures) (c .before .if2 .left)
 
 atom-count-requires : tie.Need-atom-count-requires
 atom-count-requires c κs = checks-some _ _ _ _ (c .before .before .before .before .before .later-row .ensures) (omega arith) (c .before .registered .ensures)

@@ -1,7 +1,8 @@
 -- `questions::multiplicity` meets its contract. Assumes nothing.
 use denote.Ref.{now}
 use native.Mathlib.Omega.{arith}
-use Rattle.reduced_chunk_graph.specs.Asked.{asked-back, loads, head-inside, checks-some, legal-short, from-eleven, to-eleven, multiplicity-told}
+use Rattle.entry_set.specs.SetLaws.{legal-short}
+use Rattle.reduced_chunk_graph.specs.Asked.{asked-back, loads, head-inside, checks-some, from-eleven, to-eleven, multiplicity-told}
 use borrow.Author.Needs.{needs}
 use Rattle.reduced_chunk_graph.proofs.questions.multiplicity.Statement.{statement}
 use Rattle.reduced_chunk_graph.proofs.questions.multiplicity.Tie as tie
@@ -28,10 +29,10 @@ registered-requires : tie.Need-registered-requires
 registered-requires c κs = head-inside _ _ _ _ (c .before .before .before .before .before .later-row .ensures) (omega arith)
 
 from-list-requires : tie.Need-from-list-requires
-from-list-requires c κs = legal-short _ _ _ _ (c .before .before .before .before .before .before .later-row .ensures) (omega arith) (now (c .before .before .before .before .before .before .before .before .before .before .before .before .before .args .from)) _ (c .before .before .before .before .is-legal .ensures) (c .before .before .before .if2 .left)
+from-list-requires c κs = legal-short _ (now (c .before .before .before .before .before .before .before .before .before .before .before .before .before .args .from)) (loads _ _ _ _ (c .before .before .before .before .before .before .later-row .ensures) (omega arith) .sizes .bits) (c .before .before .before .before .is-legal .ensures) (c .before .before .before .if2 .left)
 
 from-list-requires-2 : tie.Need-from-list-requires-2
-from-list-requires-2 c κs = legal-short _ _ _ _ (c .before .before .before .before .before .before .before .later-row .ensures) (omega arith) (now (c .before .before .before .before .before .before .before .before .before .before .before .before .before .before .args .to)) _ (c .before .before .before .is-legal2 .ensures) (c .before .before .if3 .left)
+from-list-requires-2 c κs = legal-short _ (now (c .before .before .before .before .before .before .before .before .before .before .before .before .before .before .args .to)) (loads _ _ _ _ (c .before .before .before .before .before .before .before .later-row .ensures) (omega arith) .sizes .bits) (c .before .before .before .is-legal2 .ensures) (c .before .before .if3 .left)
 
 multiplicity-requires : tie.Need-multiplicity-requires
 multiplicity-requires c κs = checks-some _ _ _ _ (c .before .before .before .before .before .before .before .before .later-row .ensures) (omega arith) (c .before .before .registered .ensures)
