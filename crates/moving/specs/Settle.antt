@@ -7,6 +7,7 @@ use native.Mathlib.Omega.{arith}
 use native.Mathlib.Nat.{zero-add}
 use lib.Dec.{eqb}
 use lib.ListN.{length, getD, set}
+use Rattle.slot_graph.specs.Asked.{Room, Scratch}
 use Rattle.graphs.specs.Count.{ind}
 use Rattle.graphs.specs.Lists.{below, has-at}
 use Rattle.graphs.specs.Tab.{tab, tab-at, is-tab, tab-alike}
@@ -33,7 +34,7 @@ use Rattle.moving.specs.Stands.{Stands, stands-long, registered-at, coun
 use Rattle.moving.specs.Areas.{counterIn, raised, committed}
 use Rattle.moving.specs.Changes.{with-marks, with-node, with-raised, stands-marks, stands-raised, raised-fresh, stands-committed}
 use Rattle.moving.specs.Outcome.{Trial, with-test, walk-marks, test-walk}
-use Rattle.moving.specs.Test.{CanTest, Room, walk-area, closes, tested, marked-long}
+use Rattle.moving.specs.Test.{CanTest, walk-area, closes, tested, marked-long}
 use Rattle.moving.specs.Commit.{CanCommit}
 use Rattle.moving.specs.Trial.{CanTrial}
 
@@ -115,7 +116,8 @@ pub record SettleRoom (load : Load) (n : ℕ) (counts s t starts list colour cur
   pub counts-long : n ≤ length counts
   pub sources-long : load .D + load .E ≤ length s
   pub targets-long : load .D + load .E ≤ length t
-  pub room : Room n (load .D + load .E) starts list colour cursor stack low order
+  pub lists : Room (load .D + load .E) n starts list
+  pub scratch : Scratch n colour cursor stack low order
 
 -- the graph with the atom in its new node, and the present one
 abbrev pub movedEdge : Load → ℕ → List ℕ → ℕ → ℕ → ℕ → ℕ → Bool
@@ -179,11 +181,11 @@ module _ {load : Load} {n : ℕ} {area : List ℕ} {atom to : ℕ} {sources targ
         record {
           ask =
               record {
-                rows = can .stands .small;
                 slots = omega (arith, can .loadable .sizes .entries, can .loadable .sizes .bits);
                 sources = b;
                 targets = c;
                 ends = ends;
+                small = omega (arith, can .stands .small);
               };
           node = within;
           room = room;

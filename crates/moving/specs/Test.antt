@@ -8,13 +8,12 @@ use lib.Dec.{eqb}
 use borrow.Author.Tests.{eq-eqb, ne-eqb}
 use lib.ListN.{length, getD, set, replicate, length-set, length-replicate, getD-replicate}
 use lib.Seq.{getD-set-other}
+use Rattle.slot_graph.specs.Asked.{Slots}
 use Rattle.graphs.specs.Lists.{below}
 use Rattle.graphs.specs.Tab.{tab-length, tab-at}
 use Rattle.graphs.specs.Walk.{via, cyclic}
-use Rattle.graphs.specs.Slots.{slotEdge, Ends}
+use Rattle.graphs.specs.Slots.{slotEdge}
 use Rattle.neighbours.specs.Lists.{Graph}
-use Rattle.neighbours.specs.Steps.{CanGroup, Grouped}
-use Rattle.neighbours.specs.Grouped.{group-graph}
 use Rattle.walks.specs.Marks.{marking, marked}
 use Rattle.walks.specs.Spread.{CanReach}
 use Rattle.layout.specs.Patch.{patch, part, part-long, part-at, patch-long, patch-in}
@@ -23,14 +22,6 @@ use borrow.Rule.Slice.PartMut.{midOf, putMid}
 use Rattle.move_area.specs.Bodies.{laneAt, atomAt}
 use Rattle.move_area.specs.Calls.{last, next}
 use Rattle.moving.specs.Areas.{counterIn, raised, marks-lent}
-
--- the first m slots lead between n nodes
-pub record CanAsk (s t : List ℕ) (m n : ℕ) : Type 0 where
-  pub rows : n ≤ 1024
-  pub slots : m ≤ 8448
-  pub sources : m ≤ length s
-  pub targets : m ≤ length t
-  pub ends : Ends s t n m
 
 -- the marks lane, and every mark below the counter
 pub record Fresh (area : List ℕ) (n counter : ℕ) : Type 0 where
@@ -44,28 +35,13 @@ pub record CanMark (area : List ℕ) (n counter y : ℕ) (starts list stack : Li
   pub fresh : Fresh area n counter
 
 pub record CanReachItself (area : List ℕ) (n counter y : ℕ) (s t : List ℕ) (m : ℕ) : Type 0 where
-  pub ask : CanAsk s t m n
+  pub ask : Slots s t m n
   pub node : y < n
   pub fresh : Fresh area n counter
 
--- room for the neighbour lists of m slots, and for a walk over them
-pub record WalkRoom (n m : ℕ) (starts list stack : List ℕ) : Type 0 where
-  pub rows : n < length starts
-  pub room : m ≤ length list
-  pub short : length list ≤ 8448
-  pub places : n ≤ length stack
-
--- and for a full search
-pub record Room (n m : ℕ) (starts list colour cursor stack low order : List ℕ) : Type 0 where
-  pub walk : WalkRoom n m starts list stack
-  pub colours : n ≤ length colour
-  pub cursors : n ≤ length cursor
-  pub lows : n ≤ length low
-  pub orders : n ≤ length order
-
 -- no mark is above the counter
 pub record CanTest (area : List ℕ) (n y : ℕ) (s t : List ℕ) (m : ℕ) : Type 0 where
-  pub ask : CanAsk s t m n
+  pub ask : Slots s t m n
   pub node : y < n
   pub room : atomAt n ≤ length area
   pub low : (x : ℕ) → x < n → getD area (laneAt n 9 + x) 0 ≤ counterIn n area
@@ -85,14 +61,6 @@ closes e n y l = cond (was-cyclic n l) (cyclic e (below n)) (via e (below n) y y
 -- the area afterwards: counter and marks are left alone where the graph had a cycle
 unfoldable pub tested : (ℕ → ℕ → Bool) → ℕ → ℕ → List ℕ → List ℕ
 tested e n y l = cond (was-cyclic n l) l (walk-area e n (next (counterIn n l)) y (raised n l))
-
--- the slots grouped by source are the graph's neighbour lists
-module _ {s t : List ℕ} {m n : ℕ} {l out stack : List ℕ} (can : CanAsk s t m n) (w : WalkRoom n m l out stack) where
-  pub group-can : CanGroup s t m n l out
-  group-can = record { slots = can .slots; keys = can .sources; values = can .targets; rows = w .rows; within = can .ends .source; room = w .room }
-
-  pub ask-graph : {l′ out′ : List ℕ} → Grouped s t m n l l′ out out′ → Graph l′ out′ n
-  ask-graph g = group-graph g (can .ends) (w .rows) (w .room) (omega (arith, w .short))
 
 pub marked-long : (e : ℕ → ℕ → Bool) (n counter y : ℕ) (l : List ℕ) → length (marked e n counter y l) ≡ length l
 unfolding marking

@@ -1,43 +1,14 @@
 // Step 3's test: whether the graph of the moved placement has a cycle.
 ghost use mathlib.Core.Path.{_≡_};
+ghost use Prim.Native.Nat.{_≤_};
+ghost use lib.ListN.{length};
 ghost use Rattle.graphs.specs.Lists.{below};
-ghost use Rattle.graphs.specs.Walk.{via, cyclic};
+ghost use Rattle.graphs.specs.Walk.{via};
 ghost use Rattle.graphs.specs.Slots.{slotEdge};
 ghost use Rattle.neighbours.specs.Lists.{edge};
-ghost use Rattle.moving.specs.Test.{CanAsk, CanMark, CanReachItself, CanTest, WalkRoom, Room, walk-area, tested, closes};
+ghost use Rattle.slot_graph.specs.Asked.{Room, Scratch};
+ghost use Rattle.moving.specs.Test.{CanMark, CanReachItself, CanTest, walk-area, tested, closes};
 use super::writes::raise;
-
-// Whether the graph of the m slots has a cycle, by a full search. `starts` and `list` become the neighbour lists; the others are scratch.
-fn has_cycle(
-    n: usize,
-    sources: &[u32],
-    targets: &[u32],
-    m: usize,
-    starts: &mut [u32],
-    list: &mut [u32],
-    colour: &mut [u32],
-    cursor: &mut [u32],
-    stack: &mut [u32],
-    low: &mut [u32],
-    order: &mut [u32],
-) -> bool
-    requires { ⌜ CanAsk (now sources) (now targets) m n × Room n m (now starts) (now list) (now colour) (now cursor) (now stack) (now low) (now order) ⌝ }
-    ensures { λ r. ⌜ r ≡ cyclic (slotEdge (now (sources .entry)) (now (targets .entry)) m) (below n) ⌝ }
-{
-    neighbours::group(sources, targets, m, n, starts, list);
-    depth_first::has_cycle(
-        neighbours::Direction::Dependencies,
-        starts,
-        list,
-        list,
-        n,
-        colour,
-        cursor,
-        stack,
-        low,
-        order,
-    )
-}
 
 // The nodes that `to` reaches in one step or more have the counter as their mark.
 fn mark(
@@ -80,7 +51,7 @@ fn reaches_itself(
     list: &mut [u32],
     stack: &mut [u32],
 ) -> bool
-    requires { ⌜ CanReachItself (now area) n counter to (now sources) (now targets) m × WalkRoom n m (now starts) (now list) (now stack) ⌝ }
+    requires { ⌜ CanReachItself (now area) n counter to (now sources) (now targets) m × Room m n (now starts) (now list) × (n ≤ length (now stack)) ⌝ }
     ensures { λ r. ⌜ r ≡ via (slotEdge (now (sources .entry)) (now (targets .entry)) m) (below n) to to ⌝ }
     ensures { λ _. ⌜ now (area .exit) ≡ walk-area (slotEdge (now (sources .entry)) (now (targets .entry)) m) n counter to (now (area .entry)) ⌝ }
 {
@@ -106,16 +77,16 @@ pub fn closes_cycle(
     low: &mut [u32],
     order: &mut [u32],
 ) -> bool
-    requires { ⌜ CanTest (now area) n to (now sources) (now targets) m × Room n m (now starts) (now list) (now colour) (now cursor) (now stack) (now low) (now order) ⌝ }
+    requires { ⌜ CanTest (now area) n to (now sources) (now targets) m × Room m n (now starts) (now list) × Scratch n (now colour) (now cursor) (now stack) (now low) (now order) ⌝ }
     ensures { λ r. ⌜ r ≡ closes (slotEdge (now (sources .entry)) (now (targets .entry)) m) n to (now (area .entry)) ⌝ }
     ensures { λ _. ⌜ now (area .exit) ≡ tested (slotEdge (now (sources .entry)) (now (targets .entry)) m) n to (now (area .entry)) ⌝ }
 {
     if area[n * n + 2] == 0 {
-        return has_cycle(
-            n,
+        return slot_graph::has_cycle(
             sources,
             targets,
             m,
+            n,
             starts,
             list,
             colour,

@@ -42,7 +42,8 @@ settle-in-requires c κs =
         counts-long = omega (arith, can .stands .small);
         sources-long = omega (arith, can .loadable .sizes .entries, can .loadable .sizes .bits);
         targets-long = omega (arith, can .loadable .sizes .entries, can .loadable .sizes .bits);
-        room = record { walk = record { rows = omega (arith, can .stands .small); room = omega (arith, can .loadable .sizes .entries, can .loadable .sizes .bits); short = omega arith; places = omega (arith, can .stands .small) }; colours = omega (arith, can .stands .small); cursors = omega (arith, can .stands .small); lows = omega (arith, can .stands .small); orders = omega (arith, can .stands .small) };
+        lists = record { rows = omega (arith, can .stands .small); room = omega (arith, can .loadable .sizes .entries, can .loadable .sizes .bits); short = omega arith };
+        scratch = record { colours = omega (arith, can .stands .small); cursors = omega (arith, can .stands .small); places = omega (arith, can .stands .small); lows = omega (arith, can .stands .small); orders = omega (arith, can .stands .small) };
       },
     )
 

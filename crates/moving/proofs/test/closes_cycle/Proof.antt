@@ -18,7 +18,7 @@ slice-read-if1 : tie.Need-slice-read-if1
 slice-read-if1 c = search needs
 
 has-cycle-requires : tie.Need-has-cycle-requires
-has-cycle-requires c κs = search needs
+has-cycle-requires c κs = let p = c .before .before .before .before .before .before .before .before .before .before .before .before .before .before .before .before .before .before .before .pre in record { slots = p .0 .ask; lists = p .1; scratch = p .2 }
 
 same-length : tie.Need-same-length
 same-length c = search needs
@@ -50,7 +50,7 @@ raise-requires : tie.Need-raise-requires
 raise-requires c κs = search needs
 
 reaches-itself-requires : tie.Need-reaches-itself-requires
-reaches-itself-requires c κs = (walk-can (c .before .before .before .before .before .before .before .before .before .before .before .before .before .before .before .before .before .before .before .before .pre .0) (c .before .before .before .before .before .before .raise .ensures .0) (c .before .before .before .before .before .before .raise .ensures .1), c .before .before .before .before .before .before .before .before .before .before .before .before .before .before .before .before .before .before .before .before .pre .1 .walk)
+reaches-itself-requires c κs = (walk-can (c .before .before .before .before .before .before .before .before .before .before .before .before .before .before .before .before .before .before .before .before .pre .0) (c .before .before .before .before .before .before .raise .ensures .0) (c .before .before .before .before .before .before .raise .ensures .1), c .before .before .before .before .before .before .before .before .before .before .before .before .before .before .before .before .before .before .before .before .pre .1, c .before .before .before .before .before .before .before .before .before .before .before .before .before .before .before .before .before .before .before .before .pre .2 .places)
 
 same-length-8 : tie.Need-same-length-8
 same-length-8 c = search needs

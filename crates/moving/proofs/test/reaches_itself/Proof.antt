@@ -1,6 +1,7 @@
 -- `reaches_itself` meets its contract. Assumes nothing.
+use Rattle.slot_graph.proofs.Grouped.{group-can, lists-graph}
 use Rattle.neighbours.specs.Grouped.{group-edges}
-use Rattle.moving.specs.Test.{group-can, ask-graph, itself-done}
+use Rattle.moving.specs.Test.{itself-done}
 use borrow.Author.Needs.{needs}
 use Rattle.moving.proofs.test.reaches_itself.Statement.{statement}
 use Rattle.moving.proofs.test.reaches_itself.Tie as tie
@@ -11,7 +12,7 @@ group-requires c κs = search needs
 mark-requires : tie.Need-mark-requires
 mark-requires c κs =
     let can = c .before .before .before .before .before .before .before .before .before .before .before .before .before .before .before .before .before .pre in
-    record { node = can .0 .node; places = can .1 .places; graph = ask-graph (can .0 .ask) (can .1) (c .before .before .before .before .before .before .before .before .group .ensures); fresh = can .0 .fresh }
+    record { node = can .0 .node; places = can .2; graph = lists-graph (can .0 .ask) (can .1) (c .before .before .before .before .before .before .before .before .group .ensures); fresh = can .0 .fresh }
 
 mul-result : tie.Need-mul-result
 mul-result c = search needs
