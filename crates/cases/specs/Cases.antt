@@ -15,7 +15,7 @@ use Rattle.walks.specs.Closed.{closed}
 use Rattle.merge_state.specs.State.{put, misfit}
 use Rattle.merge_state.specs.Methods.{reachable, warns, absorbed, merged, created-chunk, candidate, passed}
 use Rattle.merge_state.specs.Methods as methods
-use Rattle.merge_state.specs.Table.{first-fitting, stray, later, acted, turned}
+use Rattle.merge_state.specs.Table.{first-fitting, any-misfit, later, acted, turned}
 use Rattle.cases.specs.MergeRun.{MergeCase, MergeOutcome, merge-outcome, among, turn, replies-to, left-by, needed-by, dependencies}
 use Rattle.cases.specs.Merges.{merge-cases}
 
@@ -40,5 +40,5 @@ abbrev pub table : List Case
 table = map moves move-cases ++ map merges merge-cases
 
 pub cases-right : map outcome table ≡ map expected table
-unfolding move-outcome tries every shut any all has below count tab via cyclic only joined parts owner lies members entry facade mult edge insert rising row rows edges register move kth ask call answers ledger row4 row5 row6 first-row entry-sets row7 row8 loading-row loading closed put misfit reachable warns absorbed merged created-chunk methods.merges candidate passed first-fitting stray later acted turned merge-outcome among turn replies-to left-by needed-by dependencies
+unfolding move-outcome tries every shut any all has below count tab via cyclic only joined parts owner lies members entry facade mult edge insert rising row rows edges register move kth ask call answers ledger row4 row5 row6 first-row entry-sets row7 row8 loading-row loading closed put misfit reachable warns absorbed merged created-chunk methods.merges candidate passed first-fitting any-misfit later acted turned merge-outcome among turn replies-to left-by needed-by dependencies
 cases-right = refl

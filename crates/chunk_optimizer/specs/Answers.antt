@@ -3,13 +3,13 @@ use Prim.Native.Nat.{ℕ}
 use mathlib.Core.Bool.{Bool}
 use mathlib.Core.List.{List}
 use Rattle.merge_state.specs.Table.{Answer, done, refused, says, chunk, nothing, lists}
-use Rattle.chunk_optimizer.specs.declared.Done as d
-use Rattle.chunk_optimizer.specs.declared.TempIdx as t
+use Rattle.chunk_optimizer.specs.declared.DoneAnswer as d
+use Rattle.chunk_optimizer.specs.declared.TempIdxAnswer as t
 use Rattle.chunk_optimizer.specs.declared.OptionChunkIdx as o
-use Rattle.chunk_optimizer.specs.declared.Said as s
+use Rattle.chunk_optimizer.specs.declared.YesNoAnswer as s
 use Rattle.chunk_optimizer.specs.declared.PassAnswer as p
 
-abbrev pub done-told : d.Done → Answer
+abbrev pub done-told : d.DoneAnswer → Answer
 done-told d.the-variants.Done = done
 done-told (d.the-variants.Refused n) = refused n
 
@@ -17,11 +17,11 @@ abbrev option-told : o.OptionChunkIdx → Answer
 option-told (o.the-variants.Some x) = chunk (x .0)
 option-told o.the-variants.None = nothing
 
-abbrev pub temp-told : t.TempIdx → Answer
+abbrev pub temp-told : t.TempIdxAnswer → Answer
 temp-told (t.the-variants.Is x) = option-told x
 temp-told (t.the-variants.Refused n) = refused n
 
-abbrev pub said-told : s.Said → Answer
+abbrev pub said-told : s.YesNoAnswer → Answer
 said-told (s.the-variants.Is b) = says b
 said-told (s.the-variants.Refused n) = refused n
 

@@ -2,15 +2,17 @@
 mod load; // load.rt: new
 
 pub use load::new;
+use merge_area::places::key_place;
 use merge_state::ChunkIdx;
 use merge_state::ModuleIdx;
+use merge_state::NONE;
 use merge_state::Sizes;
 ghost use Rattle.merge_state.specs.Table.{init-module-assignment, add-module-to-chunk, register-chunk-graph-index, to-temp-idx, calc-chunk-dependencies, would-create-circular-dependency, is-reachable, merge-chunk-dependencies, pass};
 ghost use Rattle.merge_area.specs.Calls.{Called, PassCalled};
 ghost use Rattle.chunk_optimizer.specs.Answers.{done-told, temp-told, said-told, pass-told, assigned};
 
 // What a call answers that is neither a question nor the pass.
-pub enum Done {
+pub enum DoneAnswer {
     Done,
     Refused(u32),
 }
@@ -22,13 +24,13 @@ pub enum OptionChunkIdx {
 }
 
 // What to_temp_idx answers.
-pub enum TempIdx {
+pub enum TempIdxAnswer {
     Is(OptionChunkIdx),
     Refused(u32),
 }
 
 // What a question answers.
-pub enum Said {
+pub enum YesNoAnswer {
     Is(bool),
     Refused(u32),
 }
@@ -43,40 +45,40 @@ pub enum PassAnswer {
 pub fn init_module_assignment(
     sizes: Sizes,
     area: &mut [u32],
-    listed: ModuleIdx,
+    m: ModuleIdx,
     bits: &[u64],
     effects: &[u32],
-) -> Done
-    ensures { λ r. ⌜ Called sizes (now (area .entry)) (init-module-assignment (listed .0) (now (bits .entry)) (now (effects .entry))) (done-told r) (now (area .exit)) ⌝ }
+) -> DoneAnswer
+    ensures { λ r. ⌜ Called sizes (now (area .entry)) (init-module-assignment (m .0) (now (bits .entry)) (now (effects .entry))) (done-told r) (now (area .exit)) ⌝ }
 {
-    let row = merge_rows::rows::init_row(sizes, area, listed.0, bits, effects);
+    let row = merge_rows::rows::init_row(sizes, area, m, bits, effects);
     if row != 0 {
-        return Done::Refused(row);
+        return DoneAnswer::Refused(row);
     }
     let chunk = merge_rows::rows::find_chunk(sizes, area, bits);
-    let m = listed.0 as usize;
+    let at = m.0 as usize;
     let set = entry_set::from_list(bits);
-    merge_writes::assign(sizes, area, listed.0, set, effects[m] != 0, chunk);
-    Done::Done
+    merge_writes::assign(sizes, area, m, chunk, set, effects[at] != 0);
+    DoneAnswer::Done
 }
 
 // Lists a module with a chunk.
 pub fn add_module_to_chunk(
     sizes: Sizes,
     area: &mut [u32],
-    listed: ModuleIdx,
+    m: ModuleIdx,
     chunk: ChunkIdx,
     effects: &[u32],
-) -> Done
-    ensures { λ r. ⌜ Called sizes (now (area .entry)) (add-module-to-chunk (listed .0) (chunk .0) (now (effects .entry))) (done-told r) (now (area .exit)) ⌝ }
+) -> DoneAnswer
+    ensures { λ r. ⌜ Called sizes (now (area .entry)) (add-module-to-chunk (m .0) (chunk .0) (now (effects .entry))) (done-told r) (now (area .exit)) ⌝ }
 {
-    let row = merge_rows::rows::add_row(sizes, area, listed.0, chunk.0, effects);
+    let row = merge_rows::rows::add_row(sizes, area, m, chunk, effects);
     if row != 0 {
-        return Done::Refused(row);
+        return DoneAnswer::Refused(row);
     }
-    let m = listed.0 as usize;
-    merge_writes::append(sizes, area, chunk.0, listed.0, effects[m] != 0);
-    Done::Done
+    let at = m.0 as usize;
+    merge_writes::append(sizes, area, m, chunk, effects[at] != 0);
+    DoneAnswer::Done
 }
 
 // Records the chunk of a key, in place of any that it has.
@@ -85,35 +87,34 @@ pub fn register_chunk_graph_index(
     area: &mut [u32],
     key: ChunkIdx,
     chunk: ChunkIdx,
-) -> Done
+) -> DoneAnswer
     ensures { λ r. ⌜ Called sizes (now (area .entry)) (register-chunk-graph-index (key .0) (chunk .0)) (done-told r) (now (area .exit)) ⌝ }
 {
-    let row = merge_rows::rows::register_row(sizes, area, key.0, chunk.0);
+    let row = merge_rows::rows::register_row(sizes, area, key, chunk);
     if row != 0 {
-        return Done::Refused(row);
+        return DoneAnswer::Refused(row);
     }
-    merge_writes::register(sizes, area, key.0 as usize, chunk.0);
-    Done::Done
+    merge_writes::register(sizes, area, key, chunk);
+    DoneAnswer::Done
 }
 
 // The chunk registered for a key, or none.
-pub fn to_temp_idx(sizes: Sizes, area: &[u32], key: ChunkIdx) -> TempIdx
+pub fn to_temp_idx(sizes: Sizes, area: &[u32], key: ChunkIdx) -> TempIdxAnswer
     ensures { λ r. ⌜ Called sizes (now (area .entry)) (to-temp-idx (key .0)) (temp-told r) (now (area .entry)) ⌝ }
 {
     let row = merge_area::standing_row(sizes, false, false, area);
     if row != 0 {
-        return TempIdx::Refused(row);
+        return TempIdxAnswer::Refused(row);
     }
     let k = key.0 as usize;
     if sizes.chunks <= k {
-        return TempIdx::Is(OptionChunkIdx::None);
+        return TempIdxAnswer::Is(OptionChunkIdx::None);
     }
-    let at = sizes.chunks * sizes.chunks + 32 + 20 * sizes.chunks + k;
-    let chunk = area[at];
-    if chunk == 4294967295 {
-        return TempIdx::Is(OptionChunkIdx::None);
+    let chunk = area[key_place(sizes, k)];
+    if chunk == NONE {
+        return TempIdxAnswer::Is(OptionChunkIdx::None);
     }
-    TempIdx::Is(OptionChunkIdx::Some(ChunkIdx(chunk)))
+    TempIdxAnswer::Is(OptionChunkIdx::Some(ChunkIdx(chunk)))
 }
 
 // Adds to each chunk's dependencies those that the module dependencies give.
@@ -122,16 +123,16 @@ pub fn calc_chunk_dependencies(
     area: &mut [u32],
     starts: &[u32],
     dependencies: &[u32],
-) -> Done
+) -> DoneAnswer
     ensures { λ r. ⌜ Called sizes (now (area .entry)) (calc-chunk-dependencies (now (starts .entry)) (now (dependencies .entry))) (done-told r) (now (area .exit)) ⌝ }
 {
     let row = merge_rows::rows::calc_row(sizes, area, starts, dependencies);
     if row != 0 {
-        return Done::Refused(row);
+        return DoneAnswer::Refused(row);
     }
     let used = merge_area::header(sizes, area, 4) as usize;
     merge_writes::calculate(sizes, area, starts, dependencies, used);
-    Done::Done
+    DoneAnswer::Done
 }
 
 // Whether source depends directly on target, or the two fused would lie on a cycle with another chunk. What was merged away isn't followed.
@@ -140,15 +141,15 @@ pub fn would_create_circular_dependency(
     area: &[u32],
     source: ChunkIdx,
     target: ChunkIdx,
-) -> Said
+) -> YesNoAnswer
     ensures { λ r. ⌜ Called sizes (now (area .entry)) (would-create-circular-dependency (source .0) (target .0)) (said-told r) (now (area .entry)) ⌝ }
 {
-    let row = merge_rows::rows::pair_row(sizes, area, source.0, target.0);
+    let row = merge_rows::rows::pair_row(sizes, area, source, target);
     if row != 0 {
-        return Said::Refused(row);
+        return YesNoAnswer::Refused(row);
     }
     let made = merge_area::header(sizes, area, 1) as usize;
-    Said::Is(merge_warning::warn(
+    YesNoAnswer::Is(merge_warning::warn(
         area,
         sizes.chunks,
         made,
@@ -158,15 +159,21 @@ pub fn would_create_circular_dependency(
 }
 
 // Whether a chunk reaches another in one step or more.
-pub fn is_reachable(sizes: Sizes, area: &[u32], from: ChunkIdx, to: ChunkIdx) -> Said
+pub fn is_reachable(sizes: Sizes, area: &[u32], from: ChunkIdx, to: ChunkIdx) -> YesNoAnswer
     ensures { λ r. ⌜ Called sizes (now (area .entry)) (is-reachable (from .0) (to .0)) (said-told r) (now (area .entry)) ⌝ }
 {
-    let row = merge_rows::rows::reach_row(sizes, area, from.0, to.0);
+    let row = merge_rows::rows::reach_row(sizes, area, from, to);
     if row != 0 {
-        return Said::Refused(row);
+        return YesNoAnswer::Refused(row);
     }
     let made = merge_area::header(sizes, area, 1) as usize;
-    Said::Is(merge_warning::reaches(area, sizes.chunks, made, from.0 as usize, to.0 as usize))
+    YesNoAnswer::Is(merge_warning::reaches(
+        area,
+        sizes.chunks,
+        made,
+        from.0 as usize,
+        to.0 as usize,
+    ))
 }
 
 // The target takes over the source's dependencies and side effects.
@@ -175,15 +182,15 @@ pub fn merge_chunk_dependencies(
     area: &mut [u32],
     target: ChunkIdx,
     source: ChunkIdx,
-) -> Done
+) -> DoneAnswer
     ensures { λ r. ⌜ Called sizes (now (area .entry)) (merge-chunk-dependencies (target .0) (source .0)) (done-told r) (now (area .exit)) ⌝ }
 {
-    let row = merge_rows::rows::pair_row(sizes, area, target.0, source.0);
+    let row = merge_rows::rows::pair_row(sizes, area, target, source);
     if row != 0 {
-        return Done::Refused(row);
+        return DoneAnswer::Refused(row);
     }
-    merge_writes::merge(sizes, area, target.0 as usize, source.0 as usize);
-    Done::Done
+    merge_writes::merge(sizes, area, target, source);
+    DoneAnswer::Done
 }
 
 // Each chunk that needs creation, in rising index, is merged into its proposal or created; its kind and number are written.

@@ -1,5 +1,5 @@
 // The merge graph's loading.
-use super::Done;
+use super::DoneAnswer;
 use merge_state::Sizes;
 ghost use Rattle.merge_loading.specs.Loading.{lent, Loaded};
 ghost use Rattle.chunk_optimizer.specs.Answers.{done-told};
@@ -14,7 +14,7 @@ pub fn new(
     chunks: &[u32],
     effects: &[u32],
     area: &mut [u32],
-) -> Done
+) -> DoneAnswer
     ensures { λ r. ⌜ Loaded sizes (lent initial (now (starts .entry)) (now (modules .entry)) (now (sets .entry)) (now (chunks .entry)) (now (effects .entry))) (now (area .entry)) (done-told r) (now (area .exit)) ⌝ }
 {
     let row = merge_loading::row::load_row(
@@ -28,8 +28,8 @@ pub fn new(
         area,
     );
     if row != 0 {
-        return Done::Refused(row);
+        return DoneAnswer::Refused(row);
     }
     merge_loading::entries::load(sizes, area, initial, starts, modules, sets, chunks, effects);
-    Done::Done
+    DoneAnswer::Done
 }

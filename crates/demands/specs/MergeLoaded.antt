@@ -10,19 +10,18 @@ use lib.Dec.{ltb}
 use borrow.Author.Tests.{lt-ltb, le-ltb, ltb-true, eqb-false, not-true}
 use Rattle.graphs.specs.Bools.{and-left, and-right, fails}
 use Rattle.entry_set.specs.Sets.{value, width}
-use Rattle.entry_set.specs.SetLaws.{below-256}
+use Rattle.entry_set.specs.SetLaws.{below-256, sets-room}
 use Rattle.merge_state.specs.declared.Sizes.{Sizes}
-use Rattle.merge_state.specs.State.{None, Graph}
+use Rattle.merge_state.specs.State.{None, Graph, pairs}
 use Rattle.merge_state.specs.Methods.{appended}
 use Rattle.merge_state.specs.Table.{turned}
 use Rattle.merge_state.specs.Ordered.{Ordered}
-use Rattle.merge_state.specs.Loading.{Lent, lister, set-at, pairs-of, loaded, load}
+use Rattle.merge_state.specs.Loading.{Lent, lister, set-at, lent-pair, loaded, load}
 use Rattle.merge_state.specs.LoadKept.{listed-in, loaded-kept, load-kept}
 use Rattle.merge_area.specs.Layout.{room, cell, head, side, need, key, home}
-use Rattle.merge_area.specs.Read.{pairs, entry, named-set, depends-in, effects-in, needs-in, log-in, sets-in, home-in, keys-in, read}
-use Rattle.merge_area.specs.PairLaws.{pairs-length, pairs-same}
+use Rattle.merge_area.specs.Read.{entry, named-set, depends-in, effects-in, needs-in, log-in, sets-in, home-in, keys-in, read}
+use Rattle.merge_state.specs.Pairs.{pairs-length, pairs-same}
 use Rattle.merge_area.specs.Consistent.{inconsistent}
-use Rattle.merge_laws.specs.Merging.{row-in}
 use Rattle.merge_loading.specs.Loading.{first-key, cleared-area, headed-area, bare-area, listed-area, loaded-area, load-refusal, load-step}
 use Rattle.merge_loading.specs.Bare.{cleared-long, cleared-flag, cleared-side, cleared-need, cleared-key, cleared-home, headed-far, headed-initial, headed-made, headed-created, headed-sets, headed-used, named-chunk, named-value, base-long, bare-far}
 use Rattle.merge_loading.specs.Listing.{entry-can}
@@ -30,12 +29,6 @@ use Rattle.merge_loading.specs.Rows.{CanLoad, can-load, load-list}
 use Rattle.merge_laws.specs.Ordering.{depends-parts}
 use Rattle.merge_reads.specs.Reads.{read-append}
 use Rattle.merge_reads.specs.Order.{ordered-consistent}
-
--- the lent pairs, number by number
-pairs-are : (w : ℕ) (flat chunks : List ℕ) (k : ℕ) → pairs (λ i. (value (set-at w flat i), getD chunks i 0)) k ≡ pairs-of w flat chunks k
-unfolding pairs pairs-of
-pairs-are w flat chunks zero = refl
-pairs-are w flat chunks (suc k) = ap (λ l. l ++ ((value (set-at w flat k), getD chunks k 0) ∷ [])) (pairs-are w flat chunks k)
 
 module _ (z : Sizes) (n : Lent) (a : List ℕ) (can : CanLoad z n a) where
   abbrev count : ℕ
@@ -68,7 +61,7 @@ module _ (z : Sizes) (n : Lent) (a : List ℕ) (can : CanLoad z n a) where
   no-flag : (x y : ℕ) → depends-in z bare x y ≡ false
   no-flag x y = fails _ (λ q.
       let p = depends-parts z bare x y q in
-      let r = row-in (z .chunks) (z .chunks) x (p .0) in
+      let r = sets-room {i = x} {n = z .chunks} (z .chunks) (p .0) in
       p .2 (elsewhere (x * z .chunks + y) (λ b. absurd (omega (arith, p .1))) ∙ cleared-flag z (n .initial) a (can .long) (x * z .chunks + y) (omega (arith, p .1))))
 
   no-effect : (x : ℕ) → effects-in z bare x ≡ false
@@ -97,14 +90,13 @@ module _ (z : Sizes) (n : Lent) (a : List ℕ) (can : CanLoad z n a) where
     | no h ↦ rw (le-ltb k (z .chunks) (omega arith), le-ltb k (n .initial) (omega (arith, can .allowed .few)))
   ]
 
-  the-sets : sets-in z bare ≡ pairs-of (width (z .bits)) (n .flat) (n .chunks) count
+  the-sets : sets-in z bare ≡ pairs (lent-pair (width (z .bits)) (n .flat) (n .chunks)) count
   unfolding bare-area
   the-sets =
       ap (pairs (named-set z bare)) (at-head 3 (omega arith) ∙ headed-sets z (n .initial) count cleared cleared-room)
-      ∙ pairs-same (named-set z bare) (λ i. (value (set-at (width (z .bits)) (n .flat) i), getD (n .chunks) i 0)) count (λ i h. ap₂ (λ u v. (u, v))
+      ∙ pairs-same (named-set z bare) (lent-pair (width (z .bits)) (n .flat) (n .chunks)) count (λ i h. ap₂ (λ u v. (u, v))
       (named-value z (n .flat) (n .chunks) base base-room count i (omega (arith, can .allowed .few-pairs)) (λ j b. below-256 (can .within .bits) (can .allowed .sets j b)) h)
       (named-chunk z (n .flat) (n .chunks) base base-room count i (omega (arith, can .allowed .few-pairs)) h))
-      ∙ pairs-are (width (z .bits)) (n .flat) (n .chunks) count
 
   no-entry : log-in z bare ≡ []
   unfolding pairs

@@ -63,17 +63,17 @@ pub extern "C" fn chunk_optimization_graph_init_module_assignment(
     l: u64,
     e: u64,
     area: &mut [u32],
-    listed: u32,
+    idx: u32,
     bits: &[u64],
     effects: &[u32],
 ) -> Reply
-    ensures { λ r. ⌜ r ≡ merge-reply (step (sized c m l e) (now (area .entry)) (init-module-assignment listed (now (bits .entry)) (now (effects .entry))) .0) ⌝ }
-    ensures { λ _. ⌜ now (area .exit) ≡ step (sized c m l e) (now (area .entry)) (init-module-assignment listed (now (bits .entry)) (now (effects .entry))) .1 ⌝ }
+    ensures { λ r. ⌜ r ≡ merge-reply (step (sized c m l e) (now (area .entry)) (init-module-assignment idx (now (bits .entry)) (now (effects .entry))) .0) ⌝ }
+    ensures { λ _. ⌜ now (area .exit) ≡ step (sized c m l e) (now (area .entry)) (init-module-assignment idx (now (bits .entry)) (now (effects .entry))) .1 ⌝ }
 {
     of_done(chunk_optimizer::init_module_assignment(
         sizes(c, m, l, e),
         area,
-        ModuleIdx(listed),
+        ModuleIdx(idx),
         bits,
         effects,
     ))
@@ -87,17 +87,17 @@ pub extern "C" fn chunk_optimization_graph_add_module_to_chunk(
     l: u64,
     e: u64,
     area: &mut [u32],
-    listed: u32,
+    idx: u32,
     chunk: u32,
     effects: &[u32],
 ) -> Reply
-    ensures { λ r. ⌜ r ≡ merge-reply (step (sized c m l e) (now (area .entry)) (add-module-to-chunk listed chunk (now (effects .entry))) .0) ⌝ }
-    ensures { λ _. ⌜ now (area .exit) ≡ step (sized c m l e) (now (area .entry)) (add-module-to-chunk listed chunk (now (effects .entry))) .1 ⌝ }
+    ensures { λ r. ⌜ r ≡ merge-reply (step (sized c m l e) (now (area .entry)) (add-module-to-chunk idx chunk (now (effects .entry))) .0) ⌝ }
+    ensures { λ _. ⌜ now (area .exit) ≡ step (sized c m l e) (now (area .entry)) (add-module-to-chunk idx chunk (now (effects .entry))) .1 ⌝ }
 {
     of_done(chunk_optimizer::add_module_to_chunk(
         sizes(c, m, l, e),
         area,
-        ModuleIdx(listed),
+        ModuleIdx(idx),
         ChunkIdx(chunk),
         effects,
     ))

@@ -4,16 +4,16 @@ ghost use Rattle.reduced_chunk_graph.specs.Answers.{ofLoad, ofMove, ofSet, ofNu
 ghost use Rattle.chunk_optimizer.specs.Answers.{done-told, temp-told, said-told};
 ghost use mathlib.Core.List.{[], _∷_};
 ghost use Rattle.entry_set.specs.Sets.{value};
-ghost use Rattle.chunk_optimizer.specs.declared.TempIdx.the-variants as temps;
+ghost use Rattle.chunk_optimizer.specs.declared.TempIdxAnswer.the-variants as temps;
 ghost use Rattle.exports.specs.Replies.{refusing, answering, no-edge, an-edge, move-reply, set-reply, edge-reply, merge-reply, pass-reply};
 use super::EdgeReply;
 use super::Reply;
 use super::SetReply;
-use chunk_optimizer::Done;
+use chunk_optimizer::DoneAnswer;
 use chunk_optimizer::OptionChunkIdx;
 use chunk_optimizer::PassAnswer;
-use chunk_optimizer::Said;
-use chunk_optimizer::TempIdx;
+use chunk_optimizer::TempIdxAnswer;
+use chunk_optimizer::YesNoAnswer;
 use reduced_chunk_graph::EdgeAnswer;
 use reduced_chunk_graph::LoadAnswer;
 use reduced_chunk_graph::MoveAnswer;
@@ -162,12 +162,12 @@ pub fn of_edge(answer: EdgeAnswer) -> EdgeReply
     }
 }
 
-pub fn of_done(answer: Done) -> Reply
+pub fn of_done(answer: DoneAnswer) -> Reply
     ensures { λ r. ⌜ r ≡ merge-reply (done-told answer) ⌝ }
 {
     match answer {
-        Done::Done => answered(0),
-        Done::Refused(q) => refused(q),
+        DoneAnswer::Done => answered(0),
+        DoneAnswer::Refused(q) => refused(q),
     }
 }
 
@@ -181,21 +181,21 @@ fn of_option(chunk: OptionChunkIdx) -> Reply
     }
 }
 
-pub fn of_temp(answer: TempIdx) -> Reply
+pub fn of_temp(answer: TempIdxAnswer) -> Reply
     ensures { λ r. ⌜ r ≡ merge-reply (temp-told answer) ⌝ }
 {
     match answer {
-        TempIdx::Is(chunk) => of_option(chunk),
-        TempIdx::Refused(q) => refused(q),
+        TempIdxAnswer::Is(chunk) => of_option(chunk),
+        TempIdxAnswer::Refused(q) => refused(q),
     }
 }
 
-pub fn of_said(answer: Said) -> Reply
+pub fn of_said(answer: YesNoAnswer) -> Reply
     ensures { λ r. ⌜ r ≡ merge-reply (said-told answer) ⌝ }
 {
     match answer {
-        Said::Is(yes) => answered(yes as u64),
-        Said::Refused(q) => refused(q),
+        YesNoAnswer::Is(yes) => answered(yes as u64),
+        YesNoAnswer::Refused(q) => refused(q),
     }
 }
 

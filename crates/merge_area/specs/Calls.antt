@@ -10,9 +10,9 @@ use Rattle.merge_area.specs.Read.{read}
 use Rattle.merge_area.specs.Writes.{write}
 use Rattle.merge_area.specs.Consistent.{over, short, inconsistent}
 
--- "Merge calls check 14, 15; .. later 21": many and mislaid are what the call's own lists say to 14 and 15
+-- "Merge calls check 14, 15; .. later 21": many and faulty are what the call's own lists say to 14 and 15
 unfoldable pub standing : Sizes → Bool → Bool → List ℕ → ℕ
-standing z many mislaid a = first-fitting ((over z || many, 14) ∷ (mislaid || short z a, 15) ∷ (inconsistent z a, 21) ∷ [])
+standing z many faulty a = first-fitting ((over z || many, 14) ∷ (faulty || short z a, 15) ∷ (inconsistent z a, 21) ∷ [])
 
 -- "The first fitting row wins"
 unfoldable pub refusal : Sizes → List ℕ → Call → ℕ

@@ -4,5 +4,5 @@ pub mod Writes
 pub mod Consistent
 pub mod Calls
 pub mod Within
-pub mod PairLaws
 pub mod Twice
+pub mod FlagRows

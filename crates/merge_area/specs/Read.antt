@@ -1,17 +1,12 @@
 -- The merge graph that an area holds. Assumes nothing.
-use Prim.Native.Nat.{ℕ, zero, suc, _+_, _*_}
+use Prim.Native.Nat.{ℕ, _+_, _*_}
 use mathlib.Core.Bool.{Bool, cond, _&&_}
-use mathlib.Core.List.{List, [], _∷_, _++_}
+use mathlib.Core.List.{List}
 use lib.Dec.{ltb}
 use Rattle.entry_set.specs.Lanes.{lanes}
 use Rattle.merge_state.specs.declared.Sizes.{Sizes}
-use Rattle.merge_state.specs.State.{None, Graph, yes}
+use Rattle.merge_state.specs.State.{None, Graph, yes, pairs}
 use Rattle.merge_area.specs.Layout.{cell, head, set-place, set-chunk, side, need, key, home, entry-chunk, entry-module}
-
--- f 0, .. f (n - 1), of pairs
-unfoldable pub pairs : (ℕ → ℕ × ℕ) → ℕ → List (ℕ × ℕ)
-pairs f zero = []
-pairs f (suc n) = pairs f n ++ (f n ∷ [])
 
 -- each field of the graph
 unfoldable pub depends-in : Sizes → List ℕ → ℕ → ℕ → Bool

@@ -1,6 +1,17 @@
-// The merge area: its limits and length, its header, and whether it is consistent (rows 14, 15 and 21).
+// The merge area: its limits and length, its header, its sets, and the first of rows 14, 15 and 21 that fits.
+pub mod places; // places.rt: where the numbers of the area stand
+
+use crate::places::entry_chunk_place;
+use crate::places::entry_module_place;
+use crate::places::head_place;
+use crate::places::home_place;
+use crate::places::key_place;
+use crate::places::need_place;
+use crate::places::set_chunk_place;
+use crate::places::set_place;
 use entry_set::EntrySet;
 use equal_sets::row_is_distinct;
+use merge_state::NONE;
 use merge_state::Sizes;
 ghost use mathlib.Core.Path.{_≡_};
 ghost use mathlib.Core.Bool.{false};
@@ -10,10 +21,10 @@ ghost use Rattle.graphs.specs.Count.{ind};
 ghost use Rattle.graphs.specs.Lists.{some-below};
 ghost use Rattle.entry_set.specs.Sets.{number, Holds};
 ghost use Rattle.entry_set.specs.Lanes.{lanes};
-ghost use Rattle.merge_state.specs.State.{chunk-of, misfit};
+ghost use Rattle.merge_state.specs.State.{chunk-of, misfit, pairs};
 ghost use Rattle.merge_state.specs.Loading.{twice};
 ghost use Rattle.merge_area.specs.Layout.{room, cell, head, set-place};
-ghost use Rattle.merge_area.specs.Read.{named-set, pairs};
+ghost use Rattle.merge_area.specs.Read.{named-set};
 ghost use Rattle.merge_area.specs.Consistent.{over, short, Faults, row-fault, flags-fault, head-fault, index-faults, out-of-range, inconsistent};
 ghost use Rattle.merge_area.specs.Calls.{standing};
 ghost use Rattle.merge_area.specs.Within.{Within, Headed, Tabled};
@@ -51,19 +62,19 @@ pub fn header(sizes: Sizes, area: &[u32], k: usize) -> u32
     requires { ⌜ Within sizes × (room sizes ≤ length (now area)) × (k < 32) ⌝ }
     ensures { λ r. ⌜ r ≡ cell (now (area .entry)) (head sizes k) ⌝ }
 {
-    let at = sizes.chunks * sizes.chunks + k;
+    let at = head_place(sizes, k);
     area[at]
 }
 
-// 1 where v isn't below top, nor None where that is allowed.
-fn is_misfit(v: u32, top: usize, free: bool) -> usize
+// How many of the one number v misfit: 1 where it isn't below top, nor None where that is allowed.
+fn count_misfit(v: u32, top: usize, free: bool) -> usize
     ensures { λ r. ⌜ r ≡ ind (misfit top free v) ⌝ }
 {
     if (v as usize) < top {
         return 0;
     }
     if free {
-        if v == 4294967295 {
+        if v == NONE {
             return 0;
         }
     }
@@ -78,7 +89,7 @@ pub fn count_faults(l: &[u32], at: usize, n: usize, top: usize, free: bool) -> u
     let mut bad = 0;
     let mut i = 0;
     while i < n {
-        bad += is_misfit(l[at + i], top, free);
+        bad += count_misfit(l[at + i], top, free);
         i += 1;
     }
     bad
@@ -136,15 +147,18 @@ fn count_index_faults(sizes: Sizes, area: &[u32]) -> usize
     let made = header(sizes, area, 1) as usize;
     let sets = header(sizes, area, 3) as usize;
     let used = header(sizes, area, 4) as usize;
-    let chunks = sizes.chunks * sizes.chunks + 32;
-    let modules = chunks + 32 * sizes.chunks;
-    let entries = modules + 32 * sizes.modules;
-    let a = count_faults(area, chunks + 16 * sizes.chunks, sets, made, false);
-    let b = count_faults(area, chunks + 20 * sizes.chunks, sizes.chunks, made, true);
-    let c = count_faults(area, modules, sizes.modules, made, true);
-    let d = count_faults(area, entries, used, made, false);
-    let e = count_faults(area, entries + sizes.entries, used, sizes.modules, false);
-    let f = count_faults(area, chunks + 19 * sizes.chunks, initial, 1, false);
+    let a = count_faults(area, set_chunk_place(sizes, 0), sets, made, false);
+    let b = count_faults(area, key_place(sizes, 0), sizes.chunks, made, true);
+    let c = count_faults(area, home_place(sizes, 0), sizes.modules, made, true);
+    let d = count_faults(area, entry_chunk_place(sizes, 0), used, made, false);
+    let e = count_faults(
+        area,
+        entry_module_place(sizes, 0),
+        used,
+        sizes.modules,
+        false,
+    );
+    let f = count_faults(area, need_place(sizes, 0), initial, 1, false);
     a + b + c + d + e + f
 }
 
@@ -153,7 +167,7 @@ pub fn set_of(sizes: Sizes, area: &[u32], i: usize) -> EntrySet
     requires { ⌜ Within sizes × (room sizes ≤ length (now area)) × (i < 2 * sizes .chunks) ⌝ }
     ensures { λ r. ⌜ Holds (lanes (now (area .entry)) (set-place sizes i) 1) r ⌝ }
 {
-    entry_set::read_lanes(area, sizes.chunks * sizes.chunks + 32 + 8 * i, 1)
+    entry_set::read_lanes(area, set_place(sizes, i), 1)
 }
 
 // One of the first n sets has a bit at or above E.
@@ -179,7 +193,7 @@ fn few_repeat(sizes: Sizes, area: &[u32], n: usize) -> bool
     let mut lanes = [0u32; 1024];
     let mut order = [0u32; 128];
     let mut scratch = [0u32; 128];
-    let at = sizes.chunks * sizes.chunks + 32;
+    let at = set_place(sizes, 0);
     !row_is_distinct(area, at, n, 128, &mut lanes, &mut order, &mut scratch)
 }
 
@@ -191,7 +205,7 @@ fn many_repeat(sizes: Sizes, area: &[u32], n: usize) -> bool
     let mut lanes = [0u32; 16384];
     let mut order = [0u32; 2048];
     let mut scratch = [0u32; 2048];
-    let at = sizes.chunks * sizes.chunks + 32;
+    let at = set_place(sizes, 0);
     !row_is_distinct(area, at, n, 2048, &mut lanes, &mut order, &mut scratch)
 }
 
@@ -235,17 +249,17 @@ pub fn chunk_of_set(sizes: Sizes, area: &[u32], n: usize, set: EntrySet) -> u32
     let mut i = 0;
     while i < n {
         if entry_set::equal(set_of(sizes, area, i), set) {
-            let at = sizes.chunks * sizes.chunks + 32 + 16 * sizes.chunks + i;
+            let at = set_chunk_place(sizes, i);
             return area[at];
         }
         i += 1;
     }
-    4294967295
+    NONE
 }
 
-// The first of rows 14, 15 and 21 that fits, 0 where none does; many and mislaid are what the call's own lists say to 14 and 15.
-pub fn standing_row(sizes: Sizes, many: bool, mislaid: bool, area: &[u32]) -> u32
-    ensures { λ r. ⌜ r ≡ standing sizes many mislaid (now (area .entry)) ⌝ }
+// The first of rows 14, 15 and 21 that fits, 0 where none does; many and faulty are what the call's own lists say to 14 and 15.
+pub fn standing_row(sizes: Sizes, many: bool, faulty: bool, area: &[u32]) -> u32
+    ensures { λ r. ⌜ r ≡ standing sizes many faulty (now (area .entry)) ⌝ }
 {
     if over_limits(sizes) {
         return 14;
@@ -253,7 +267,7 @@ pub fn standing_row(sizes: Sizes, many: bool, mislaid: bool, area: &[u32]) -> u3
     if many {
         return 14;
     }
-    if mislaid {
+    if faulty {
         return 15;
     }
     if too_short(sizes, area) {

@@ -15,12 +15,12 @@ use Rattle.entry_set.specs.Joined.{parts}
 use Rattle.entry_set.specs.JoinedLaws.{length-parts}
 use Rattle.entry_set.specs.Lanes.{setLanes}
 use Rattle.entry_set.specs.LaneLaws.{length-setStrided, setStrided-other}
+use Rattle.entry_set.specs.SetLaws.{sets-room}
 use Rattle.merge_state.specs.declared.Sizes.{Sizes}
 use Rattle.merge_state.specs.State.{None}
 use Rattle.merge_area.specs.Layout.{cell, head, set-place, set-chunk, side, need, home, entry-chunk, entry-module}
 use Rattle.merge_area.specs.Writes.{append-area, open-area, init-area, link, linked, calc-area}
 use Rattle.merge_laws.specs.Can.{CanAppend, CanOpen, Homed, CanLink, CanLinked, CanCalc}
-use Rattle.merge_laws.specs.Merging.{row-in}
 
 -- opening a chunk
 module _ (z : Sizes) (a : List ℕ) (v : ℕ) where
@@ -84,7 +84,7 @@ link-kept z a x y can = go (eqb y None || eqb x y) refl
         let to : y < z .chunks = can .to (eqb-false y None (or-false-left (eqb y None) _ q)) in
         record {
           same = simp length-set;
-          beyond = λ i h. getD-set-other a (x * z .chunks + y) i 1 0 (omega (arith, row-in (z .chunks) (z .chunks) x (can .from)));
+          beyond = λ i h. getD-set-other a (x * z .chunks + y) i 1 0 (omega (arith, sets-room {i = x} {n = z .chunks} (z .chunks) (can .from)));
         }
 
 module _ (z : Sizes) (deps : List ℕ) (x from : ℕ) (a : List ℕ) (n : ℕ) (can : CanLinked z a deps x from n) where

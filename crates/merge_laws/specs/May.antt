@@ -15,20 +15,19 @@ use Rattle.graphs.specs.Walk.{via}
 use Rattle.walks.specs.Closed.{flagEdge}
 use Rattle.entry_set.specs.Sets.{value, legal, width}
 use Rattle.merge_state.specs.declared.Sizes.{Sizes}
-use Rattle.merge_state.specs.State.{None, chunk-of}
+use Rattle.merge_state.specs.State.{None, chunk-of, pairs}
 use Rattle.merge_state.specs.Methods.{warns, warn, reachable}
 use Rattle.merge_state.specs.Table.{Answer, says, chunk, nothing, Call, init-module-assignment, add-module-to-chunk, to-temp-idx, calc-chunk-dependencies, would-create-circular-dependency, is-reachable, merge-chunk-dependencies, first-fitting, falling, bad-starts, bad-lists, over-lists, later, acted, full}
 use Rattle.merge_state.specs.Ordered.{Ordered, seen}
-use Rattle.merge_state.specs.Kept.{none-fits, no-stray}
+use Rattle.merge_state.specs.Kept.{none-fits, no-misfit}
 use Rattle.merge_area.specs.Layout.{room, cell, head, key, home}
-use Rattle.merge_area.specs.Read.{read, sets-in, keys-in, pairs, entry, named-set}
-use Rattle.merge_area.specs.PairLaws.{pairs-length, pairs-at}
+use Rattle.merge_area.specs.Read.{read, sets-in, keys-in, entry, named-set}
+use Rattle.merge_state.specs.Pairs.{pairs-length, pairs-at}
 use Rattle.merge_area.specs.Within.{Within, Headed}
 use Rattle.merge_area.specs.Calls.{refusal, standing}
 use Rattle.merge_warning.specs.Hits.{CanAsk}
 use Rattle.merge_laws.specs.Rows.{Stood, Free, free}
 use Rattle.merge_laws.specs.Can.{CanAppend, CanAssign, CanCalc, CanMergeArea}
-use Rattle.merge_laws.specs.Merging.{row-in}
 use Rattle.merge_laws.specs.Ordering.{ordered, flags-clean, depends-flag, home-in-range, entry-chunk-in, entry-module-in, set-chunk-in}
 
 -- entries are left
@@ -105,7 +104,7 @@ module _ (z : Sizes) (a : List ℕ) where
           few = s .headed .used;
           chunks = λ i b. omega (arith, entry-chunk-in z a s i b, s .headed .fits);
           listed = λ i b. entry-module-in z a s i b;
-          modules = no-stray (z .modules) deps (h₁ .0);
+          modules = no-misfit (z .modules) deps (h₁ .0);
           count = eqb-true _ _ (not-false _ (or-false-left (not (eqb (length starts) (z .modules + 1))) _ (f .lists)));
           rising = rise;
           ends = λ i b. omega (arith, up starts (z .modules) rise (z .modules - i) i (omega arith), last);

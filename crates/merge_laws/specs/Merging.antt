@@ -1,4 +1,4 @@
--- The merge of two rows, number by number; and what it is on the dependencies. Assumes nothing.
+-- The merge of two rows, number by number. Assumes nothing.
 use Prim.Native.Nat.{ℕ, zero, suc, _+_, _-_, _*_, _<_, _≤_}
 use native.Mathlib.Numerals.{add-one}
 use native.Mathlib.Omega.{arith}
@@ -13,12 +13,9 @@ use lib.Seq.{getD-set-same, getD-set-other, ext-getD}
 use borrow.Author.Tests.{le-leb, lt-leb, lt-ltb, le-ltb, eq-eqb, ne-eqb}
 use Rattle.graphs.specs.Count.{ind}
 use Rattle.graphs.specs.Tab.{tab, tab-length, tab-at, is-tab}
+use Rattle.entry_set.specs.SetLaws.{sets-room}
 use Rattle.merge_area.specs.Writes.{union-cell, within, merging, merged-rows}
 use Rattle.merge_laws.specs.Can.{CanMerge}
-
--- a row before row n ends where row n starts, or earlier
-pub row-in : (n c x : ℕ) → x < n → x * c + c ≤ n * c
-row-in n c x h = omega (arith, mul-le-mul-right {m = suc x} {n = n} c h, suc-mul x c)
 
 -- `within`
 within-yes : (b k i : ℕ) → b ≤ i → i < b + k → within b k i ≡ true
@@ -48,8 +45,8 @@ within-more b k i n = elim (decLt i b) [
 -- two rows have no place in common
 pub rows-apart : (c t s k i : ℕ) → (t ≡ s → ⊥) → k ≤ c → s * c ≤ i → i < s * c + c → within (t * c) k i ≡ false
 rows-apart c t s k i n kc a b = elim (decLt t s) [
-  | yes p ↦ within-after (t * c) k i (omega (arith, row-in s c t p))
-  | no p ↦ within-before (t * c) k i (omega (arith, row-in t c s (omega arith)))
+  | yes p ↦ within-after (t * c) k i (omega (arith, sets-room {i = t} {n = s} c p))
+  | no p ↦ within-before (t * c) k i (omega (arith, sets-room {i = s} {n = t} c (omega arith)))
 ]
 
 module _ {l : List ℕ} {c t s : ℕ} (can : CanMerge l c t s) where
@@ -71,7 +68,7 @@ module _ {l : List ℕ} {c t s : ℕ} (can : CanMerge l c t s) where
   at-none k i a b = rw (a, b)
 
   pub cells-in : (x y : ℕ) → x < c → y < c → x * c + y < length l
-  cells-in x y a b = omega (arith, row-in c c x a, can .cells)
+  cells-in x y a b = omega (arith, sets-room {i = x} {n = c} c a, can .cells)
 
   -- number y of both rows is still as it was when its turn comes
   old-target : (y : ℕ) → y < c → merging l c t s y (t * c + y) ≡ getD l (t * c + y) 0
@@ -90,7 +87,7 @@ module _ {l : List ℕ} {c t s : ℕ} (can : CanMerge l c t s) where
     next-length = rw (q, length-set, length-set) same
 
     away : t * c + y ≡ s * c + y → ⊥
-    away e = elim (decLt t s) [ yes p ↦ omega (arith, row-in s c t p) | no p ↦ omega (arith, row-in t c s (omega (arith, can .differ))) ]
+    away e = elim (decLt t s) [ yes p ↦ omega (arith, sets-room {i = t} {n = s} c p) | no p ↦ omega (arith, sets-room {i = s} {n = t} c (omega (arith, can .differ))) ]
 
     next-cells : (i : ℕ) → i < length l → getD d′ i 0 ≡ merging l c t s (y + 1) i
     next-cells i b =
@@ -151,7 +148,7 @@ union-none a b y t h k = rw (h, k)
 pub rows-kept : {l : List ℕ} {c t s : ℕ} → CanMerge l c t s → (i : ℕ) → c * c ≤ i → getD (merged-rows l c t s) i 0 ≡ getD l i 0
 unfolding merged-rows
 rows-kept {l} {c} {t} {s} can i h = elim (decLt i (length l)) [
-  | yes b ↦ tab-at (merging l c t s c) (length l) i b ∙ at-none can c i (within-after (t * c) c i (omega (arith, row-in c c t (can .target)))) (within-after (s * c) c i (omega (arith, row-in c c s (can .source))))
+  | yes b ↦ tab-at (merging l c t s c) (length l) i b ∙ at-none can c i (within-after (t * c) c i (omega (arith, sets-room {i = t} {n = c} c (can .target)))) (within-after (s * c) c i (omega (arith, sets-room {i = s} {n = c} c (can .source))))
   | no b ↦ List·getD-eq-default (tab (merging l c t s c) (length l)) 0 (omega (arith, tab-length (merging l c t s c) (length l))) ∙ sym (List·getD-eq-default l 0 (omega arith))
 ]
 

@@ -1,7 +1,7 @@
 -- An area that row 21 doesn't refuse holds a graph in order. Assumes nothing.
+use Rattle.entry_set.specs.SetLaws.{sets-room}
 use Prim.Native.Nat.{ℕ, zero, suc, _+_, _-_, _*_, _^_, _<_, _≤_}
 use native.Mathlib.Omega.{arith}
-use native.Mathlib.Nat.{add-mul}
 use native.Mathlib.Decide.{ℕ-discrete, decLt}
 use mathlib.Core.Path.{_≡_, refl, sym, ap, _∙_, fun-ext}
 use mathlib.Core.Logic.{_⊎_, inl, inr, ⊎-elim}
@@ -17,16 +17,16 @@ use Rattle.walks.specs.Closed.{flagEdge}
 use Rattle.walks.specs.ClosedLaws.{flag-from, flag-to, flag-is}
 use Rattle.entry_set.specs.Lanes.{lanes}
 use Rattle.merge_state.specs.declared.Sizes.{Sizes}
-use Rattle.merge_state.specs.State.{None, misfit, at}
+use Rattle.merge_state.specs.State.{None, misfit, at, pairs}
 use Rattle.merge_state.specs.Loading.{came-before, twice}
 use Rattle.merge_state.specs.Warning.{Sound}
 use Rattle.merge_state.specs.Ordered.{Ordered, never}
+use Rattle.merge_area.specs.FlagRows.{rows-rest}
 use Rattle.merge_area.specs.Layout.{room, cell, head, set-place, set-chunk, need, key, home, entry-chunk, entry-module}
-use Rattle.merge_area.specs.Read.{read, pairs, named-set, entry, depends-in, needs-in, home-in, keys-in}
-use Rattle.merge_area.specs.PairLaws.{pairs-length, pairs-at}
+use Rattle.merge_area.specs.Read.{read, named-set, entry, depends-in, needs-in, home-in, keys-in}
+use Rattle.merge_state.specs.Pairs.{pairs-length, pairs-at}
 use Rattle.merge_area.specs.Consistent.{faults, row-fault, flags-fault, index-faults, out-of-range, sets-fault, inconsistent, head-fault}
 use Rattle.merge_area.specs.Within.{Headed}
-use Rattle.merge_laws.specs.Merging.{row-in}
 use Rattle.merge_laws.specs.Rows.{Stood}
 
 -- no faults
@@ -51,9 +51,6 @@ pub record Clean (a : List ℕ) (c n : ℕ) : Type 0 where
   pub self : (x : ℕ) → x < n → cell a (x * c + x) ≡ 0
   pub right : (x y : ℕ) → x < n → n ≤ y → y < c → cell a (x * c + y) ≡ 0
   pub under : (i : ℕ) → n * c ≤ i → i < c * c → cell a i ≡ 0
-
-rows-rest : (c n : ℕ) → n ≤ c → n * c + (c - n) * c ≡ c * c
-rows-rest c n h = let e : n + (c - n) ≡ c = omega arith in sym (add-mul n (c - n) c) ∙ ap (λ k. k * c) e
 
 pub clean : (a : List ℕ) (c n : ℕ) → n ≤ c → flags-fault a c n ≡ false → Clean a c n
 unfolding flags-fault row-fault
@@ -87,7 +84,7 @@ module _ (z : Sizes) (a : List ℕ) (n : ℕ) (fits : n ≤ z .chunks) (k : Clea
     | yes b ↦ b
     | no b ↦
         let p = depends-parts z a x y h in
-        absurd (p .2 (k .under (x * z .chunks + y) (omega (arith, native.Mathlib.Nat.mul-le-mul-right {m = n} {n = x} (z .chunks) (omega arith))) (omega (arith, row-in (z .chunks) (z .chunks) x (p .0), p .1))))
+        absurd (p .2 (k .under (x * z .chunks + y) (omega (arith, native.Mathlib.Nat.mul-le-mul-right {m = n} {n = x} (z .chunks) (omega arith))) (omega (arith, sets-room {i = x} {n = z .chunks} (z .chunks) (p .0), p .1))))
   ]
 
   depends-to : (x y : ℕ) → depends-in z a x y ≡ true → y < n
@@ -194,7 +191,7 @@ module _ (z : Sizes) (a : List ℕ) (s : Stood z a) where
         begun = H .begun;
         fits = H .fits;
         sound = let d = depends-sound z a (cell a (head z 1)) (H .fits) flags-clean (cell a (head z 1)) refl in record { self = d .self; from = d .from; to = d .to };
-        young = λ x h. fails _ (λ q. eqb-false _ _ (not-true _ (and-right (ltb x (z .chunks)) _ q)) (need-none x h));
+        initial-needs-none = λ x h. fails _ (λ q. eqb-false _ _ (not-true _ (and-right (ltb x (z .chunks)) _ q)) (need-none x h));
         homes = ranged (λ m. cell a (home z m)) home-in-range;
         keyed = ranged (λ m. cell a (key z m)) key-in;
         named = λ i h. let b : i < cell a (head z 3) = omega (arith, pairs-length (named-set z a) (cell a (head z 3))) in rw (pairs-at (named-set z a) (cell a (head z 3)) i b) (set-in i b, set-chunk-in i b);

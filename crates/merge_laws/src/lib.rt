@@ -1,1 +1,1 @@
-// Laws of the merge area: the graph that it holds after each write, consistency, the table. Definitions and laws only.
+// What a call may rely on once no row refuses it, and what single writes keep. Definitions and laws only.

@@ -4,24 +4,24 @@ mod loads; // loads.rt: loadings
 
 use case_lines::say;
 use case_lines::wide;
-use chunk_optimizer::Done;
+use chunk_optimizer::DoneAnswer;
 use chunk_optimizer::PassAnswer;
-use chunk_optimizer::Said;
+use chunk_optimizer::YesNoAnswer;
 use merge_state::ChunkIdx;
 use merge_state::ModuleIdx;
 use merge_state::Sizes;
 
-fn done_code(r: Done) -> u64 {
+fn done_code(r: DoneAnswer) -> u64 {
     match r {
-        Done::Done => 100,
-        Done::Refused(row) => wide(row),
+        DoneAnswer::Done => 100,
+        DoneAnswer::Refused(row) => wide(row),
     }
 }
 
-fn said_code(r: Said) -> u64 {
+fn said_code(r: YesNoAnswer) -> u64 {
     match r {
-        Said::Is(yes) => yes_code(yes),
-        Said::Refused(row) => wide(row),
+        YesNoAnswer::Is(yes) => yes_code(yes),
+        YesNoAnswer::Refused(row) => wide(row),
     }
 }
 

@@ -11,12 +11,12 @@ use Rattle.layout.specs.Patch.{patch, part, is-part}
 use Rattle.layout.proofs.Writes.{Copying, copy-none, copy-more, copy-done}
 use Rattle.merge_state.specs.declared.Sizes.{Sizes}
 use Rattle.merge_state.specs.State.{None}
-use Rattle.merge_area.specs.Layout.{side}
+use Rattle.merge_area.specs.Layout.{side, key, home}
 use borrow.Author.Tests.{eq-eqb, ne-eqb, lt-ltb, le-ltb, eqb-true, not-false}
 use Rattle.graphs.specs.Bools.{or-left, or-right, or-false, or-false-left, or-false-right}
 use Rattle.graphs.specs.Lists.{some-below}
 use Rattle.entry_set.specs.Sets.{value, width, legal}
-use Rattle.merge_state.specs.Table.{first-fitting, bad-starts, stray}
+use Rattle.merge_state.specs.Table.{first-fitting, bad-starts, any-misfit}
 use Rattle.merge_state.specs.Loading.{set-at, twice, over-load, bad-load, later-load}
 use Rattle.merge_loading.specs.Loading.{lent, first-key, cleared-area}
 use Rattle.merge_loading.specs.Sets.{bad-index}
@@ -42,12 +42,12 @@ module _ (i : ℕ) {l₀ : List ℕ} {at c k : ℕ} {l : List ℕ} (v : Keying l
           ap (λ n. part 0 n (tab (first-key i) c)) (sym (tab-length (first-key i) c))
           ∙ is-part 0 (tab (first-key i) c) (tab (first-key i) c) (λ j b. ap (λ n. getD (tab (first-key i) c) n 0) (zero-add j))
 
--- the four fields that are cleared, at the places that the code works out
-pub cleared-is : (z : Sizes) (i : ℕ) (a : List ℕ) {a₁ a₂ a₃ a₄ : List ℕ} → a₁ ≡ patch 0 (replicate (z .chunks * z .chunks) 0) a → a₂ ≡ patch (z .chunks * z .chunks + 32 + 18 * z .chunks) (replicate (2 * z .chunks) 0) a₁
-    → a₃ ≡ patch (z .chunks * z .chunks + 32 + 20 * z .chunks) (tab (first-key i) (z .chunks)) a₂ → a₄ ≡ patch (z .chunks * z .chunks + 32 + 32 * z .chunks) (replicate (z .modules) None) a₃
-    → a₄ ≡ cleared-area z i a
+-- the four fields that are cleared, each at its place
+pub cleared-is : (z : Sizes) (i : ℕ) (a : List ℕ) {p₁ p₂ p₃ : ℕ} {a₁ a₂ a₃ a₄ : List ℕ} → p₁ ≡ side z 0 → p₂ ≡ key z 0 → p₃ ≡ home z 0
+    → a₁ ≡ patch 0 (replicate (z .chunks * z .chunks) 0) a → a₂ ≡ patch p₁ (replicate (2 * z .chunks) 0) a₁
+    → a₃ ≡ patch p₂ (tab (first-key i) (z .chunks)) a₂ → a₄ ≡ patch p₃ (replicate (z .modules) None) a₃ → a₄ ≡ cleared-area z i a
 unfolding cleared-area
-cleared-is z i a e₁ e₂ e₃ e₄ = rw (add-zero (z .chunks * z .chunks + 32 + 32 * z .chunks), add-zero (z .chunks * z .chunks + 32 + 20 * z .chunks), add-zero (z .chunks * z .chunks + 32 + 18 * z .chunks), ← e₁, ← e₂, ← e₃) e₄
+cleared-is z i a q₁ q₂ q₃ e₁ e₂ e₃ e₄ = rw (← q₁, ← q₂, ← q₃, ← e₁, ← e₂, ← e₃) e₄
 
 -- the tests of row 15, in order
 module _ (z : Sizes) (i : ℕ) (starts : List ℕ) (d flat pairs effects w : ℕ) (wide : w ≡ width (z .bits)) where
@@ -62,22 +62,22 @@ module _ (z : Sizes) (i : ℕ) (starts : List ℕ) (d flat pairs effects w : ℕ
 
 -- those of row 16
 module _ (z : Sizes) (i : ℕ) (modules flat chunks : List ℕ) where
-  abbrev astray : Bool
-  astray = stray (z .modules) false modules
+  abbrev odd-module : Bool
+  odd-module = any-misfit (z .modules) false modules
 
   abbrev illegal : ℕ → Bool
   illegal w = some-below (λ j. not (legal (z .bits) (set-at w flat j))) (length chunks)
 
-  pub index-module : astray ≡ true → true ≡ bad-index z i modules flat chunks
+  pub index-module : odd-module ≡ true → true ≡ bad-index z i modules flat chunks
   unfolding bad-index
-  index-module h = sym (or-left astray _ h)
+  index-module h = sym (or-left odd-module _ h)
 
   module _ (w : ℕ) (wide : w ≡ width (z .bits)) where
     pub index-set : illegal w ≡ true → true ≡ bad-index z i modules flat chunks
     unfolding bad-index
-    index-set h = sym (or-right astray _ (or-left (illegal (width (z .bits))) _ (sym (ap illegal wide) ∙ h)))
+    index-set h = sym (or-right odd-module _ (or-left (illegal (width (z .bits))) _ (sym (ap illegal wide) ∙ h)))
 
-    pub index-chunk : {r : Bool} → astray ≡ false → illegal w ≡ false → r ≡ stray i false chunks → r ≡ bad-index z i modules flat chunks
+    pub index-chunk : {r : Bool} → odd-module ≡ false → illegal w ≡ false → r ≡ any-misfit i false chunks → r ≡ bad-index z i modules flat chunks
     unfolding bad-index
     index-chunk a b e = let k : illegal (width (z .bits)) ≡ false = sym (ap illegal wide) ∙ b in e ∙ (rw (a, k))
 

@@ -12,7 +12,7 @@ use Rattle.entry_set.specs.declared.EntrySet.{EntrySet}
 use Rattle.entry_set.specs.Sets.{value, width, legal, number, Holds}
 use Rattle.entry_set.specs.SetLaws.{sets-room}
 use Rattle.merge_state.specs.declared.Sizes.{Sizes}
-use Rattle.merge_state.specs.Table.{stray}
+use Rattle.merge_state.specs.Table.{any-misfit}
 use Rattle.merge_state.specs.Loading.{set-at}
 
 -- the list has p sets of e bits, w numbers each
@@ -42,4 +42,4 @@ test-full {p = p} b f q = record { wide = q; bits = b; full = f ∙ ap (λ v. p 
 -- row 16's fault, of i initial chunks
 unfoldable pub bad-index : Sizes → ℕ → List ℕ → List ℕ → List ℕ → Bool
 bad-index z i modules flat chunks =
-    stray (z .modules) false modules || (some-below (λ j. not (legal (z .bits) (set-at (width (z .bits)) flat j))) (length chunks) || stray i false chunks)
+    any-misfit (z .modules) false modules || (some-below (λ j. not (legal (z .bits) (set-at (width (z .bits)) flat j))) (length chunks) || any-misfit i false chunks)

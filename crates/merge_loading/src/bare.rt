@@ -4,6 +4,13 @@ use entry_set::set_at;
 use entry_set::set_width;
 use entry_set::write_lanes;
 use layout::fill_with;
+use merge_area::places::head_place;
+use merge_area::places::home_place;
+use merge_area::places::key_place;
+use merge_area::places::set_chunk_place;
+use merge_area::places::set_place;
+use merge_area::places::side_place;
+use merge_state::NONE;
 use merge_state::Sizes;
 ghost use mathlib.Core.Path.{_≡_};
 ghost use Prim.Native.Nat.{_+_, _*_, _^_, _≤_, _<_};
@@ -25,7 +32,7 @@ fn key_of(k: usize, initial: usize) -> u32
     if k < initial {
         return k as u32;
     }
-    4294967295
+    NONE
 }
 
 // The c keys from `at` on.
@@ -45,14 +52,10 @@ fn clear(sizes: Sizes, area: &mut [u32], initial: usize)
     requires { ⌜ Within sizes × (room sizes ≤ length (now area)) ⌝ }
     ensures { λ _. ⌜ now (area .exit) ≡ cleared-area sizes initial (now (area .entry)) ⌝ }
 {
-    let flags = sizes.chunks * sizes.chunks;
-    let sides = flags + 32 + 18 * sizes.chunks;
-    let keys = flags + 32 + 20 * sizes.chunks;
-    let homes = flags + 32 + 32 * sizes.chunks;
-    fill_with(area, 0, flags, 0);
-    fill_with(area, sides, 2 * sizes.chunks, 0);
-    write_keys(area, keys, sizes.chunks, initial);
-    fill_with(area, homes, sizes.modules, 4294967295);
+    fill_with(area, 0, sizes.chunks * sizes.chunks, 0);
+    fill_with(area, side_place(sizes, 0), 2 * sizes.chunks, 0);
+    write_keys(area, key_place(sizes, 0), sizes.chunks, initial);
+    fill_with(area, home_place(sizes, 0), sizes.modules, NONE);
 }
 
 // The header.
@@ -60,7 +63,7 @@ fn write_header(sizes: Sizes, area: &mut [u32], initial: u32, pairs: u32)
     requires { ⌜ Within sizes × (room sizes ≤ length (now area)) ⌝ }
     ensures { λ _. ⌜ now (area .exit) ≡ headed-area sizes initial pairs (now (area .entry)) ⌝ }
 {
-    let head = sizes.chunks * sizes.chunks;
+    let head = head_place(sizes, 0);
     area[head] = initial;
     area[head + 1] = initial;
     area[head + 2] = 0;
@@ -73,9 +76,8 @@ fn write_pair(sizes: Sizes, area: &mut [u32], k: usize, named: EntrySet, chunk: 
     requires { ⌜ Within sizes × (room sizes ≤ length (now area)) × (k < sizes .chunks) ⌝ }
     ensures { λ _. ⌜ now (area .exit) ≡ set (setLanes (now (area .entry)) (set-place sizes k) 1 (number named)) (set-chunk sizes k) chunk ⌝ }
 {
-    let lanes = sizes.chunks * sizes.chunks + 32;
-    write_lanes(area, lanes + 8 * k, 1, named);
-    area[lanes + 16 * sizes.chunks + k] = chunk;
+    write_lanes(area, set_place(sizes, k), 1, named);
+    area[set_chunk_place(sizes, k)] = chunk;
 }
 
 // All pairs.

@@ -1,5 +1,7 @@
 // The list entries of a loading, and the whole.
 use crate::bare::write_bare;
+use merge_state::ChunkIdx;
+use merge_state::ModuleIdx;
 use merge_state::Sizes;
 ghost use mathlib.Core.Path.{_≡_};
 ghost use lib.ListN.{length};
@@ -40,7 +42,8 @@ fn list_modules(
         x = lister_from(starts, initial, x, k);
         let m = modules[k];
         let at = m as usize;
-        merge_writes::append(sizes, area, x as u32, m, effects[at] != 0);
+        let chunk = x as u32;
+        merge_writes::append(sizes, area, ModuleIdx(m), ChunkIdx(chunk), effects[at] != 0);
         k += 1;
     }
 }

@@ -2,8 +2,8 @@
 use crate::sets::any_illegal;
 use crate::sets::any_twice;
 use entry_set::set_width;
-use merge_rows::tests::are_bad_starts;
-use merge_rows::tests::has_stray;
+use merge_rows::checks::are_bad_starts;
+use merge_rows::checks::has_misfit;
 use merge_state::Sizes;
 ghost use mathlib.Core.Path.{_≡_};
 ghost use mathlib.Core.Bool.{not, _||_};
@@ -17,7 +17,7 @@ ghost use Rattle.merge_state.specs.Loading.{later-load};
 ghost use Rattle.merge_loading.specs.Loading.{lent, load-refusal};
 ghost use Rattle.merge_loading.specs.Sets.{bad-index};
 
-// Row 15 by the lent lists: faulty starts, or not so many sets or side effects as called for.
+// Row 15 by the lent lists (`listed` modules, `flat` numbers of sets): faulty starts, or not so many sets or side effects as called for.
 fn are_bad_lists(
     sizes: Sizes,
     initial: usize,
@@ -50,13 +50,13 @@ fn has_bad_index(
     requires { ⌜ (sizes .bits ≤ 256) × (length (now sets) ≡ length (now chunks) * width (sizes .bits)) ⌝ }
     ensures { λ r. ⌜ r ≡ bad-index sizes initial (now (modules .entry)) (now (sets .entry)) (now (chunks .entry)) ⌝ }
 {
-    if has_stray(modules, sizes.modules, false) {
+    if has_misfit(modules, sizes.modules, false) {
         return true;
     }
     if any_illegal(sets, set_width(sizes.bits), chunks.len(), sizes.bits) {
         return true;
     }
-    has_stray(chunks, initial, false)
+    has_misfit(chunks, initial, false)
 }
 
 // The first of rows 16, 17 and 19 that fits, 0 where none does.
@@ -85,6 +85,7 @@ fn later_row(sizes: Sizes, initial: usize, modules: &[u32], sets: &[u64], chunks
     first_later(bad, repeated, sizes.entries < modules.len())
 }
 
+// The row of `new`.
 pub fn load_row(
     sizes: Sizes,
     initial: usize,

@@ -8,7 +8,7 @@ use Rattle.graphs.specs.Count.{ind, count}
 use Rattle.merge_state.specs.declared.Sizes.{Sizes}
 use Rattle.merge_state.specs.State.{None, Graph}
 use Rattle.merge_state.specs.Methods.{merges, passed}
-use Rattle.merge_state.specs.Table.{stray}
+use Rattle.merge_state.specs.Table.{any-misfit}
 use Rattle.merge_area.specs.Layout.{cell, head}
 use Rattle.merge_area.specs.Read.{needs-in, read}
 use Rattle.merge_area.specs.Writes.{candidate-area, pass-area}
@@ -50,7 +50,7 @@ pub record TurnedIn (z : Sizes) (a ps bs ks ns : List ℕ) (k j i : ℕ) (r ks�
 
 pub record CanPass (z : Sizes) (a ps bs ks ns : List ℕ) : Type 0 where
   pub stood : Stood z a
-  pub proper : stray (cell a (head z 0)) true ps ≡ false
+  pub proper : any-misfit (cell a (head z 0)) true ps ≡ false
   pub left : cell a (head z 0) + cell a (head z 2) + count (needs-in z a) (cell a (head z 1)) ≤ z .chunks
   pub proposals : length ps ≡ count (needs-in z a) (cell a (head z 1))
   pub bars : length bs ≡ count (needs-in z a) (cell a (head z 1))

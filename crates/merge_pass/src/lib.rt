@@ -1,4 +1,7 @@
 // The pass that commits merges: each chunk that needs creation is merged into its proposal, or created.
+use merge_area::places::need_place;
+use merge_state::ChunkIdx;
+use merge_state::NONE;
 use merge_state::Sizes;
 ghost use mathlib.Core.Path.{_≡_};
 ghost use Rattle.merge_state.specs.Methods.{merges};
@@ -13,31 +16,31 @@ pub struct Placed {
 }
 
 // Chunk x is merged into p: proposed, unbarred and unwarned.
-fn may_merge(sizes: Sizes, area: &[u32], x: usize, p: u32, b: u32) -> bool
-    requires { ⌜ CanPlace sizes (now area) x p ⌝ }
-    ensures { λ r. ⌜ r ≡ merges (read sizes (now (area .entry))) x p b ⌝ }
+fn may_merge(sizes: Sizes, area: &[u32], x: ChunkIdx, p: u32, b: u32) -> bool
+    requires { ⌜ CanPlace sizes (now area) (x .0) p ⌝ }
+    ensures { λ r. ⌜ r ≡ merges (read sizes (now (area .entry))) (x .0) p b ⌝ }
 {
-    if p == 4294967295 {
+    if p == NONE {
         return false;
     }
     if b != 0 {
         return false;
     }
     let made = merge_area::header(sizes, area, 1) as usize;
-    !merge_warning::warn(area, sizes.chunks, made, x, p as usize)
+    !merge_warning::warn(area, sizes.chunks, made, x.0 as usize, p as usize)
 }
 
 // Candidate x with proposal p and bar b.
-fn place(sizes: Sizes, area: &mut [u32], x: usize, p: u32, b: u32) -> Placed
-    requires { ⌜ CanPlace sizes (now area) x p ⌝ }
-    ensures { λ r. ⌜ PlacedIn sizes (now (area .entry)) x p b r (now (area .exit)) ⌝ }
+fn place(sizes: Sizes, area: &mut [u32], x: ChunkIdx, p: u32, b: u32) -> Placed
+    requires { ⌜ CanPlace sizes (now area) (x .0) p ⌝ }
+    ensures { λ r. ⌜ PlacedIn sizes (now (area .entry)) (x .0) p b r (now (area .exit)) ⌝ }
 {
     if may_merge(sizes, area, x, p, b) {
-        merge_writes::merge(sizes, area, p as usize, x);
+        merge_writes::merge(sizes, area, ChunkIdx(p), x);
         return Placed { kind: 0, number: p };
     }
     let number = merge_area::header(sizes, area, 0) + merge_area::header(sizes, area, 2);
-    merge_writes::create(sizes, area, x as u32);
+    merge_writes::create(sizes, area, x);
     Placed { kind: 1, number }
 }
 
@@ -55,11 +58,10 @@ fn turn(
     requires { ⌜ CanTurn sizes (now area) (now proposals) (now bars) (now kinds) (now numbers) k j ⌝ }
     ensures { λ r. ⌜ TurnedIn sizes (now (area .entry)) (now (proposals .entry)) (now (bars .entry)) (now (kinds .entry)) (now (numbers .entry)) k j r (now (area .exit)) (now (kinds .exit)) (now (numbers .exit)) ⌝ }
 {
-    let need = sizes.chunks * sizes.chunks + 32 + 19 * sizes.chunks + k;
-    if area[need] == 0 {
+    if area[need_place(sizes, k)] == 0 {
         return j;
     }
-    let placed = place(sizes, area, k, proposals[j], bars[j]);
+    let placed = place(sizes, area, ChunkIdx(k as u32), proposals[j], bars[j]);
     kinds[j] = placed.kind;
     numbers[j] = placed.number;
     j + 1

@@ -19,7 +19,7 @@ use Rattle.merge_state.specs.State.{None, at}
 use Rattle.merge_state.specs.Methods.{module-on, listed-on, calculated}
 use Rattle.merge_area.specs.Layout.{cell, head, set-place, set-chunk, side, need, key, home, entry-chunk, entry-module}
 use Rattle.merge_area.specs.Read.{entry, depends-in, home-in, log-in, read}
-use Rattle.merge_area.specs.PairLaws.{pairs-length, pairs-at}
+use Rattle.merge_state.specs.Pairs.{pairs-length, pairs-at}
 use Rattle.merge_area.specs.Writes.{link, linked, calc-area}
 use Rattle.merge_laws.specs.Can.{CanLink, CanLinked, CanCalc}
 use Rattle.merge_laws.specs.Ordering.{depends-parts}

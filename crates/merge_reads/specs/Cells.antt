@@ -12,6 +12,7 @@ use borrow.Author.Tests.{lt-ltb, le-ltb}
 use Rattle.graphs.specs.Count.{ind}
 use Rattle.graphs.specs.Tab.{tab-at}
 use Rattle.entry_set.specs.LaneLaws.{lanes-same}
+use Rattle.entry_set.specs.SetLaws.{sets-room}
 use Rattle.merge_state.specs.declared.Sizes.{Sizes}
 use Rattle.merge_state.specs.State as state
 use Rattle.merge_state.specs.Methods.{absorbed, merged}
@@ -20,7 +21,7 @@ use Rattle.merge_area.specs.Layout.{cell, head, set-place, set-chunk, side, nee
 use Rattle.merge_area.specs.Read.{depends-in, effects-in, read}
 use Rattle.merge_area.specs.Writes.{union-cell, merging, merged-rows, merge-area}
 use Rattle.merge_laws.specs.Can.{CanMerge, CanMergeArea}
-use Rattle.merge_laws.specs.Merging.{row-in, rows-apart, at-target, at-source, at-none, rows-kept, merged-length}
+use Rattle.merge_laws.specs.Merging.{rows-apart, at-target, at-source, at-none, rows-kept, merged-length}
 use Rattle.merge_reads.specs.Fields.{yes-ind, effects-put, needs-same, log-same, sets-same, home-same, keys-same}
 
 -- the dependencies that an area holds
@@ -49,15 +50,15 @@ module _ (z : Sizes) (a : List ℕ) (t s : ℕ) (can : CanMergeArea z a t s) whe
 
   -- "target gets the union without itself"
   pub area-target : (y : ℕ) → y < z .chunks → cell (merge-area z a t s) (t * z .chunks + y) ≡ union-cell (cell a (t * z .chunks + y)) (cell a (s * z .chunks + y)) y t
-  area-target y b = area-row (t * z .chunks + y) (omega (arith, row-in (z .chunks) (z .chunks) t (can .target))) ∙ at-target rows y (z .chunks) b (omega arith)
+  area-target y b = area-row (t * z .chunks + y) (omega (arith, sets-room {i = t} {n = z .chunks} (z .chunks) (can .target))) ∙ at-target rows y (z .chunks) b (omega arith)
 
   -- "source's set empties"
   pub area-source : (y : ℕ) → y < z .chunks → cell (merge-area z a t s) (s * z .chunks + y) ≡ 0
-  area-source y b = area-row (s * z .chunks + y) (omega (arith, row-in (z .chunks) (z .chunks) s (can .source))) ∙ at-source rows y (z .chunks) b (omega arith)
+  area-source y b = area-row (s * z .chunks + y) (omega (arith, sets-room {i = s} {n = z .chunks} (z .chunks) (can .source))) ∙ at-source rows y (z .chunks) b (omega arith)
 
   pub area-other : (x y : ℕ) → x < z .chunks → y < z .chunks → (x ≡ t → ⊥) → (x ≡ s → ⊥) → cell (merge-area z a t s) (x * z .chunks + y) ≡ cell a (x * z .chunks + y)
   area-other x y xc b n m =
-      area-row (x * z .chunks + y) (omega (arith, row-in (z .chunks) (z .chunks) x xc))
+      area-row (x * z .chunks + y) (omega (arith, sets-room {i = x} {n = z .chunks} (z .chunks) xc))
       ∙ at-none rows (z .chunks) (x * z .chunks + y) (rows-apart (z .chunks) t x (z .chunks) (x * z .chunks + y) (λ i. n (sym i)) (omega arith) (omega arith) (omega arith))
       (rows-apart (z .chunks) s x (z .chunks) (x * z .chunks + y) (λ i. m (sym i)) (omega arith) (omega arith) (omega arith))
 

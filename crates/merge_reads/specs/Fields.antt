@@ -11,11 +11,11 @@ use Rattle.graphs.specs.Bools.{and-both}
 use Rattle.graphs.specs.Count.{ind}
 use Rattle.entry_set.specs.Lanes.{lanes}
 use Rattle.merge_state.specs.declared.Sizes.{Sizes}
-use Rattle.merge_state.specs.State.{None, put, put-same, put-other}
+use Rattle.merge_state.specs.State.{None, put, put-same, put-other, pairs}
 use Rattle.merge_state.specs.State as state
 use Rattle.merge_area.specs.Layout.{cell, head, set-place, set-chunk, side, need, key, home, entry-chunk, entry-module}
-use Rattle.merge_area.specs.Read.{pairs, entry, named-set, depends-in, effects-in, needs-in, log-in, sets-in, home-in, keys-in}
-use Rattle.merge_area.specs.PairLaws.{pairs-same, pairs-more}
+use Rattle.merge_area.specs.Read.{entry, named-set, depends-in, effects-in, needs-in, log-in, sets-in, home-in, keys-in}
+use Rattle.merge_state.specs.Pairs.{pairs-same, pairs-more}
 
 -- a flag that is written and read
 pub yes-ind : (k : Bool) → state.yes (ind k) ≡ k

@@ -20,7 +20,7 @@ use Rattle.merge_state.specs.Loading.{came-before, twice}
 use Rattle.merge_state.specs.Ordered.{Ordered, never}
 use Rattle.merge_area.specs.Layout.{cell, head, set-place, set-chunk, need, key, home, entry-chunk, entry-module}
 use Rattle.merge_area.specs.Read.{entry, named-set, depends-in, needs-in, home-in, keys-in, read}
-use Rattle.merge_area.specs.PairLaws.{pairs-length, pairs-at}
+use Rattle.merge_state.specs.Pairs.{pairs-length, pairs-at}
 use Rattle.merge_area.specs.Consistent.{faults, head-fault, row-fault, flags-fault, index-faults, out-of-range, sets-fault, inconsistent}
 use Rattle.merge_reads.specs.Fields.{depends-on}
 
@@ -106,7 +106,7 @@ module _ (z : Sizes) (a : List ℕ) (o : Ordered z (read z a)) where
   unfolding needs-in
   at-need x b = elim (ℕ-discrete (cell a (need z x)) 0) [
     | yes q ↦ below-fits 1 (cell a (need z x)) false (omega arith)
-    | no q ↦ absurd (never _ (and-both _ _ (lt-ltb x (z .chunks) (omega (arith, o .begun, o .fits))) (ap not (ne-eqb _ 0 q))) (o .young x b))
+    | no q ↦ absurd (never _ (and-both _ _ (lt-ltb x (z .chunks) (omega (arith, o .begun, o .fits))) (ap not (ne-eqb _ 0 q))) (o .initial-needs-none x b))
   ]
 
   apart : (i j : ℕ) → i < j → j < sets → eqb (lanes a (set-place z i) 1) (lanes a (set-place z j) 1) ≡ false

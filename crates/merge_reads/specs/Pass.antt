@@ -12,12 +12,12 @@ use Rattle.graphs.specs.Count.{count, count-yes, count-mono}
 use Rattle.merge_state.specs.declared.Sizes.{Sizes}
 use Rattle.merge_state.specs.State.{None, Graph}
 use Rattle.merge_state.specs.Methods.{Passed, merged, created-chunk, warn, merges, candidate, passed}
-use Rattle.merge_state.specs.Table.{stray}
+use Rattle.merge_state.specs.Table.{any-misfit}
 use Rattle.merge_state.specs.Ordered.{Ordered, never}
 use Rattle.merge_state.specs.Kept.{Passing, proposal, passed-kept}
 use Rattle.merge_area.specs.Layout.{room, cell, head}
 use Rattle.merge_area.specs.Read.{needs-in, named-set, entry, read}
-use Rattle.merge_area.specs.PairLaws.{pairs-length}
+use Rattle.merge_state.specs.Pairs.{pairs-length}
 use Rattle.merge_area.specs.Writes.{merge-area, create-area, candidate-area, pass-area}
 use Rattle.merge_laws.specs.Can.{CanMergeArea, CanCreate}
 use Rattle.merge_laws.specs.Rows.{Stood}
@@ -67,7 +67,7 @@ module _ {z : Sizes} {a : List ℕ} {x p : ℕ} (c : CanPlace z a x p) where
     long = h .long;
     target = omega (arith, c .target n, h .begun, h .fits);
     source = omega (arith, c .source, h .fits);
-    differ = λ e. never _ (c .needs) (ordered z a (c .stood) .young x (omega (arith, c .target n)));
+    differ = λ e. never _ (c .needs) (ordered z a (c .stood) .initial-needs-none x (omega (arith, c .target n)));
   }
 
   pub place-create : CanCreate z a
@@ -120,7 +120,7 @@ module _ (z : Sizes) (a : List ℕ) (s : Stood z a) (left : cell a (head z 0) + 
         let c = can-place p f in record { graph = candidate-read c b (R .kinds) (R .numbers) ∙ ap (λ g. candidate (record { graph = g; kinds = R .kinds; numbers = R .numbers }) k p b .graph) (h .graph); same = candidate-length c b ∙ h .same }
 
   -- after the chunks below k
-  pub pass-holds : (props bars : List ℕ) → stray (cell a (head z 0)) true props ≡ false → (k : ℕ) → k ≤ cell a (head z 1)
+  pub pass-holds : (props bars : List ℕ) → any-misfit (cell a (head z 0)) true props ≡ false → (k : ℕ) → k ≤ cell a (head z 1)
       → Holds z a (pass-area z a props bars k) (passed (read z a) props bars k .graph)
   unfolding pass-area passed
   pass-holds props bars f zero h = record { graph = refl; same = refl }

@@ -12,6 +12,7 @@ use Rattle.graphs.specs.Count.{ind}
 use Rattle.entry_set.specs.Joined.{parts}
 use Rattle.entry_set.specs.Lanes.{lanes, setLanes}
 use Rattle.entry_set.specs.LaneLaws.{length-setStrided, lanes-same, lanes-set}
+use Rattle.entry_set.specs.SetLaws.{sets-room}
 use Rattle.merge_state.specs.declared.Sizes.{Sizes}
 use Rattle.merge_state.specs.State.{None, chunk-of, flag}
 use Rattle.merge_state.specs.State as state
@@ -20,7 +21,6 @@ use Rattle.merge_area.specs.Layout.{room, cell, head, set-place, set-chunk, sid
 use Rattle.merge_area.specs.Read.{effects-in, sets-in, read}
 use Rattle.merge_area.specs.Writes.{register-area, append-area, open-area, init-area, create-area}
 use Rattle.merge_laws.specs.Can.{CanAppend, CanOpen, CanAssign, CanCreate}
-use Rattle.merge_laws.specs.Merging.{row-in}
 use Rattle.merge_laws.specs.Keeps.{open-far, open-length, open-append}
 use Rattle.merge_reads.specs.Fields.{depends-same, effects-same, effects-put, needs-same, needs-put, log-same, log-more, sets-same, sets-more, home-same, home-put, keys-same, keys-put}
 
@@ -44,7 +44,7 @@ module _ (z : Sizes) (a : List ℕ) (k x : ℕ) (long : room z ≤ length a) (kc
     initial = register-far (head z 0) (omega arith) i;
     made = register-far (head z 1) (omega arith) i;
     created = register-far (head z 2) (omega arith) i;
-    depends = depends-same z a b (λ u v p q. register-far (u * z .chunks + v) (omega (arith, row-in (z .chunks) (z .chunks) u p))) i;
+    depends = depends-same z a b (λ u v p q. register-far (u * z .chunks + v) (omega (arith, sets-room {i = u} {n = z .chunks} (z .chunks) p))) i;
     effects = effects-same z a b (λ u l. register-far (side z u) (omega arith)) i;
     needs = needs-same z a b (λ u l. register-far (need z u) (omega arith)) i;
     log = log-same z a b (register-far (head z 4) (omega arith)) (λ u l. (register-far (entry-chunk z u) (omega arith), register-far (entry-module z u) (omega arith))) i;
@@ -84,7 +84,7 @@ module _ (z : Sizes) (a : List ℕ) (x : ℕ) (can : CanCreate z a) where
     initial = create-far (head z 0) (omega arith) (omega arith) i;
     made = create-far (head z 1) (omega arith) (omega arith) i;
     created = create-count i;
-    depends = depends-same z a b (λ u v p q. create-far (u * z .chunks + v) (omega (arith, row-in (z .chunks) (z .chunks) u p)) (omega (arith, row-in (z .chunks) (z .chunks) u p))) i;
+    depends = depends-same z a b (λ u v p q. create-far (u * z .chunks + v) (omega (arith, sets-room {i = u} {n = z .chunks} (z .chunks) p)) (omega (arith, sets-room {i = u} {n = z .chunks} (z .chunks) p))) i;
     effects = effects-same z a b (λ u l. create-far (side z u) (omega arith) (omega arith)) i;
     needs = needs-same z a b (λ u l. create-far (need z u) (omega arith) (omega arith)) i;
     log = log-same z a b (create-far (head z 4) (omega arith) (omega arith)) (λ u l. (create-far (entry-chunk z u) (omega (arith, can .left)) (omega arith), create-far (entry-module z u) (omega (arith, can .left)) (omega arith))) i;
@@ -172,7 +172,7 @@ module _ (z : Sizes) (a : List ℕ) (x m : ℕ) (effs : List ℕ) (can : CanAppe
     initial = low (head z 0) (omega arith) (omega arith) i;
     made = low (head z 1) (omega arith) (omega arith) i;
     created = low (head z 2) (omega arith) (omega arith) i;
-    depends = depends-same z a b (λ u v p q. low (u * z .chunks + v) (omega (arith, row-in (z .chunks) (z .chunks) u p)) (omega (arith, row-in (z .chunks) (z .chunks) u p))) i;
+    depends = depends-same z a b (λ u v p q. low (u * z .chunks + v) (omega (arith, sets-room {i = u} {n = z .chunks} (z .chunks) p)) (omega (arith, sets-room {i = u} {n = z .chunks} (z .chunks) p))) i;
     effects = effects-put z a b x (effects-in z a x || e) (can .chunk) (rw (lt-ltb x (z .chunks) (can .chunk)) (append-side z a x m e can))
         (λ u l n. append-far z a x m e can (side z u) (omega arith) (omega arith) (omega arith) (omega arith) (omega arith)) i;
     needs = needs-same z a b (λ u l. append-far z a x m e can (need z u) (omega arith) (omega arith) (omega arith) (omega arith) (omega (arith, can .chunk))) i;
@@ -293,7 +293,7 @@ module _ (z : Sizes) (a : List ℕ) (v : ℕ) (can : CanOpen z a) where
       far i l p q = open-far z a v i (λ j k. omega arith) (omega arith) p (omega arith) (omega arith) q
 
       low : (x y : ℕ) → x < z .chunks → y < z .chunks → cell b (x * z .chunks + y) ≡ cell a (x * z .chunks + y)
-      low x y p q = let r = row-in (z .chunks) (z .chunks) x p in far (x * z .chunks + y) (omega arith) (omega arith) (omega arith)
+      low x y p q = let r = sets-room {i = x} {n = z .chunks} (z .chunks) p in far (x * z .chunks + y) (omega arith) (omega arith) (omega arith)
 
       -- numbers after the sets
       away : (i : ℕ) → z .chunks * z .chunks + 32 + 18 * z .chunks ≤ i → (i ≡ side z n → ⊥) → (i ≡ need z n → ⊥) → cell b i ≡ cell a i

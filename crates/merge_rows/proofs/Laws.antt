@@ -2,7 +2,7 @@
 use Prim.Native.Nat.{ℕ, suc, _+_, _-_, _*_, _≤_, _<_}
 use native.Mathlib.Omega.{arith}
 use native.Mathlib.Decide.{ℕ-discrete}
-use mathlib.Core.Path.{_≡_, refl, sym, ap, _∙_}
+use mathlib.Core.Path.{_≡_, refl, sym, ap, ap₂, _∙_}
 use mathlib.Core.Bool.{Bool, true, false, not, cond, _&&_, _||_}
 use mathlib.Core.List.{List, [], _∷_}
 use lib.ListN.{length, getD}
@@ -14,30 +14,20 @@ use Rattle.graphs.specs.Lists.{some-below, some-give, some-take, some-zero, som
 use Rattle.entry_set.specs.declared.EntrySet.{EntrySet}
 use Rattle.entry_set.specs.Sets.{value, number, Holds, legal, width}
 use Rattle.merge_state.specs.declared.Sizes.{Sizes}
-use Rattle.merge_state.specs.State.{None, chunk-of, misfit}
+use Rattle.merge_state.specs.State.{None, chunk-of, misfit, pairs}
 use Rattle.merge_state.specs.State as state
-use Rattle.merge_state.specs.Table.{stray, falling, bad-starts, over-lists, bad-lists, calc-chunk-dependencies, init-module-assignment, pass, later, first-fitting, other-length, no-module, full}
+use Rattle.merge_state.specs.Table.{any-misfit, falling, bad-starts, over-lists, bad-lists, calc-chunk-dependencies, init-module-assignment, pass, later, first-fitting, other-length, no-module, full}
 use Rattle.merge_area.specs.Layout.{cell, head, need}
-use Rattle.merge_area.specs.Read.{read, pairs, named-set, sets-in, needs-in}
+use Rattle.merge_area.specs.Read.{read, named-set, sets-in, needs-in}
 use Rattle.merge_area.specs.Within.{Headed}
 use Rattle.merge_area.specs.Calls.{standing, refusal}
 use Rattle.merge_laws.specs.Rows.{late, fits-here, fits-next}
 use Rattle.merge_area.specs.Consistent.{faults}
 
--- a search over the numbers below n: nothing found so far, one more passed, found, the end
-pub none-more : (p : ℕ → Bool) (x : ℕ) → some-below p x ≡ false → p x ≡ false → some-below p (x + 1) ≡ false
-none-more p x a b = ap (some-below p) (native.Mathlib.Numerals.add-one x) ∙ some-suc p x ∙ (rw b a)
-
-pub some-found : (p : ℕ → Bool) (n x : ℕ) → x < n → p x ≡ true → true ≡ some-below p n
-some-found p n x b h = sym (some-give p n x b h)
-
-pub none-left : (p : ℕ → Bool) (n x : ℕ) → some-below p x ≡ false → x ≡ n → false ≡ some-below p n
-none-left p n x h e = sym (ap (some-below p) (sym e) ∙ h)
-
 -- a list strays where it has faults
-pub stray-is : (l : List ℕ) (top : ℕ) (free : Bool) {r : ℕ} → r ≡ faults l 0 (length l) top free → ltb 0 r ≡ stray top free l
-unfolding faults stray
-stray-is l top free {r} e =
+pub misfit-is : (l : List ℕ) (top : ℕ) (free : Bool) {r : ℕ} → r ≡ faults l 0 (length l) top free → ltb 0 r ≡ any-misfit top free l
+unfolding faults any-misfit
+misfit-is l top free {r} e =
     alike _ _
     (λ h.
     let f = count-found (λ i. misfit top free (getD l (0 + i) 0)) (length l) (rw e at (ltb-true 0 r h)) in
@@ -85,24 +75,23 @@ module _ (z : Sizes) (a : List ℕ) (m : ℕ) (set effs : List ℕ) (q x : ℕ) 
   lacks : r ≡ (eqb (chunk-of (value set) (sets-in z a)) None && leb (z .chunks) (cell a (head z 1)))
   lacks = rw (← f) k
 
-  pub init-lacks : r ≡ true → 18 ≡ refusal z a (init-module-assignment m set effs)
+  pub init-room : (v : ℕ) {g : Bool} → g ≡ full z (read z a) → v ≡ first-fitting ((r, 18) ∷ (g, 19) ∷ []) → v ≡ refusal z a (init-module-assignment m set effs)
   unfolding over-lists bad-lists later
-  init-lacks w = late z a (init-module-assignment m set effs) q 18 e h (fits-next _ 16 18 _ (or-false _ _ t l) (fits-here _ 18 _ (sym lacks ∙ w)))
-
-  pub init-rest : (v : ℕ) → r ≡ false → v ≡ first-fitting ((full z (read z a), 19) ∷ []) → v ≡ refusal z a (init-module-assignment m set effs)
-  unfolding over-lists bad-lists later
-  init-rest v w y = late z a (init-module-assignment m set effs) q v e h (fits-next _ 16 v _ (or-false _ _ t l) (fits-next _ 18 v _ (sym lacks ∙ w) y))
+  init-room v {g} w y =
+      late z a (init-module-assignment m set effs) q v e h (fits-next _ 16 v _ (or-false _ _ t l) (y ∙ ap₂ (λ b d. first-fitting ((b, 18) ∷ (d, 19) ∷ [])) lacks w))
 
 -- a chunk that needs creation is a number from 1 on
 set-flag : (v : ℕ) → misfit 1 false v ≡ state.yes v
 unfolding misfit
 set-flag v = elim (ℕ-discrete v 0) [ yes q ↦ rw q | no q ↦ rw (le-leb 1 v (omega arith), ne-eqb v 0 q) ]
 
-pub needs-counted : (z : Sizes) (a : List ℕ) {n r : ℕ} → n ≡ cell a (head z 1) → n ≤ z .chunks → r ≡ faults a (z .chunks * z .chunks + 32 + 19 * z .chunks) n 1 false
+pub needs-counted : (z : Sizes) (a : List ℕ) {n p r : ℕ} → n ≡ cell a (head z 1) → n ≤ z .chunks → p ≡ need z 0 → r ≡ faults a p n 1 false
     → r ≡ count (needs-in z a) (cell a (head z 1))
 unfolding faults needs-in
-needs-counted z a {n} e b h =
-    h ∙ count-ext (λ i. misfit 1 false (cell a (need z i))) (needs-in z a) n (λ j l. set-flag (cell a (need z j)) ∙ (rw (lt-ltb j (z .chunks) (omega arith)))) ∙ ap (count (needs-in z a)) e
+needs-counted z a {n} {p} e b q h =
+    h ∙ count-ext (λ i. misfit 1 false (cell a (p + i))) (needs-in z a) n (λ j l.
+    let k : p + j ≡ need z j = omega (arith, q) in
+    rw k (set-flag (cell a (need z j)) ∙ (rw (lt-ltb j (z .chunks) (omega arith))))) ∙ ap (count (needs-in z a)) e
 
 pub few-candidates : (z : Sizes) (a : List ℕ) {n : ℕ} → Headed z a → n ≡ count (needs-in z a) (cell a (head z 1)) → n ≤ z .chunks
 few-candidates z a h e = omega (arith, e, count-le (needs-in z a) (cell a (head z 1)), h .fits)
@@ -120,15 +109,15 @@ module _ (z : Sizes) (a props bars kinds numbers : List ℕ) (q n : ℕ) {r : Bo
   unfolding over-lists bad-lists later
   pass-lists w = late z a (pass props bars kinds numbers) q 15 e h (fits-here _ 15 _ (sym listed ∙ w))
 
-  pass-rest : (v : ℕ) → r ≡ false → v ≡ first-fitting ((stray (cell a (head z 0)) true props, 16) ∷ (ltb (z .chunks) (cell a (head z 0) + cell a (head z 2) + candidates), 18) ∷ [])
+  pass-rest : (v : ℕ) → r ≡ false → v ≡ first-fitting ((any-misfit (cell a (head z 0)) true props, 16) ∷ (ltb (z .chunks) (cell a (head z 0) + cell a (head z 2) + candidates), 18) ∷ [])
       → v ≡ refusal z a (pass props bars kinds numbers)
   unfolding over-lists bad-lists later
   pass-rest v w y = late z a (pass props bars kinds numbers) q v e h (fits-next _ 15 v _ (sym listed ∙ w) y)
 
-  module _ (i : ℕ) {s : Bool} (w : r ≡ false) (k : i ≡ cell a (head z 0)) (g : s ≡ stray i true props) where
-    pub pass-stray : s ≡ true → 16 ≡ refusal z a (pass props bars kinds numbers)
-    pass-stray t = pass-rest 16 w (fits-here _ 16 _ (ap (λ j. stray j true props) (sym k) ∙ sym g ∙ t))
+  module _ (i : ℕ) {s : Bool} (w : r ≡ false) (k : i ≡ cell a (head z 0)) (g : s ≡ any-misfit i true props) where
+    pub pass-misfit : s ≡ true → 16 ≡ refusal z a (pass props bars kinds numbers)
+    pass-misfit t = pass-rest 16 w (fits-here _ 16 _ (ap (λ j. any-misfit j true props) (sym k) ∙ sym g ∙ t))
 
     pub pass-room : (v : ℕ) {l : Bool} → s ≡ false → l ≡ ltb (z .chunks) (cell a (head z 0) + cell a (head z 2) + n) → v ≡ first-fitting ((l, 18) ∷ []) → v ≡ refusal z a (pass props bars kinds numbers)
     pass-room v t o y =
-        pass-rest v w (fits-next _ 16 v _ (ap (λ j. stray j true props) (sym k) ∙ sym g ∙ t) (y ∙ ap (λ b. first-fitting ((b, 18) ∷ [])) (o ∙ ap (λ j. ltb (z .chunks) (cell a (head z 0) + cell a (head z 2) + j)) m)))
+        pass-rest v w (fits-next _ 16 v _ (ap (λ j. any-misfit j true props) (sym k) ∙ sym g ∙ t) (y ∙ ap (λ b. first-fitting ((b, 18) ∷ [])) (o ∙ ap (λ j. ltb (z .chunks) (cell a (head z 0) + cell a (head z 2) + j)) m)))

@@ -1,16 +1,19 @@
 // The row that refuses a call, 0 where none does.
-use crate::tests::is_full;
-use crate::tests::is_unmade;
-use entry_set::EntrySet;
+use crate::checks::is_full;
+use crate::checks::is_unmade;
+use merge_state::ChunkIdx;
+use merge_state::ModuleIdx;
+use merge_state::NONE;
 use merge_state::Sizes;
 ghost use mathlib.Core.Path.{_≡_};
 ghost use mathlib.Core.Bool.{_&&_};
+ghost use mathlib.Core.List.{[], _∷_};
 ghost use Prim.Native.Nat.{_≤_};
 ghost use lib.ListN.{length};
 ghost use lib.Dec.{eqb, leb};
 ghost use Rattle.entry_set.specs.Sets.{value};
 ghost use Rattle.merge_state.specs.State.{None, chunk-of};
-ghost use Rattle.merge_state.specs.Table.{init-module-assignment, add-module-to-chunk, register-chunk-graph-index, calc-chunk-dependencies, would-create-circular-dependency, is-reachable, pass};
+ghost use Rattle.merge_state.specs.Table.{first-fitting, init-module-assignment, add-module-to-chunk, register-chunk-graph-index, calc-chunk-dependencies, would-create-circular-dependency, is-reachable, pass};
 ghost use Rattle.merge_area.specs.Layout.{cell, head};
 ghost use Rattle.merge_area.specs.Read.{sets-in};
 ghost use Rattle.merge_area.specs.Within.{Headed};
@@ -30,42 +33,52 @@ fn lacks_chunk(sizes: Sizes, area: &[u32], x: u32) -> bool
     requires { ⌜ Headed sizes (now area) ⌝ }
     ensures { λ r. ⌜ r ≡ eqb x None && leb (sizes .chunks) (cell (now (area .entry)) (head sizes 1)) ⌝ }
 {
-    if x != 4294967295 {
+    if x != NONE {
         return false;
     }
     sizes.chunks <= merge_area::header(sizes, area, 1) as usize
 }
 
-pub fn init_row(sizes: Sizes, area: &[u32], m: u32, bits: &[u64], effects: &[u32]) -> u32
-    ensures { λ r. ⌜ r ≡ refusal sizes (now (area .entry)) (init-module-assignment m (now (bits .entry)) (now (effects .entry))) ⌝ }
+// The first of rows 18 and 19 that fits, 0 where none does.
+fn room_row(lacks: bool, full: bool) -> u32
+    ensures { λ r. ⌜ r ≡ first-fitting ((lacks, 18) ∷ (full, 19) ∷ []) ⌝ }
 {
-    let row = merge_area::standing_row(sizes, false, effects.len() != sizes.modules, area);
-    if row != 0 {
-        return row;
-    }
-    if sizes.modules <= m as usize {
-        return 16;
-    }
-    if !entry_set::is_legal(bits, sizes.bits) {
-        return 16;
-    }
-    if lacks_chunk(sizes, area, find_chunk(sizes, area, bits)) {
+    if lacks {
         return 18;
     }
-    if is_full(sizes, area) {
+    if full {
         return 19;
     }
     0
 }
 
-pub fn add_row(sizes: Sizes, area: &[u32], m: u32, x: u32, effects: &[u32]) -> u32
-    ensures { λ r. ⌜ r ≡ refusal sizes (now (area .entry)) (add-module-to-chunk m x (now (effects .entry))) ⌝ }
+// The row of `init_module_assignment`.
+pub fn init_row(sizes: Sizes, area: &[u32], m: ModuleIdx, bits: &[u64], effects: &[u32]) -> u32
+    ensures { λ r. ⌜ r ≡ refusal sizes (now (area .entry)) (init-module-assignment (m .0) (now (bits .entry)) (now (effects .entry))) ⌝ }
 {
     let row = merge_area::standing_row(sizes, false, effects.len() != sizes.modules, area);
     if row != 0 {
         return row;
     }
-    if sizes.modules <= m as usize {
+    if sizes.modules <= m.0 as usize {
+        return 16;
+    }
+    if !entry_set::is_legal(bits, sizes.bits) {
+        return 16;
+    }
+    let lacks = lacks_chunk(sizes, area, find_chunk(sizes, area, bits));
+    room_row(lacks, is_full(sizes, area))
+}
+
+// The row of `add_module_to_chunk`.
+pub fn add_row(sizes: Sizes, area: &[u32], m: ModuleIdx, x: ChunkIdx, effects: &[u32]) -> u32
+    ensures { λ r. ⌜ r ≡ refusal sizes (now (area .entry)) (add-module-to-chunk (m .0) (x .0) (now (effects .entry))) ⌝ }
+{
+    let row = merge_area::standing_row(sizes, false, effects.len() != sizes.modules, area);
+    if row != 0 {
+        return row;
+    }
+    if sizes.modules <= m.0 as usize {
         return 16;
     }
     if is_unmade(sizes, area, x) {
@@ -77,14 +90,15 @@ pub fn add_row(sizes: Sizes, area: &[u32], m: u32, x: u32, effects: &[u32]) -> u
     0
 }
 
-pub fn register_row(sizes: Sizes, area: &[u32], key: u32, chunk: u32) -> u32
-    ensures { λ r. ⌜ r ≡ refusal sizes (now (area .entry)) (register-chunk-graph-index key chunk) ⌝ }
+// The row of `register_chunk_graph_index`.
+pub fn register_row(sizes: Sizes, area: &[u32], key: ChunkIdx, chunk: ChunkIdx) -> u32
+    ensures { λ r. ⌜ r ≡ refusal sizes (now (area .entry)) (register-chunk-graph-index (key .0) (chunk .0)) ⌝ }
 {
     let row = merge_area::standing_row(sizes, false, false, area);
     if row != 0 {
         return row;
     }
-    if sizes.chunks <= key as usize {
+    if sizes.chunks <= key.0 as usize {
         return 16;
     }
     if is_unmade(sizes, area, chunk) {
@@ -93,42 +107,45 @@ pub fn register_row(sizes: Sizes, area: &[u32], key: u32, chunk: u32) -> u32
     0
 }
 
+// The row of `calc_chunk_dependencies`.
 pub fn calc_row(sizes: Sizes, area: &[u32], starts: &[u32], dependencies: &[u32]) -> u32
     ensures { λ r. ⌜ r ≡ refusal sizes (now (area .entry)) (calc-chunk-dependencies (now (starts .entry)) (now (dependencies .entry))) ⌝ }
 {
     let d = dependencies.len();
-    let bad = crate::tests::are_bad_starts(sizes.modules, starts, d);
+    let bad = crate::checks::are_bad_starts(sizes.modules, starts, d);
     let row = merge_area::standing_row(sizes, 8192 < d, bad, area);
     if row != 0 {
         return row;
     }
-    if crate::tests::has_stray(dependencies, sizes.modules, false) {
+    if crate::checks::has_misfit(dependencies, sizes.modules, false) {
         return 16;
     }
     0
 }
 
-pub fn pair_row(sizes: Sizes, area: &[u32], source: u32, target: u32) -> u32
-    ensures { λ r. ⌜ r ≡ refusal sizes (now (area .entry)) (would-create-circular-dependency source target) ⌝ }
+// The row of `would_create_circular_dependency` of one and other (source and target), and of `merge_chunk_dependencies` of one and other (target and source).
+pub fn pair_row(sizes: Sizes, area: &[u32], one: ChunkIdx, other: ChunkIdx) -> u32
+    ensures { λ r. ⌜ r ≡ refusal sizes (now (area .entry)) (would-create-circular-dependency (one .0) (other .0)) ⌝ }
 {
     let row = merge_area::standing_row(sizes, false, false, area);
     if row != 0 {
         return row;
     }
-    if is_unmade(sizes, area, source) {
+    if is_unmade(sizes, area, one) {
         return 16;
     }
-    if is_unmade(sizes, area, target) {
+    if is_unmade(sizes, area, other) {
         return 16;
     }
-    if source == target {
+    if one.0 == other.0 {
         return 20;
     }
     0
 }
 
-pub fn reach_row(sizes: Sizes, area: &[u32], from: u32, to: u32) -> u32
-    ensures { λ r. ⌜ r ≡ refusal sizes (now (area .entry)) (is-reachable from to) ⌝ }
+// The row of `is_reachable`.
+pub fn reach_row(sizes: Sizes, area: &[u32], from: ChunkIdx, to: ChunkIdx) -> u32
+    ensures { λ r. ⌜ r ≡ refusal sizes (now (area .entry)) (is-reachable (from .0) (to .0)) ⌝ }
 {
     let row = merge_area::standing_row(sizes, false, false, area);
     if row != 0 {
@@ -143,6 +160,7 @@ pub fn reach_row(sizes: Sizes, area: &[u32], from: u32, to: u32) -> u32
     0
 }
 
+// The row of the pass.
 pub fn pass_row(
     sizes: Sizes,
     area: &[u32],
@@ -157,15 +175,15 @@ pub fn pass_row(
     if row != 0 {
         return row;
     }
-    let n = crate::tests::count_candidates(sizes, area);
-    if crate::tests::is_other_length(n, proposals.len(), bars.len(), kinds.len(), numbers.len()) {
+    let n = crate::checks::count_candidates(sizes, area);
+    if crate::checks::is_other_length(n, proposals.len(), bars.len(), kinds.len(), numbers.len()) {
         return 15;
     }
     let initial = merge_area::header(sizes, area, 0) as usize;
-    if crate::tests::has_stray(proposals, initial, true) {
+    if crate::checks::has_misfit(proposals, initial, true) {
         return 16;
     }
-    if crate::tests::lacks_numbers(sizes, area, n) {
+    if crate::checks::lacks_numbers(sizes, area, n) {
         return 18;
     }
     0

@@ -7,7 +7,7 @@ use mathlib.Core.Path.{_≡_, refl, sym, ap, _∙_}
 use mathlib.Core.Logic.{_⊎_, inl, inr, ⊎-elim}
 use mathlib.Core.Bool.{Bool, true, false, not, cond, _&&_, _||_}
 use mathlib.Core.List.{List, [], _∷_, _++_}
-use lib.ListN.{getD, length}
+use lib.ListN.{getD, length, List·getD-eq-default}
 use lib.Dec.{eqb, leb, ltb}
 use borrow.Author.Tests.{eqb-true, eqb-false, ne-eqb, leb-false, ltb-true, ltb-false, not-true, not-false}
 use Rattle.graphs.specs.Bools.{and-left, and-right, and-both, or-false-left, or-false-right, fails}
@@ -17,7 +17,7 @@ use Rattle.entry_set.specs.Sets.{value, width, legal}
 use Rattle.merge_state.specs.declared.Sizes.{Sizes}
 use Rattle.merge_state.specs.State.{None, Graph, chunk-of, misfit}
 use Rattle.merge_state.specs.Methods.{Passed, merged, created-chunk, warn, merges, candidate, passed}
-use Rattle.merge_state.specs.Table.{Call, init-module-assignment, add-module-to-chunk, register-chunk-graph-index, to-temp-idx, calc-chunk-dependencies, would-create-circular-dependency, is-reachable, merge-chunk-dependencies, pass, first-fitting, stray, later, acted}
+use Rattle.merge_state.specs.Table.{Call, init-module-assignment, add-module-to-chunk, register-chunk-graph-index, to-temp-idx, calc-chunk-dependencies, would-create-circular-dependency, is-reachable, merge-chunk-dependencies, pass, first-fitting, any-misfit, later, acted}
 use Rattle.merge_state.specs.Ordered.{Ordered, never, appended-kept, registered-kept, created-chunk-kept, merged-kept, calculated-kept, assigned-kept}
 
 -- no row fits: the first doesn't, nor a later one
@@ -31,27 +31,22 @@ default-in [] i d h = absurd (omega arith)
 default-in (a ∷ l) zero d h = refl
 default-in (a ∷ l) (suc i) d h = default-in l i d (omega arith)
 
-default-out : (l : List ℕ) (i d : ℕ) → (i < length l → ⊥) → getD l i d ≡ d
-default-out [] i d h = refl
-default-out (a ∷ l) zero d h = absurd (h (omega arith))
-default-out (a ∷ l) (suc i) d h = default-out l i d (λ b. h (omega arith))
-
--- no number of a list strays
+-- no number of a list misfits
 module _ (top : ℕ) (l : List ℕ) where
-  pub no-stray : stray top false l ≡ false → (i : ℕ) → i < length l → getD l i 0 < top
-  unfolding stray misfit
-  no-stray h i b = leb-false top (getD l i 0) (fails _ (λ q. never _ (and-both _ _ q refl) (some-none (λ i. misfit top false (getD l i 0)) (length l) h i b)))
+  pub no-misfit : any-misfit top false l ≡ false → (i : ℕ) → i < length l → getD l i 0 < top
+  unfolding any-misfit misfit
+  no-misfit h i b = leb-false top (getD l i 0) (fails _ (λ q. never _ (and-both _ _ q refl) (some-none (λ i. misfit top false (getD l i 0)) (length l) h i b)))
 
-  pub no-stray-but : stray top true l ≡ false → (i : ℕ) → i < length l → (getD l i 0 ≡ None → ⊥) → getD l i 0 < top
-  unfolding stray misfit
-  no-stray-but h i b n =
+  pub no-misfit-but : any-misfit top true l ≡ false → (i : ℕ) → i < length l → (getD l i 0 ≡ None → ⊥) → getD l i 0 < top
+  unfolding any-misfit misfit
+  no-misfit-but h i b n =
       leb-false top (getD l i 0) (fails _ (λ q. never _ (and-both _ _ q (ap not (ne-eqb (getD l i 0) None n))) (some-none (λ i. misfit top true (getD l i 0)) (length l) h i b)))
 
 -- a proposal is None or initial
-pub proposal : (g : Graph) (l : List ℕ) → stray (g .initial) true l ≡ false → (i : ℕ) → (getD l i None ≡ None → ⊥) → getD l i None < g .initial
+pub proposal : (g : Graph) (l : List ℕ) → any-misfit (g .initial) true l ≡ false → (i : ℕ) → (getD l i None ≡ None → ⊥) → getD l i None < g .initial
 proposal g l h i n = elim (decLt i (length l)) [
-  | yes b ↦ let e = default-in l i None b in rw e (no-stray-but (g .initial) l h i b (rw e at n))
-  | no b ↦ absurd (n (default-out l i None b))
+  | yes b ↦ let e = default-in l i None b in rw e (no-misfit-but (g .initial) l h i b (rw e at n))
+  | no b ↦ absurd (n (List·getD-eq-default l None {n = i} (omega arith)))
 ]
 
 -- after the chunks below k
@@ -95,7 +90,7 @@ module _ {z : Sizes} {g : Graph} (room : g .initial + g .created + count (g .nee
             needs = v .needs;
           }
 
-  pub passed-kept : Ordered z g → (props bars : List ℕ) → stray (g .initial) true props ≡ false → (k : ℕ) → k ≤ g .made → Passing z g k (passed g props bars k)
+  pub passed-kept : Ordered z g → (props bars : List ℕ) → any-misfit (g .initial) true props ≡ false → (k : ℕ) → k ≤ g .made → Passing z g k (passed g props bars k)
   unfolding passed
   passed-kept o props bars f zero h = record { ordered = o; initial = refl; made = refl; created = omega arith; needs = refl }
   passed-kept o props bars f (suc k) h = go (g .needs k) refl (passed-kept o props bars f k (omega arith))

@@ -5,5 +5,7 @@ pub mod Loading
 pub mod Warning
 pub mod Absorbed
 pub mod Ordered
+pub mod Search
+pub mod Pairs
 pub mod Kept
 pub mod LoadKept

@@ -16,23 +16,11 @@ use Rattle.entry_set.specs.Sets.{value, width, legal}
 use Rattle.merge_state.specs.declared.Sizes.{Sizes}
 use Rattle.merge_state.specs.State.{None, Graph, at}
 use Rattle.merge_state.specs.Methods.{appended}
-use Rattle.merge_state.specs.Table.{first-fitting, falling, bad-starts, stray}
-use Rattle.merge_state.specs.Loading.{Lent, lister, set-at, pairs-of, pairs, loaded, came-before, twice, over-load, bad-load, later-load, load}
-use Rattle.merge_state.specs.Ordered.{Ordered, one-longer, at-old, at-new, each-more, appended-kept}
-use Rattle.merge_state.specs.Kept.{none-fits, no-stray}
-
-pub pairs-length : (w : ℕ) (flat homes : List ℕ) (k : ℕ) → length (pairs-of w flat homes k) ≡ k
-unfolding pairs-of
-pairs-length w flat homes zero = refl
-pairs-length w flat homes (suc k) = omega (arith, one-longer (pairs-of w flat homes k) (value (set-at w flat k), getD homes k 0), pairs-length w flat homes k)
-
-pub pairs-at : (w : ℕ) (flat homes : List ℕ) (k i : ℕ) → i < k → at (pairs-of w flat homes k) i ≡ (value (set-at w flat i), getD homes i 0)
-unfolding pairs-of
-pairs-at w flat homes zero i h = absurd (omega arith)
-pairs-at w flat homes (suc k) i h = elim (native.Mathlib.Decide.ℕ-discrete i k) [
-  | yes q ↦ rw q (ap (λ j. at (pairs-of w flat homes k ++ ((value (set-at w flat k), getD homes k 0) ∷ [])) j) (sym (pairs-length w flat homes k)) ∙ at-new (pairs-of w flat homes k) (value (set-at w flat k), getD homes k 0))
-  | no q ↦ at-old (pairs-of w flat homes k) (value (set-at w flat k), getD homes k 0) i (omega (arith, pairs-length w flat homes k)) ∙ pairs-at w flat homes k i (omega arith)
-]
+use Rattle.merge_state.specs.Table.{first-fitting, falling, bad-starts, any-misfit}
+use Rattle.merge_state.specs.Loading.{Lent, lister, set-at, lent-pair, lent-pairs, loaded, came-before, twice, over-load, bad-load, later-load, load}
+use Rattle.merge_state.specs.Ordered.{Ordered, one-longer, appended-kept}
+use Rattle.merge_state.specs.Pairs.{pairs-length, pairs-at}
+use Rattle.merge_state.specs.Kept.{none-fits, no-misfit}
 
 lister-in : (starts : List ℕ) (n k d : ℕ) → getD starts n 0 ≡ d → getD starts 0 0 ≡ 0 → k < d → lister starts n k < n
 unfolding lister count
@@ -82,7 +70,7 @@ allowed z n a b c =
     let st₁ = or-false-right (not (eqb (length (n .starts)) (n .initial + 1))) _ st in
     let st₂ = or-false-right (not (eqb (getD (n .starts) 0 0) 0)) _ st₁ in
     let st₃ = or-false-right (not (eqb (getD (n .starts) (n .initial) 0) (length (n .modules)))) _ st₂ in
-    let indices = or-false-right (stray (z .modules) false (n .modules)) _ (h₁ .0) in
+    let indices = or-false-right (any-misfit (z .modules) false (n .modules)) _ (h₁ .0) in
     record {
       few = ltb-false _ _ (or-false-left (ltb (z .chunks) (n .initial)) _ a);
       few-pairs = ltb-false _ _ (or-false-right (ltb (z .chunks) (n .initial)) _ a);
@@ -92,9 +80,9 @@ allowed z n a b c =
       rising = λ i h. ltb-false _ _ (some-none (λ i. ltb (getD (n .starts) (i + 1) 0) (getD (n .starts) i 0)) (n .initial) st₃ i h);
       flat = eqb-true _ _ (not-false _ (or-false-left (not (eqb (length (n .flat)) (p * w))) _ rest));
       effects = eqb-true _ _ (not-false _ (or-false-right (not (eqb (length (n .flat)) (p * w))) _ rest));
-      modules = no-stray (z .modules) (n .modules) (or-false-left (stray (z .modules) false (n .modules)) _ (h₁ .0));
+      modules = no-misfit (z .modules) (n .modules) (or-false-left (any-misfit (z .modules) false (n .modules)) _ (h₁ .0));
       sets = λ i h. ltb-true _ _ (and-right (eqb (length (set-at w (n .flat) i)) w) _ (not-false _ (some-none (λ i. not (legal (z .bits) (set-at w (n .flat) i))) p (or-false-left (some-below (λ i. not (legal (z .bits) (set-at w (n .flat) i))) p) _ indices) i h)));
-      chunks = no-stray (n .initial) (n .chunks) (or-false-right (some-below (λ i. not (legal (z .bits) (set-at w (n .flat) i))) p) _ indices);
+      chunks = no-misfit (n .initial) (n .chunks) (or-false-right (some-below (λ i. not (legal (z .bits) (set-at w (n .flat) i))) p) _ indices);
       distinct = λ i j l h. eqb-false _ _ (some-none (λ i. eqb (value (set-at w (n .flat) i)) (value (set-at w (n .flat) j))) j (some-none (came-before (λ i. value (set-at w (n .flat) i))) p (h₂ .0) j h) i l);
       room = ltb-false _ _ (h₃ .0);
     }
@@ -106,11 +94,11 @@ module _ (z : Sizes) (n : Lent) (small : z .chunks ≤ 1024) (ok : Allowed z n) 
   abbrev w : ℕ
   w = width (z .bits)
 
-  long : length (pairs z n) ≡ p
-  long = pairs-length w (n .flat) (n .chunks) p
+  long : length (lent-pairs z n) ≡ p
+  long = pairs-length (lent-pair w (n .flat) (n .chunks)) p
 
-  pair : (i : ℕ) → i < p → at (pairs z n) i ≡ (value (set-at w (n .flat) i), getD (n .chunks) i 0)
-  pair i h = pairs-at w (n .flat) (n .chunks) p i h
+  pair : (i : ℕ) → i < p → at (lent-pairs z n) i ≡ lent-pair w (n .flat) (n .chunks) i
+  pair i h = pairs-at (lent-pair w (n .flat) (n .chunks)) p i h
 
   bare-kept : Ordered z (loaded z n 0)
   unfolding loaded
@@ -120,7 +108,7 @@ module _ (z : Sizes) (n : Lent) (small : z .chunks ≤ 1024) (ok : Allowed z n) 
         begun = omega arith;
         fits = ok .few;
         sound = record { self = λ x. refl; from = λ x y h. absurd (true≢false (sym h)); to = λ x y h. absurd (true≢false (sym h)) };
-        young = λ x h. refl;
+        initial-needs-none = λ x h. refl;
         homes = λ k. inl refl;
         keyed = λ k. key-range (n .initial) (z .chunks) k (ok .few);
         named = λ i h. let b : i < p = omega (arith, long) in rw (pair i b) (ok .sets i b, ok .chunks i b);

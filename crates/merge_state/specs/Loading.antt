@@ -1,16 +1,16 @@
 -- `new`: the merge graph after a loading. Sentences quoted are document 01's. Assumes nothing.
 use Prim.Native.Nat.{ℕ, zero, suc, _+_, _*_}
 use mathlib.Core.Bool.{Bool, true, false, not, cond, _||_}
-use mathlib.Core.List.{List, [], _∷_, _++_}
+use mathlib.Core.List.{List, [], _∷_}
 use lib.ListN.{getD, length, take, drop}
 use lib.Dec.{ltb, leb, eqb}
 use Rattle.graphs.specs.Count.{count}
 use Rattle.graphs.specs.Lists.{some-below}
 use Rattle.entry_set.specs.Sets.{value, legal, width}
 use Rattle.merge_state.specs.declared.Sizes.{Sizes}
-use Rattle.merge_state.specs.State.{None, Graph, at}
+use Rattle.merge_state.specs.State.{None, Graph, pairs}
 use Rattle.merge_state.specs.Methods.{appended}
-use Rattle.merge_state.specs.Table.{first-fitting, bad-starts, other-length, stray}
+use Rattle.merge_state.specs.Table.{bad-starts, other-length, any-misfit}
 
 -- What `new` is lent: how many chunks are initial, their modules by starts, the sets of the pairs one after the other, the pairs' chunks,
 -- and the modules' side effects
@@ -26,16 +26,15 @@ pub record Lent : Type 0 where
 unfoldable pub lister : List ℕ → ℕ → ℕ → ℕ
 lister starts n k = count (λ x. leb (getD starts (x + 1) 0) k) n
 
--- the i-th lent set, and the first k pairs
+-- the i-th lent set, the i-th lent pair, and all of them
 abbrev pub set-at : ℕ → List ℕ → ℕ → List ℕ
 set-at w flat i = take w (drop (i * w) flat)
 
-unfoldable pub pairs-of : ℕ → List ℕ → List ℕ → ℕ → List (ℕ × ℕ)
-pairs-of w flat homes zero = []
-pairs-of w flat homes (suc k) = pairs-of w flat homes k ++ ((value (set-at w flat k), getD homes k 0) ∷ [])
+abbrev pub lent-pair : ℕ → List ℕ → List ℕ → ℕ → ℕ × ℕ
+lent-pair w flat homes i = (value (set-at w flat i), getD homes i 0)
 
-abbrev pub pairs : Sizes → Lent → List (ℕ × ℕ)
-pairs z n = pairs-of (width (z .bits)) (n .flat) (n .chunks) (length (n .chunks))
+abbrev pub lent-pairs : Sizes → Lent → List (ℕ × ℕ)
+lent-pairs z n = pairs (lent-pair (width (z .bits)) (n .flat) (n .chunks)) (length (n .chunks))
 
 -- "`new` takes each initial chunk's modules and pairs (set, chunk)": the first k list entries are in
 unfoldable pub loaded : Sizes → Lent → ℕ → Graph
@@ -47,7 +46,7 @@ loaded z n zero = record {
   effects = λ x. false;
   needs = λ x. false;
   log = [];
-  sets = pairs z n;
+  sets = lent-pairs z n;
   home = λ m. None;
   keys = λ k. cond (ltb k (n .initial)) k None;
 }
@@ -72,12 +71,9 @@ unfoldable pub later-load : Sizes → Lent → List (Bool × ℕ)
 later-load z n =
     let w = width (z .bits) in
     let p = length (n .chunks) in
-    (stray (z .modules) false (n .modules) || (some-below (λ i. not (legal (z .bits) (set-at w (n .flat) i))) p || stray (n .initial) false (n .chunks)), 16)
+    (any-misfit (z .modules) false (n .modules) || (some-below (λ i. not (legal (z .bits) (set-at w (n .flat) i))) p || any-misfit (n .initial) false (n .chunks)), 16)
     ∷ (twice (λ i. value (set-at w (n .flat) i)) p, 17) ∷ (ltb (z .entries) (length (n .modules)), 19) ∷ []
 
--- the first fitting row, 0 where none fits, and the graph then
-unfoldable pub load-row : Sizes → Lent → ℕ
-load-row z n = first-fitting ((over-load z n, 14) ∷ (bad-load z n, 15) ∷ later-load z n)
-
+-- the graph then
 unfoldable pub load : Sizes → Lent → Graph
 load z n = loaded z n (length (n .modules))

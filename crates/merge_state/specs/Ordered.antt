@@ -24,7 +24,7 @@ pub record Ordered (z : Sizes) (g : Graph) : Type 0 where
   pub begun : g .initial ≤ g .made
   pub fits : g .made ≤ z .chunks
   pub sound : Sound g
-  pub young : (x : ℕ) → x < g .initial → g .needs x ≡ false
+  pub initial-needs-none : (x : ℕ) → x < g .initial → g .needs x ≡ false
   pub homes : (k : ℕ) → (g .home k ≡ None) ⊎ ((k < z .modules) × (g .home k < g .made))
   pub keyed : (k : ℕ) → (g .keys k ≡ None) ⊎ ((k < z .chunks) × (g .keys k < g .made))
   pub named : (i : ℕ) → i < length (g .sets) → (at (g .sets) i .0 < 2 ^ z .bits) × (at (g .sets) i .1 < g .made)
@@ -90,7 +90,7 @@ module _ {z : Sizes} {g : Graph} (o : Ordered z g) where
         small = o .small;
         begun = o .begun;
         fits = o .fits;
-        young = o .young;
+        initial-needs-none = o .initial-needs-none;
         keyed = o .keyed;
         named = o .named;
         distinct = o .distinct;
@@ -112,7 +112,7 @@ module _ {z : Sizes} {g : Graph} (o : Ordered z g) where
         begun = omega (arith, o .begun);
         fits = omega arith;
         sound = record { self = o .sound .self; from = λ x y h. omega (arith, o .sound .from x y h); to = λ x y h. omega (arith, o .sound .to x y h) };
-        young = λ x h. put-other (g .needs) (g .made) true x (omega (arith, o .begun)) ∙ o .young x h;
+        initial-needs-none = λ x h. put-other (g .needs) (g .made) true x (omega (arith, o .begun)) ∙ o .initial-needs-none x h;
         homes = λ k. grown (o .homes k);
         keyed = λ k. grown (o .keyed k);
         named = each-more (g .sets) (v, g .made) (λ e. (e .0 < 2 ^ z .bits) × (e .1 < g .made + 1)) (λ i h. (o .named i h .0, omega (arith, o .named i h .1))) (b, omega arith);
@@ -138,7 +138,7 @@ module _ {z : Sizes} {g : Graph} (o : Ordered z g) where
         small = o .small;
         begun = o .begun;
         fits = o .fits;
-        young = o .young;
+        initial-needs-none = o .initial-needs-none;
         homes = o .homes;
         named = o .named;
         distinct = o .distinct;
@@ -156,7 +156,7 @@ module _ {z : Sizes} {g : Graph} (o : Ordered z g) where
         small = o .small;
         begun = o .begun;
         fits = o .fits;
-        young = o .young;
+        initial-needs-none = o .initial-needs-none;
         homes = o .homes;
         named = o .named;
         distinct = o .distinct;
@@ -174,7 +174,7 @@ module _ {z : Sizes} {g : Graph} (o : Ordered z g) where
         small = o .small;
         begun = o .begun;
         fits = o .fits;
-        young = o .young;
+        initial-needs-none = o .initial-needs-none;
         homes = o .homes;
         keyed = o .keyed;
         named = o .named;
@@ -210,7 +210,7 @@ module _ {z : Sizes} {g : Graph} (o : Ordered z g) where
         small = o .small;
         begun = o .begun;
         fits = o .fits;
-        young = o .young;
+        initial-needs-none = o .initial-needs-none;
         homes = o .homes;
         keyed = o .keyed;
         named = o .named;

@@ -1,8 +1,8 @@
 -- The merge graph's state. Sentences quoted are document 01's. Assumes nothing.
-use Prim.Native.Nat.{ℕ}
+use Prim.Native.Nat.{ℕ, zero, suc}
 use mathlib.Core.Path.{_≡_, refl, ap}
 use mathlib.Core.Bool.{Bool, not, cond, _&&_}
-use mathlib.Core.List.{List, [], _∷_}
+use mathlib.Core.List.{List, [], _∷_, _++_}
 use lib.ListN.{getD}
 use lib.Dec.{leb, eqb}
 use borrow.Author.Tests.{eq-eqb, ne-eqb}
@@ -58,6 +58,11 @@ flag l i = yes (getD l i 0)
 -- an entry of a list of pairs
 abbrev pub at : List (ℕ × ℕ) → ℕ → ℕ × ℕ
 at l i = getD l i (0, 0)
+
+-- f 0, .. f (n - 1), of pairs
+unfoldable pub pairs : (ℕ → ℕ × ℕ) → ℕ → List (ℕ × ℕ)
+pairs f zero = []
+pairs f (suc n) = pairs f n ++ (f n ∷ [])
 
 -- v isn't below top, nor None where that is allowed
 unfoldable pub misfit : ℕ → Bool → ℕ → Bool

@@ -61,8 +61,8 @@ abbrev pub other-length : List ℕ → ℕ → Bool
 other-length l n = not (eqb (length l) n)
 
 -- some number of a list isn't below top, nor None where that is allowed
-unfoldable pub stray : ℕ → Bool → List ℕ → Bool
-stray top free l = some-below (λ i. misfit top free (getD l i 0)) (length l)
+unfoldable pub any-misfit : ℕ → Bool → List ℕ → Bool
+any-misfit top free l = some-below (λ i. misfit top free (getD l i 0)) (length l)
 
 -- Row 14 by the call's own lists: "over 8,192 module dependencies"
 unfoldable pub over-lists : Call → Bool
@@ -95,13 +95,13 @@ later z g (init-module-assignment m set effs) =
 later z g (add-module-to-chunk m x effs) = (no-module z m || unmade g x, 16) ∷ (full z g, 19) ∷ []
 later z g (register-chunk-graph-index k x) = (leb (z .chunks) k || unmade g x, 16) ∷ []
 later z g (to-temp-idx k) = []
-later z g (calc-chunk-dependencies starts deps) = (stray (z .modules) false deps, 16) ∷ []
+later z g (calc-chunk-dependencies starts deps) = (any-misfit (z .modules) false deps, 16) ∷ []
 later z g (would-create-circular-dependency s t) = (unmade g s || unmade g t, 16) ∷ (eqb s t, 20) ∷ []
 later z g (is-reachable x y) = (unmade g x || unmade g y, 16) ∷ []
 later z g (merge-chunk-dependencies t s) = (unmade g t || unmade g s, 16) ∷ (eqb t s, 20) ∷ []
 later z g (pass props bars kinds numbers) =
     let n = count (g .needs) (g .made) in
-    (other-length props n || (other-length bars n || (other-length kinds n || other-length numbers n)), 15) ∷ (stray (g .initial) true props, 16) ∷ (ltb (z .chunks) (g .initial + g .created + n), 18) ∷ []
+    (other-length props n || (other-length bars n || (other-length kinds n || other-length numbers n)), 15) ∷ (any-misfit (g .initial) true props, 16) ∷ (ltb (z .chunks) (g .initial + g .created + n), 18) ∷ []
 
 -- What a call that isn't refused answers, and the graph that it leaves
 unfoldable pub acted : Sizes → Graph → Call → Answer × Graph

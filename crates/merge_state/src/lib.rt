@@ -13,3 +13,6 @@ pub struct ChunkIdx(pub u32);
 
 // A module, by its number.
 pub struct ModuleIdx(pub u32);
+
+// No chunk, in a list of numbers.
+pub const NONE: u32 = 4294967295;

@@ -33,19 +33,6 @@ pub record CanAsk (l : List ℕ) (c n x y : ℕ) : Type 0 where
 unfoldable pub hit-at : List ℕ → ℕ → ℕ → ℕ → List ℕ → ℕ → Bool
 hit-at l c n s marks x = yes (getD marks x 0) && flagEdge l c n x s
 
-pub row-in : (n c x : ℕ) → x < n → x * c + c ≤ n * c
-row-in n c x h = omega (arith, mul-le-mul-right {m = suc x} {n = n} c h, suc-mul x c)
-
--- a search over the numbers below n
-pub none-more : (p : ℕ → Bool) (x : ℕ) → some-below p x ≡ false → p x ≡ false → some-below p (x + 1) ≡ false
-none-more p x a b = ap (some-below p) (native.Mathlib.Numerals.add-one x) ∙ some-suc p x ∙ (rw b a)
-
-pub some-found : (p : ℕ → Bool) (n x : ℕ) → x < n → p x ≡ true → true ≡ some-below p n
-some-found p n x b h = sym (some-give p n x b h)
-
-pub none-left : (p : ℕ → Bool) (n x : ℕ) → some-below p x ≡ false → x ≡ n → false ≡ some-below p n
-none-left p n x h e = sym (ap (some-below p) (sym e) ∙ h)
-
 some-alike : (p q : ℕ → Bool) (n : ℕ) → ((x : ℕ) → x < n → p x ≡ q x) → some-below p n ≡ some-below q n
 some-alike p q n f =
     alike _ _ (λ h. let r = some-take p n h in some-give q n (r .0) (r .1) (sym (f (r .0) (r .1)) ∙ r .2)) (λ h. let r = some-take q n h in some-give p n (r .0) (r .1) (f (r .0) (r .1) ∙ r .2))

@@ -1,5 +1,17 @@
 // What a call writes.
 use entry_set::EntrySet;
+use merge_area::places::entry_chunk_place;
+use merge_area::places::entry_module_place;
+use merge_area::places::head_place;
+use merge_area::places::home_place;
+use merge_area::places::key_place;
+use merge_area::places::need_place;
+use merge_area::places::set_chunk_place;
+use merge_area::places::set_place;
+use merge_area::places::side_place;
+use merge_state::ChunkIdx;
+use merge_state::ModuleIdx;
+use merge_state::NONE;
 use merge_state::Sizes;
 ghost use mathlib.Core.Path.{_≡_};
 ghost use mathlib.Core.Bool.{_||_};
@@ -14,12 +26,11 @@ ghost use Rattle.merge_area.specs.Within.{Within};
 ghost use Rattle.merge_laws.specs.Can.{CanAppend, CanOpen, CanAssign, CanLink, CanLinked, CanCalc, CanMerge, CanMergeArea, CanCreate};
 
 // Chunk x is registered for key k.
-pub fn register(sizes: Sizes, area: &mut [u32], k: usize, x: u32)
-    requires { ⌜ Within sizes × (room sizes ≤ length (now area)) × (k < sizes .chunks) ⌝ }
-    ensures { λ _. ⌜ now (area .exit) ≡ register-area sizes (now (area .entry)) k x ⌝ }
+pub fn register(sizes: Sizes, area: &mut [u32], k: ChunkIdx, x: ChunkIdx)
+    requires { ⌜ Within sizes × (room sizes ≤ length (now area)) × (k .0 < sizes .chunks) ⌝ }
+    ensures { λ _. ⌜ now (area .exit) ≡ register-area sizes (now (area .entry)) (k .0) (x .0) ⌝ }
 {
-    let at = sizes.chunks * sizes.chunks + 32 + 20 * sizes.chunks + k;
-    area[at] = x;
+    area[key_place(sizes, k.0 as usize)] = x.0;
 }
 
 // 1 where v isn't 0 or e holds.
@@ -36,20 +47,17 @@ fn or_flag(v: u32, e: bool) -> u32
 }
 
 // Module m is listed with chunk x, and e tells its side effects.
-pub fn append(sizes: Sizes, area: &mut [u32], x: u32, m: u32, e: bool)
-    requires { ⌜ CanAppend sizes (now area) x m ⌝ }
-    ensures { λ _. ⌜ now (area .exit) ≡ append-area sizes (now (area .entry)) x m e ⌝ }
+pub fn append(sizes: Sizes, area: &mut [u32], m: ModuleIdx, x: ChunkIdx, e: bool)
+    requires { ⌜ CanAppend sizes (now area) (x .0) (m .0) ⌝ }
+    ensures { λ _. ⌜ now (area .exit) ≡ append-area sizes (now (area .entry)) (x .0) (m .0) e ⌝ }
 {
     let n = merge_area::header(sizes, area, 4);
-    let head = sizes.chunks * sizes.chunks;
-    let modules = head + 32 + 32 * sizes.chunks;
-    let entries = modules + 32 * sizes.modules;
-    let side = head + 32 + 18 * sizes.chunks + x as usize;
+    let side = side_place(sizes, x.0 as usize);
     let effects = or_flag(area[side], e);
-    area[entries + n as usize] = x;
-    area[entries + sizes.entries + n as usize] = m;
-    area[head + 4] = n + 1;
-    area[modules + m as usize] = x;
+    area[entry_chunk_place(sizes, n as usize)] = x.0;
+    area[entry_module_place(sizes, n as usize)] = m.0;
+    area[head_place(sizes, 4)] = n + 1;
+    area[home_place(sizes, m.0 as usize)] = x.0;
     area[side] = effects;
 }
 
@@ -60,28 +68,26 @@ pub fn open(sizes: Sizes, area: &mut [u32], set: EntrySet)
 {
     let n = merge_area::header(sizes, area, 1);
     let s = merge_area::header(sizes, area, 3);
-    let head = sizes.chunks * sizes.chunks;
-    let lanes = head + 32;
-    entry_set::write_lanes(area, lanes + 8 * s as usize, 1, set);
-    area[lanes + 16 * sizes.chunks + s as usize] = n;
-    area[head + 3] = s + 1;
-    area[lanes + 18 * sizes.chunks + n as usize] = 0;
-    area[lanes + 19 * sizes.chunks + n as usize] = 1;
-    area[head + 1] = n + 1;
+    entry_set::write_lanes(area, set_place(sizes, s as usize), 1, set);
+    area[set_chunk_place(sizes, s as usize)] = n;
+    area[head_place(sizes, 3)] = s + 1;
+    area[side_place(sizes, n as usize)] = 0;
+    area[need_place(sizes, n as usize)] = 1;
+    area[head_place(sizes, 1)] = n + 1;
 }
 
 // Module m is listed with chunk x, or with a new chunk where x is None.
-pub fn assign(sizes: Sizes, area: &mut [u32], m: u32, set: EntrySet, e: bool, x: u32)
-    requires { ⌜ CanAssign sizes (now area) m x ⌝ }
-    ensures { λ _. ⌜ now (area .exit) ≡ init-area sizes (now (area .entry)) m (number set) e x ⌝ }
+pub fn assign(sizes: Sizes, area: &mut [u32], m: ModuleIdx, x: u32, set: EntrySet, e: bool)
+    requires { ⌜ CanAssign sizes (now area) (m .0) x ⌝ }
+    ensures { λ _. ⌜ now (area .exit) ≡ init-area sizes (now (area .entry)) (m .0) (number set) e x ⌝ }
 {
-    if x == 4294967295 {
+    if x == NONE {
         let n = merge_area::header(sizes, area, 1);
         open(sizes, area, set);
-        append(sizes, area, n, m, e);
+        append(sizes, area, m, ChunkIdx(n), e);
         return;
     }
-    append(sizes, area, x, m, e);
+    append(sizes, area, m, ChunkIdx(x), e);
 }
 
 // Chunk x depends on chunk y, if y isn't None nor x.
@@ -89,7 +95,7 @@ fn add_link(sizes: Sizes, area: &mut [u32], x: u32, y: u32)
     requires { ⌜ CanLink sizes (now area) x y ⌝ }
     ensures { λ _. ⌜ now (area .exit) ≡ link sizes (now (area .entry)) x y ⌝ }
 {
-    if y == 4294967295 {
+    if y == NONE {
         return;
     }
     if x == y {
@@ -104,11 +110,10 @@ fn add_links(sizes: Sizes, area: &mut [u32], dependencies: &[u32], x: u32, from:
     requires { ⌜ CanLinked sizes (now area) (now dependencies) x from n ⌝ }
     ensures { λ _. ⌜ now (area .exit) ≡ linked sizes (now (dependencies .entry)) x from (now (area .entry)) n ⌝ }
 {
-    let homes = sizes.chunks * sizes.chunks + 32 + 32 * sizes.chunks;
     let mut j = 0;
     while j < n {
-        let home = homes + dependencies[from + j] as usize;
-        let y = area[home];
+        let m = dependencies[from + j] as usize;
+        let y = area[home_place(sizes, m)];
         add_link(sizes, area, x, y);
         j += 1;
     }
@@ -119,13 +124,12 @@ pub fn calculate(sizes: Sizes, area: &mut [u32], starts: &[u32], dependencies: &
     requires { ⌜ CanCalc sizes (now area) (now starts) (now dependencies) used ⌝ }
     ensures { λ _. ⌜ now (area .exit) ≡ calc-area sizes (now (starts .entry)) (now (dependencies .entry)) (now (area .entry)) used ⌝ }
 {
-    let entries = sizes.chunks * sizes.chunks + 32 + 32 * sizes.chunks + 32 * sizes.modules;
     let mut i = 0;
     while i < used {
-        let m = area[entries + sizes.entries + i] as usize;
+        let m = area[entry_module_place(sizes, i)] as usize;
         let from = starts[m] as usize;
         let n = starts[m + 1] as usize - from;
-        let x = area[entries + i];
+        let x = area[entry_chunk_place(sizes, i)];
         add_links(sizes, area, dependencies, x, from, n);
         i += 1;
     }
@@ -170,24 +174,24 @@ fn merge_rows(flags: &mut [u32], c: usize, target: usize, source: usize)
 }
 
 // The two rows, and the target's side effects.
-pub fn merge(sizes: Sizes, area: &mut [u32], target: usize, source: usize)
-    requires { ⌜ CanMergeArea sizes (now area) target source ⌝ }
-    ensures { λ _. ⌜ now (area .exit) ≡ merge-area sizes (now (area .entry)) target source ⌝ }
+pub fn merge(sizes: Sizes, area: &mut [u32], target: ChunkIdx, source: ChunkIdx)
+    requires { ⌜ CanMergeArea sizes (now area) (target .0) (source .0) ⌝ }
+    ensures { λ _. ⌜ now (area .exit) ≡ merge-area sizes (now (area .entry)) (target .0) (source .0) ⌝ }
 {
-    let side = sizes.chunks * sizes.chunks + 32 + 18 * sizes.chunks;
-    let effects = or_flag(area[side + target], area[side + source] != 0);
-    merge_rows(area, sizes.chunks, target, source);
-    area[side + target] = effects;
+    let kept = side_place(sizes, target.0 as usize);
+    let taken = side_place(sizes, source.0 as usize);
+    let effects = or_flag(area[kept], area[taken] != 0);
+    merge_rows(area, sizes.chunks, target.0 as usize, source.0 as usize);
+    area[kept] = effects;
 }
 
 // Chunk x is registered for the next number.
-pub fn create(sizes: Sizes, area: &mut [u32], x: u32)
+pub fn create(sizes: Sizes, area: &mut [u32], x: ChunkIdx)
     requires { ⌜ CanCreate sizes (now area) ⌝ }
-    ensures { λ _. ⌜ now (area .exit) ≡ create-area sizes (now (area .entry)) x ⌝ }
+    ensures { λ _. ⌜ now (area .exit) ≡ create-area sizes (now (area .entry)) (x .0) ⌝ }
 {
     let created = merge_area::header(sizes, area, 2);
-    let key = merge_area::header(sizes, area, 0) as usize + created as usize;
-    let head = sizes.chunks * sizes.chunks;
-    area[head + 32 + 20 * sizes.chunks + key] = x;
-    area[head + 2] = created + 1;
+    let number = merge_area::header(sizes, area, 0) as usize + created as usize;
+    area[key_place(sizes, number)] = x.0;
+    area[head_place(sizes, 2)] = created + 1;
 }

@@ -18,31 +18,31 @@ use crate::tally::counted;
 use crate::tally::refusal_told;
 use crate::tally::unread;
 use crate::tally::value_told;
-use chunk_optimizer::Done;
+use chunk_optimizer::DoneAnswer;
 use chunk_optimizer::OptionChunkIdx;
 use chunk_optimizer::PassAnswer;
-use chunk_optimizer::Said;
-use chunk_optimizer::TempIdx;
+use chunk_optimizer::TempIdxAnswer;
+use chunk_optimizer::YesNoAnswer;
 use merge_state::ChunkIdx;
 use merge_state::ModuleIdx;
 use merge_state::Sizes;
 
-fn done_told(numbers: &[u64], at: usize, r: Done) -> Step {
+fn done_told(numbers: &[u64], at: usize, r: DoneAnswer) -> Step {
     match r {
-        Done::Done => refusal_told(numbers, at, 0, 1),
-        Done::Refused(row) => refusal_told(numbers, at, row, 1),
+        DoneAnswer::Done => refusal_told(numbers, at, 0, 1),
+        DoneAnswer::Refused(row) => refusal_told(numbers, at, row, 1),
     }
 }
 
-fn said_told(numbers: &[u64], at: usize, r: Said) -> Step {
+fn said_told(numbers: &[u64], at: usize, r: YesNoAnswer) -> Step {
     match r {
-        Said::Is(yes) => {
+        YesNoAnswer::Is(yes) => {
             if yes {
                 return value_told(numbers, at, 0, 1);
             }
             value_told(numbers, at, 0, 0)
         }
-        Said::Refused(row) => value_told(numbers, at, row, 0),
+        YesNoAnswer::Refused(row) => value_told(numbers, at, row, 0),
     }
 }
 
@@ -53,10 +53,10 @@ fn chunk_found(numbers: &[u64], at: usize, c: OptionChunkIdx) -> Step {
     }
 }
 
-fn temp_told(numbers: &[u64], at: usize, r: TempIdx) -> Step {
+fn temp_told(numbers: &[u64], at: usize, r: TempIdxAnswer) -> Step {
     match r {
-        TempIdx::Is(c) => chunk_found(numbers, at, c),
-        TempIdx::Refused(row) => value_told(numbers, at, row, 0),
+        TempIdxAnswer::Is(c) => chunk_found(numbers, at, c),
+        TempIdxAnswer::Refused(row) => value_told(numbers, at, row, 0),
     }
 }
 

@@ -25,8 +25,8 @@ returns : tie.Need-returns
 returns c = refused-called _ _ _ (c .before .add-row .ensures) (c .if1 .taken) refl refl
 
 -- src/lib.rt:68:13
-cast-m : tie.Need-cast-m
-cast-m c = search needs
+cast-at : tie.Need-cast-at
+cast-at c = search needs
 
 -- src/lib.rt:69:58
 mul-append : tie.Need-mul-append
@@ -56,7 +56,7 @@ add-module-to-chunk-spec =
     add-row-requires
     same-length
     returns
-    cast-m
+    cast-at
     mul-append
     shared-slice-read-append
     append-requires

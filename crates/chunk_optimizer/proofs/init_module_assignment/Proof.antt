@@ -31,8 +31,8 @@ find-chunk-requires : tie.Need-find-chunk-requires
 find-chunk-requires c κs = let m = may-init _ _ _ _ _ (c .before .before .init-row .ensures) (c .before .if1 .left) in (m .3, m .2)
 
 -- src/lib.rt:48:13
-cast-m : tie.Need-cast-m
-cast-m c = search needs
+cast-at : tie.Need-cast-at
+cast-at c = search needs
 
 -- src/lib.rt:49:9
 from-list-requires : tie.Need-from-list-requires
@@ -67,7 +67,7 @@ init-module-assignment-spec =
     same-length
     returns
     find-chunk-requires
-    cast-m
+    cast-at
     from-list-requires
     mul-assign
     shared-slice-read-assign

@@ -24,17 +24,9 @@ same-length c = search needs
 returns : tie.Need-returns
 returns c = refused-called _ _ _ (pair-merge _ _ _ _ (c .before .pair-row .ensures)) (c .if1 .taken) refl refl
 
--- src/lib.rt:150:38
-cast-merge : tie.Need-cast-merge
-cast-merge c = search needs
-
--- src/lib.rt:150:57
-cast-merge-2 : tie.Need-cast-merge-2
-cast-merge-2 c = search needs
-
 -- src/lib.rt:150:5
 merge-requires : tie.Need-merge-requires
-merge-requires c κs = let m = may-merge _ _ _ _ (pair-merge _ _ _ _ (c .before .before .before .before .pair-row .ensures)) (c .before .before .before .if1 .left) in search needs
+merge-requires c κs = let m = may-merge _ _ _ _ (pair-merge _ _ _ _ (c .before .before .pair-row .ensures)) (c .before .if1 .left) in search needs
 
 -- src/lib.rt:143:1
 same-length-2 : tie.Need-same-length-2
@@ -43,7 +35,7 @@ same-length-2 c = search needs
 -- src/lib.rt:143:1
 returns-2 : tie.Need-returns-2
 unfolding acted write
-returns-2 c = acted-called _ _ _ (pair-merge _ _ _ _ (c .before .before .before .before .before .before .before .pair-row .ensures)) (c .before .before .before .before .before .before .if1 .left) refl (c .before .before .merge .ensures)
+returns-2 c = acted-called _ _ _ (pair-merge _ _ _ _ (c .before .before .before .before .before .pair-row .ensures)) (c .before .before .before .before .if1 .left) refl (c .before .before .merge .ensures)
 
 pub merge-chunk-dependencies-spec : {M : Type 1} → statement M
 merge-chunk-dependencies-spec =
@@ -52,8 +44,6 @@ merge-chunk-dependencies-spec =
     pair-row-requires
     same-length
     returns
-    cast-merge
-    cast-merge-2
     merge-requires
     same-length-2
     returns-2)

@@ -24,13 +24,9 @@ same-length c = search needs
 returns : tie.Need-returns
 returns c = refused-called _ _ _ (c .before .register-row .ensures) (c .if1 .taken) refl refl
 
--- src/lib.rt:81:41
-cast-register : tie.Need-cast-register
-cast-register c = search needs
-
 -- src/lib.rt:81:5
 register-requires : tie.Need-register-requires
-register-requires c κs = may-register _ _ _ _ (c .before .before .before .register-row .ensures) (c .before .before .if1 .left)
+register-requires c κs = may-register _ _ _ _ (c .before .before .register-row .ensures) (c .before .if1 .left)
 
 -- src/lib.rt:74:1
 same-length-2 : tie.Need-same-length-2
@@ -39,7 +35,7 @@ same-length-2 c = search needs
 -- src/lib.rt:74:1
 returns-2 : tie.Need-returns-2
 unfolding acted write
-returns-2 c = acted-called _ _ _ (c .before .before .before .before .before .before .register-row .ensures) (c .before .before .before .before .before .if1 .left) refl (c .before .before .register .ensures)
+returns-2 c = acted-called _ _ _ (c .before .before .before .before .before .register-row .ensures) (c .before .before .before .before .if1 .left) refl (c .before .before .register .ensures)
 
 pub register-chunk-graph-index-spec : {M : Type 1} → statement M
 register-chunk-graph-index-spec =
@@ -48,7 +44,6 @@ register-chunk-graph-index-spec =
     register-row-requires
     same-length
     returns
-    cast-register
     register-requires
     same-length-2
     returns-2)

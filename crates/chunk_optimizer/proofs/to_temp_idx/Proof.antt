@@ -1,70 +1,42 @@
-use Rattle.merge_laws.specs.May.{may-add, may-init, may-calc, may-ask, may-reach, pair-merge, may-merge, warn-is, reach-is, temp-stands, temp-past, temp-none, temp-some}
-use Rattle.merge_laws.specs.Rows.{refused-called, acted-called, stood, may-register}
-use Rattle.merge_area.specs.Writes.{write}
-use Rattle.merge_state.specs.Table.{acted}
-use mathlib.Core.Path.{_≡_, sym, refl, ap, _∙_}
+-- `chunk_optimizer::to_temp_idx` meets its contract. Assumes nothing.
 use native.Mathlib.Omega.{arith}
+use mathlib.Core.Path.{refl}
 use borrow.Author.Needs.{needs}
+use Rattle.merge_area.specs.Writes.{write}
+use Rattle.merge_laws.specs.Rows.{refused-called, acted-called, stood}
+use Rattle.merge_laws.specs.May.{temp-stands, temp-past, temp-none, temp-some}
 use Rattle.chunk_optimizer.proofs.to_temp_idx.Statement.{statement}
 use Rattle.chunk_optimizer.proofs.to_temp_idx.Tie as tie
-use Rattle.chunk_optimizer.proofs.to_temp_idx.Reads as reads
-use Rattle.chunk_optimizer.proofs.to_temp_idx.Lts as lts
-use Rattle.merge_area.proofs.standing_row.Reads as standing-row-reads
 
--- src/lib.rt:89:9
 standing-row-requires : tie.Need-standing-row-requires
 standing-row-requires c κs = search needs
 
--- src/lib.rt:91:9
 returns : tie.Need-returns
 returns c = refused-called _ _ _ (temp-stands _ _ _ (c .before .standing-row .ensures)) (c .if1 .taken) refl refl
 
--- src/lib.rt:93:13
 cast-k : tie.Need-cast-k
 cast-k c = search needs
 
--- src/lib.rt:95:9
 returns-2 : tie.Need-returns-2
 unfolding write
 returns-2 c = acted-called _ _ _ (temp-stands _ _ _ (c .before .before .before .before .standing-row .ensures)) (c .before .before .before .if1 .left) (temp-past (c .before .before .before .before .before .before .args .sizes) (c .before .before .before .before .before .before .args .area .now) (c .before .before .before .before .before .before .args .key .0) (c .if2 .taken)) refl
 
--- src/lib.rt:97:14
-mul-at : tie.Need-mul-at
-mul-at c = omega (arith, stood _ _ _ _ (c .before .before .before .before .before .standing-row .ensures) (c .before .before .before .before .if1 .left) .headed .within .square)
+key-place-requires : tie.Need-key-place-requires
+key-place-requires c κs = (stood _ _ _ _ (c .before .before .before .before .standing-row .ensures) (c .before .before .before .if1 .left) .headed .within, omega (arith, stood _ _ _ _ (c .before .before .before .before .standing-row .ensures) (c .before .before .before .if1 .left) .headed .within .chunks))
 
--- src/lib.rt:97:14
-add-at : tie.Need-add-at
-add-at c = omega (arith, stood _ _ _ _ (c .before .before .before .before .before .standing-row .ensures) (c .before .before .before .before .if1 .left) .headed .within .square)
-
--- src/lib.rt:97:49
-mul-at-2 : tie.Need-mul-at-2
-mul-at-2 c = omega (arith, stood _ _ _ _ (c .before .before .before .before .before .before .standing-row .ensures) (c .before .before .before .before .before .if1 .left) .headed .within .chunks)
-
--- src/lib.rt:97:14
-add-at-2 : tie.Need-add-at-2
-add-at-2 c = omega (arith, stood _ _ _ _ (c .before .before .before .before .before .before .standing-row .ensures) (c .before .before .before .before .before .if1 .left) .headed .within .square, stood _ _ _ _ (c .before .before .before .before .before .before .standing-row .ensures) (c .before .before .before .before .before .if1 .left) .headed .within .chunks)
-
--- src/lib.rt:97:14
-add-at-3 : tie.Need-add-at-3
-add-at-3 c = omega (arith, stood _ _ _ _ (c .before .before .before .before .before .before .standing-row .ensures) (c .before .before .before .before .before .if1 .left) .headed .within .square, stood _ _ _ _ (c .before .before .before .before .before .before .standing-row .ensures) (c .before .before .before .before .before .if1 .left) .headed .within .chunks)
-
--- src/lib.rt:98:17
 mul-chunk : tie.Need-mul-chunk
-mul-chunk c = omega (arith, stood _ _ _ _ (c .before .before .before .before .before .before .standing-row .ensures) (c .before .before .before .before .before .if1 .left) .headed .within .square, stood _ _ _ _ (c .before .before .before .before .before .before .standing-row .ensures) (c .before .before .before .before .before .if1 .left) .headed .within .chunks)
+mul-chunk c = omega (arith, c .key-place .ensures, stood _ _ _ _ (c .before .before .before .before .before .standing-row .ensures) (c .before .before .before .before .if1 .left) .headed .within .square, stood _ _ _ _ (c .before .before .before .before .before .standing-row .ensures) (c .before .before .before .before .if1 .left) .headed .within .chunks)
 
--- src/lib.rt:98:17
 shared-slice-read-chunk : tie.Need-shared-slice-read-chunk
-shared-slice-read-chunk c = omega (arith, stood _ _ _ _ (c .before .before .before .before .before .before .before .standing-row .ensures) (c .before .before .before .before .before .before .if1 .left) .headed .long)
+shared-slice-read-chunk c = omega (arith, c .before .key-place .ensures, stood _ _ _ _ (c .before .before .before .before .before .before .standing-row .ensures) (c .before .before .before .before .before .if1 .left) .headed .long)
 
--- src/lib.rt:100:9
 returns-3 : tie.Need-returns-3
 unfolding write
-returns-3 c = acted-called _ _ _ (temp-stands _ _ _ (c .before .before .before .before .before .before .before .before .standing-row .ensures)) (c .before .before .before .before .before .before .before .if1 .left) (temp-none (c .before .before .before .before .before .before .before .before .before .before .args .sizes) (c .before .before .before .before .before .before .before .before .before .before .args .area .now) (c .before .before .before .before .before .before .before .before .before .before .args .key .0) (c .before .before .before .before .if2 .left) (c .if3 .taken)) refl
+returns-3 c = acted-called _ _ _ (temp-stands _ _ _ (c .before .before .before .before .before .before .before .standing-row .ensures)) (c .before .before .before .before .before .before .if1 .left) (temp-none (c .before .before .before .before .before .before .before .before .before .args .sizes) (c .before .before .before .before .before .before .before .before .before .args .area .now) (c .before .before .before .before .before .before .before .before .before .args .key .0) (c .before .before .before .if2 .left) (rw (c .before .before .key-place .ensures) at (c .if3 .taken))) refl
 
--- src/lib.rt:86:1
 returns-4 : tie.Need-returns-4
 unfolding write
-returns-4 c = acted-called _ _ _ (temp-stands _ _ _ (c .before .before .before .before .before .before .before .before .standing-row .ensures)) (c .before .before .before .before .before .before .before .if1 .left) (temp-some (c .before .before .before .before .before .before .before .before .before .before .args .sizes) (c .before .before .before .before .before .before .before .before .before .before .args .area .now) (c .before .before .before .before .before .before .before .before .before .before .args .key .0) (c .before .before .before .before .if2 .left) (c .if3 .left)) refl
+returns-4 c = rw (c .before .before .key-place .ensures) (acted-called _ _ _ (temp-stands _ _ _ (c .before .before .before .before .before .before .before .standing-row .ensures)) (c .before .before .before .before .before .before .if1 .left) (temp-some (c .before .before .before .before .before .before .before .before .before .args .sizes) (c .before .before .before .before .before .before .before .before .before .args .area .now) (c .before .before .before .before .before .before .before .before .before .args .key .0) (c .before .before .before .if2 .left) (rw (c .before .before .key-place .ensures) at (c .if3 .left))) refl)
 
 pub to-temp-idx-spec : {M : Type 1} → statement M
 to-temp-idx-spec =
@@ -74,11 +46,7 @@ to-temp-idx-spec =
     returns
     cast-k
     returns-2
-    mul-at
-    add-at
-    mul-at-2
-    add-at-2
-    add-at-3
+    key-place-requires
     mul-chunk
     shared-slice-read-chunk
     returns-3

@@ -11,7 +11,7 @@ use Rattle.merge_area.proofs.count_faults.Statement.{statement}
 use Rattle.merge_area.proofs.count_faults.Tie as tie
 use Rattle.merge_area.proofs.count_faults.Reads as reads
 use Rattle.merge_area.proofs.count_faults.Lts as lts
-use Rattle.merge_area.proofs.is_misfit.Reads as is-misfit-reads
+use Rattle.merge_area.proofs.count_misfit.Reads as count-misfit-reads
 
 abbrev Inv-loop : tie.InvT-loop
 Inv-loop l at n top free bad₀ i₀ bad i = (i ≤ n) × (bad ≡ count (λ j. misfit top free (getD l (at + j) 0)) i)
@@ -24,24 +24,24 @@ loop-holds : tie.Need-loop-holds Inv-loop μ-loop
 loop-holds c = (omega arith, sym (count-none _))
 
 -- src/lib.rt:72:28
-add-is-misfit : tie.Need-add-is-misfit Inv-loop μ-loop
-add-is-misfit c = omega arith
+add-count-misfit : tie.Need-add-count-misfit Inv-loop μ-loop
+add-count-misfit c = omega arith
 
 -- src/lib.rt:72:26
-mul-is-misfit : tie.Need-mul-is-misfit Inv-loop μ-loop
-mul-is-misfit c = omega arith
+mul-count-misfit : tie.Need-mul-count-misfit Inv-loop μ-loop
+mul-count-misfit c = omega arith
 
 -- src/lib.rt:72:26
-shared-slice-read-is-misfit : tie.Need-shared-slice-read-is-misfit Inv-loop μ-loop
-shared-slice-read-is-misfit c = omega arith
+shared-slice-read-count-misfit : tie.Need-shared-slice-read-count-misfit Inv-loop μ-loop
+shared-slice-read-count-misfit c = omega arith
 
 -- src/lib.rt:72:16
-is-misfit-requires : tie.Need-is-misfit-requires Inv-loop μ-loop
-is-misfit-requires c κs = search needs
+count-misfit-requires : tie.Need-count-misfit-requires Inv-loop μ-loop
+count-misfit-requires c κs = search needs
 
 -- src/lib.rt:72:9
 add-bad : tie.Need-add-bad Inv-loop μ-loop
-add-bad c = omega (arith, counted-le _ _ (c .before .before .before .loop .inv .1) (c .is-misfit .ensures))
+add-bad c = omega (arith, counted-le _ _ (c .before .before .before .loop .inv .1) (c .count-misfit .ensures))
 
 -- src/lib.rt:73:9
 add-i : tie.Need-add-i Inv-loop μ-loop
@@ -53,7 +53,7 @@ loop-less c = omega arith
 
 -- src/lib.rt:71:5
 loop-again : tie.Need-loop-again Inv-loop μ-loop
-loop-again c = (omega arith, counted _ _ (c .before .before .before .loop .inv .1) (c .is-misfit .ensures))
+loop-again c = (omega arith, counted _ _ (c .before .before .before .loop .inv .1) (c .count-misfit .ensures))
 
 -- src/lib.rt:65:1
 returns : tie.Need-returns Inv-loop μ-loop
@@ -67,10 +67,10 @@ count-faults-spec =
     Inv-loop
     μ-loop
     loop-holds
-    add-is-misfit
-    mul-is-misfit
-    shared-slice-read-is-misfit
-    is-misfit-requires
+    add-count-misfit
+    mul-count-misfit
+    shared-slice-read-count-misfit
+    count-misfit-requires
     add-bad
     add-i
     loop-less

@@ -1,14 +1,11 @@
 -- `merge_area::few_repeat` meets its contract. Assumes nothing.
-use Rattle.merge_area.specs.Twice.{twice-is}
+use Rattle.merge_area.proofs.Laws.{sets-twice}
 use borrow.Author.Needs.{needs}
 use Rattle.merge_area.proofs.few_repeat.Statement.{statement}
 use Rattle.merge_area.proofs.few_repeat.Tie as tie
 
-mul-at : tie.Need-mul-at
-mul-at c = search needs
-
-add-at : tie.Need-add-at
-add-at c = search needs
+set-place-requires : tie.Need-set-place-requires
+set-place-requires c κs = search needs
 
 slice-aggregate-row-is-distinct : tie.Need-slice-aggregate-row-is-distinct
 slice-aggregate-row-is-distinct c = search needs
@@ -23,14 +20,13 @@ row-is-distinct-requires : tie.Need-row-is-distinct-requires
 row-is-distinct-requires c κs = search needs
 
 returns : tie.Need-returns
-returns c = twice-is _ _ (c .before .before .before .row-is-distinct .ensures)
+returns c = sets-twice (c .before .before .before .before .before .before .before .before .before .args .sizes) (c .before .before .before .before .before .before .before .before .before .args .area .now) (c .before .before .before .before .before .before .before .before .before .args .n) (c .before .before .before .before .before .before .before .set-place .ensures) (c .before .before .before .row-is-distinct .ensures)
 
 pub few-repeat-spec : {M : Type 1} → statement M
 few-repeat-spec =
     tie.close
     (tie.spec
-    mul-at
-    add-at
+    set-place-requires
     slice-aggregate-row-is-distinct
     slice-aggregate-row-is-distinct-2
     slice-aggregate-row-is-distinct-3

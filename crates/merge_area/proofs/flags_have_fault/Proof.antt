@@ -1,6 +1,7 @@
+use Rattle.merge_state.specs.Search.{none-first, none-more, some-found}
+use Rattle.merge_area.specs.FlagRows.{rows-rest}
 use Rattle.merge_area.proofs.Laws.{flags-last}
 use Rattle.merge_area.specs.Consistent.{row-fault, flags-fault}
-use Rattle.merge_area.proofs.Laws.{rows-rest, none-first, none-more, some-found}
 use Rattle.graphs.specs.Bools.{or-left}
 use Rattle.graphs.specs.Lists.{some-below}
 use mathlib.Core.Bool.{false, _||_}

@@ -1,6 +1,6 @@
 use mathlib.Core.Path.{_≡_, refl, sym, ap, _∙_}
+use Rattle.entry_set.specs.SetLaws.{sets-room}
 use Rattle.merge_area.specs.Consistent.{row-fault}
-use Rattle.merge_area.proofs.Laws.{row-end, faults-le}
 use native.Mathlib.Omega.{arith}
 use borrow.Author.Needs.{needs}
 use Rattle.merge_area.proofs.row_has_fault.Statement.{statement}
@@ -11,23 +11,23 @@ use Rattle.merge_area.proofs.count_faults.Reads as count-faults-reads
 
 -- src/lib.rt:83:34
 mul-count-faults : tie.Need-mul-count-faults
-mul-count-faults c = omega (arith, row-end (c .before .args .c) (c .before .args .c) (c .before .args .x) (omega arith))
+mul-count-faults c = omega (arith, sets-room {i = c .before .args .x} {n = c .before .args .c} (c .before .args .c) (omega arith))
 
 -- src/lib.rt:83:34
 add-count-faults : tie.Need-add-count-faults
-add-count-faults c = omega (arith, row-end (c .before .args .c) (c .before .args .c) (c .before .args .x) (omega arith))
+add-count-faults c = omega (arith, sets-room {i = c .before .args .x} {n = c .before .args .c} (c .before .args .c) (omega arith))
 
 -- src/lib.rt:83:9
 count-faults-requires : tie.Need-count-faults-requires
-count-faults-requires c κs = omega (arith, row-end (c .before .args .c) (c .before .args .c) (c .before .args .x) (omega arith))
+count-faults-requires c κs = omega (arith, sets-room {i = c .before .args .x} {n = c .before .args .c} (c .before .args .c) (omega arith))
 
 -- src/lib.rt:84:37
 mul-count-faults-2 : tie.Need-mul-count-faults-2
-mul-count-faults-2 c = omega (arith, row-end (c .before .before .args .c) (c .before .before .args .c) (c .before .before .args .x) (omega arith))
+mul-count-faults-2 c = omega (arith, sets-room {i = c .before .before .args .x} {n = c .before .before .args .c} (c .before .before .args .c) (omega arith))
 
 -- src/lib.rt:84:37
 add-count-faults-2 : tie.Need-add-count-faults-2
-add-count-faults-2 c = omega (arith, row-end (c .before .before .args .c) (c .before .before .args .c) (c .before .before .args .x) (omega arith))
+add-count-faults-2 c = omega (arith, sets-room {i = c .before .before .args .x} {n = c .before .before .args .c} (c .before .before .args .c) (omega arith))
 
 -- src/lib.rt:84:48
 sub-count-faults : tie.Need-sub-count-faults
@@ -35,7 +35,7 @@ sub-count-faults c = search needs
 
 -- src/lib.rt:84:9
 count-faults-requires-2 : tie.Need-count-faults-requires-2
-count-faults-requires-2 c κs = omega (arith, row-end (c .before .before .args .c) (c .before .before .args .c) (c .before .before .args .x) (omega arith))
+count-faults-requires-2 c κs = omega (arith, sets-room {i = c .before .before .args .x} {n = c .before .before .args .c} (c .before .before .args .c) (omega arith))
 
 -- src/lib.rt:85:9
 add-result : tie.Need-add-result

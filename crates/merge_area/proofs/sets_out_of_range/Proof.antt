@@ -1,6 +1,7 @@
+use Rattle.merge_state.specs.Search.{none-first, none-more, some-found}
 use borrow.Author.Needs.{needs}
 use native.Mathlib.Omega.{arith}
-use Rattle.merge_area.proofs.Laws.{none-first, none-more, some-found, range-eq}
+use Rattle.merge_area.proofs.Laws.{range-eq}
 use Rattle.merge_area.specs.Consistent.{out-of-range}
 use Rattle.graphs.specs.Lists.{some-below}
 use mathlib.Core.Bool.{false, not}

@@ -25,14 +25,17 @@ header-requires c κs = search needs
 cast-made : tie.Need-cast-made
 cast-made c = search needs
 
+cast-warn : tie.Need-cast-warn
+cast-warn c = search needs
+
 -- src/lib.rt:27:6
 warn-requires : tie.Need-warn-requires
-warn-requires c κs = rw (c .header .ensures) (pair _ _ _ _ (c .before .before .before .before .pre .stood) (c .before .before .before .before .pre .source) (omega (arith, c .before .before .before .before .pre .target (c .before .before .if1 .left), c .before .before .before .before .pre .stood .headed .begun)))
+warn-requires c κs = rw (c .before .header .ensures) (pair _ _ _ _ (c .before .before .before .before .before .pre .stood) (c .before .before .before .before .before .pre .source) (omega (arith, c .before .before .before .before .before .pre .target (c .before .before .before .if1 .left), c .before .before .before .before .before .pre .stood .headed .begun)))
 
 -- src/lib.rt:16:1
 returns-3 : tie.Need-returns-3
-returns-3 c = asked _ _ _ _ (c .before .before .before .if1 .left) (c .before .before .if2 .left) (warn-by-flags (c .before .before .before .before .before .args .sizes) _ _ _ (c .before .before .before .before .before .pre .stood) (c .before .header .ensures) (c .warn .ensures))
+returns-3 c = asked _ _ _ _ (c .before .before .before .before .if1 .left) (c .before .before .before .if2 .left) (warn-by-flags (c .before .before .before .before .before .before .args .sizes) _ _ _ (c .before .before .before .before .before .before .pre .stood) (c .before .before .header .ensures) (c .warn .ensures))
 
 pub may-merge-spec : {M : Type 1} → statement M
 may-merge-spec =
-    tie.close (tie.spec returns returns-2 header-requires cast-made warn-requires returns-3)
+    tie.close (tie.spec returns returns-2 header-requires cast-made cast-warn warn-requires returns-3)

@@ -40,10 +40,6 @@ header-requires-2 c κs = search needs
 add-number : tie.Need-add-number
 add-number c = search needs
 
--- src/lib.rt:40:39
-cast-create : tie.Need-cast-create
-cast-create c = search needs
-
 -- src/lib.rt:40:5
 create-requires : tie.Need-create-requires
 create-requires c κs = search needs
@@ -67,7 +63,6 @@ place-spec =
     header-requires
     header-requires-2
     add-number
-    cast-create
     create-requires
     same-length-2
     returns-2)

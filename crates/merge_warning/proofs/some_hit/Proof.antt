@@ -1,5 +1,7 @@
+use Rattle.entry_set.specs.SetLaws.{sets-room}
+use Rattle.merge_state.specs.Search.{none-left, none-more, some-found}
 use native.Mathlib.Omega.{arith}
-use Rattle.merge_warning.specs.Hits.{hit-at, row-in, none-more, some-found, none-left}
+use Rattle.merge_warning.specs.Hits.{hit-at}
 use Rattle.graphs.specs.Lists.{some-below, some-zero}
 use mathlib.Core.Bool.{false}
 use mathlib.Core.Path.{_≡_, sym, ap, _∙_}
@@ -22,7 +24,7 @@ loop-holds c = (omega arith, some-zero _)
 
 -- src/lib.rt:29:12
 hits-requires : tie.Need-hits-requires Inv-loop μ-loop
-hits-requires c κs = let p = c .before .before .before .before .pre in let l = c .loop-test .taken in (omega (arith, row-in (c .before .before .before .before .args .n) (c .before .before .before .before .args .c) (c .before .loop .x) l, p .0, p .1, p .3), omega (arith, l, p .2), l, p .3)
+hits-requires c κs = let p = c .before .before .before .before .pre in let l = c .loop-test .taken in (omega (arith, sets-room {i = c .before .loop .x} {n = c .before .before .before .before .args .n} (c .before .before .before .before .args .c) l, p .0, p .1, p .3), omega (arith, l, p .2), l, p .3)
 
 -- src/lib.rt:30:13
 returns : tie.Need-returns Inv-loop μ-loop

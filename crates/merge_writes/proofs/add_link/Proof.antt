@@ -1,5 +1,5 @@
 use native.Mathlib.Omega.{arith}
-use Rattle.merge_laws.specs.Merging.{row-in}
+use Rattle.entry_set.specs.SetLaws.{sets-room}
 use Rattle.merge_area.specs.Writes.{link}
 use borrow.Author.Tests.{eq-eqb, ne-eqb}
 use mathlib.Core.Path.{_≡_, refl, sym, ap, _∙_}
@@ -21,19 +21,19 @@ returns-2 c = rw (ne-eqb _ _ (c .before .if1 .left), eq-eqb _ _ (c .if2 .taken))
 
 -- src/writes.rt:98:14
 mul-at : tie.Need-mul-at
-mul-at c = omega (arith, row-in (c .before .before .before .args .sizes .chunks) (c .before .before .before .args .sizes .chunks) (c .before .before .before .args .x) (c .before .before .before .pre .from), c .before .before .before .pre .within .square)
+mul-at c = omega (arith, sets-room {i = c .before .before .before .args .x} {n = c .before .before .before .args .sizes .chunks} (c .before .before .before .args .sizes .chunks) (c .before .before .before .pre .from), c .before .before .before .pre .within .square)
 
 -- src/writes.rt:98:14
 add-at : tie.Need-add-at
-add-at c = omega (arith, row-in (c .before .before .before .args .sizes .chunks) (c .before .before .before .args .sizes .chunks) (c .before .before .before .args .x) (c .before .before .before .pre .from), c .before .before .before .pre .within .square, c .before .before .before .pre .to (c .before .before .if1 .left))
+add-at c = omega (arith, sets-room {i = c .before .before .before .args .x} {n = c .before .before .before .args .sizes .chunks} (c .before .before .before .args .sizes .chunks) (c .before .before .before .pre .from), c .before .before .before .pre .within .square, c .before .before .before .pre .to (c .before .before .if1 .left))
 
 -- src/writes.rt:99:5
 mul-area : tie.Need-mul-area
-mul-area c = omega (arith, row-in (c .before .before .before .args .sizes .chunks) (c .before .before .before .args .sizes .chunks) (c .before .before .before .args .x) (c .before .before .before .pre .from), c .before .before .before .pre .within .square, c .before .before .before .pre .to (c .before .before .if1 .left))
+mul-area c = omega (arith, sets-room {i = c .before .before .before .args .x} {n = c .before .before .before .args .sizes .chunks} (c .before .before .before .args .sizes .chunks) (c .before .before .before .pre .from), c .before .before .before .pre .within .square, c .before .before .before .pre .to (c .before .before .if1 .left))
 
 -- src/writes.rt:99:5
 slice-write-area : tie.Need-slice-write-area
-slice-write-area c = omega (arith, row-in (c .before .before .before .args .sizes .chunks) (c .before .before .before .args .sizes .chunks) (c .before .before .before .args .x) (c .before .before .before .pre .from), c .before .before .before .pre .long, c .before .before .before .pre .to (c .before .before .if1 .left))
+slice-write-area c = omega (arith, sets-room {i = c .before .before .before .args .x} {n = c .before .before .before .args .sizes .chunks} (c .before .before .before .args .sizes .chunks) (c .before .before .before .pre .from), c .before .before .before .pre .long, c .before .before .before .pre .to (c .before .before .if1 .left))
 
 -- src/writes.rt:88:1
 same-length : tie.Need-same-length

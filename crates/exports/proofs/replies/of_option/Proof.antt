@@ -1,5 +1,5 @@
 -- `replies::of_option` meets its contract. Assumes nothing.
-use Rattle.chunk_optimizer.specs.declared.TempIdx.the-variants as temps
+use Rattle.chunk_optimizer.specs.declared.TempIdxAnswer.the-variants as temps
 use Rattle.chunk_optimizer.specs.Answers.{temp-told}
 use Rattle.exports.specs.Replies.{merge-reply}
 use mathlib.Core.Path.{_∙_, sym, ap}

@@ -8,8 +8,8 @@ use borrow.Author.Needs.{needs}
 use Rattle.merge_loading.proofs.bare.write_header.Statement.{statement}
 use Rattle.merge_loading.proofs.bare.write_header.Tie as tie
 
-mul-head : tie.Need-mul-head
-mul-head c = search needs
+head-place-requires : tie.Need-head-place-requires
+head-place-requires c κs = search needs
 
 mul-area : tie.Need-mul-area
 mul-area c = search needs
@@ -24,7 +24,7 @@ mul-area-2 : tie.Need-mul-area-2
 mul-area-2 c = search needs
 
 slice-write-area-2 : tie.Need-slice-write-area-2
-slice-write-area-2 c = simp length-set (omega (arith, c .before .pre .1))
+slice-write-area-2 c = simp length-set (omega (arith, c .before .before .pre .1, c .head-place .ensures))
 
 add-area-2 : tie.Need-add-area-2
 add-area-2 c = search needs
@@ -33,7 +33,7 @@ mul-area-3 : tie.Need-mul-area-3
 mul-area-3 c = search needs
 
 slice-write-area-3 : tie.Need-slice-write-area-3
-slice-write-area-3 c = simp length-set (omega (arith, c .before .pre .1))
+slice-write-area-3 c = simp length-set (omega (arith, c .before .before .pre .1, c .head-place .ensures))
 
 add-area-3 : tie.Need-add-area-3
 add-area-3 c = search needs
@@ -42,7 +42,7 @@ mul-area-4 : tie.Need-mul-area-4
 mul-area-4 c = search needs
 
 slice-write-area-4 : tie.Need-slice-write-area-4
-slice-write-area-4 c = simp length-set (omega (arith, c .before .pre .1))
+slice-write-area-4 c = simp length-set (omega (arith, c .before .before .pre .1, c .head-place .ensures))
 
 add-area-4 : tie.Need-add-area-4
 add-area-4 c = search needs
@@ -51,20 +51,20 @@ mul-area-5 : tie.Need-mul-area-5
 mul-area-5 c = search needs
 
 slice-write-area-5 : tie.Need-slice-write-area-5
-slice-write-area-5 c = simp length-set (omega (arith, c .before .pre .1))
+slice-write-area-5 c = simp length-set (omega (arith, c .before .before .pre .1, c .head-place .ensures))
 
 same-length : tie.Need-same-length
 same-length c = search needs
 
 returns : tie.Need-returns
 unfolding headed-area
-returns c = simp add-zero refl
+returns c = rw (c .head-place .ensures) (simp add-zero refl)
 
 pub write-header-spec : {M : Type 1} → statement M
 write-header-spec =
     tie.close
     (tie.spec
-    mul-head
+    head-place-requires
     mul-area
     slice-write-area
     add-area

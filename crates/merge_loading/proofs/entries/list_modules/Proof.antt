@@ -27,8 +27,8 @@ shared-slice-read-m c = omega arith
 cast-at : tie.Need-cast-at Inv-loop μ-loop
 cast-at c = omega (arith, c .before .before .before .before .before .before .before .before .pre .listed (c .before .before .before .loop .k) (c .before .before .loop-test .taken), c .before .before .before .before .before .before .before .before .pre .within .modules)
 
-cast-append : tie.Need-cast-append Inv-loop μ-loop
-cast-append c = omega (arith, c .before .before .lister-from .ensures .below, c .before .before .before .before .before .before .before .before .before .pre .few, c .before .before .before .before .before .before .before .before .before .pre .within .chunks)
+cast-chunk : tie.Need-cast-chunk Inv-loop μ-loop
+cast-chunk c = omega (arith, c .before .lister-from .ensures .below, c .before .before .before .before .before .before .before .before .pre .few, c .before .before .before .before .before .before .before .before .pre .within .chunks)
 
 mul-append : tie.Need-mul-append Inv-loop μ-loop
 mul-append c = omega (arith, c .before .before .before .before .before .before .before .before .before .pre .listed (c .before .before .before .before .loop .k) (c .before .before .before .loop-test .taken), c .before .before .before .before .before .before .before .before .before .pre .within .modules)
@@ -65,7 +65,7 @@ list-modules-spec =
     mul-m
     shared-slice-read-m
     cast-at
-    cast-append
+    cast-chunk
     mul-append
     shared-slice-read-append
     append-requires

@@ -1,4 +1,5 @@
 -- `merge_loading::sets::any_illegal` meets its contract. Assumes nothing.
+use Rattle.merge_state.specs.Search.{none-left, none-more, some-found}
 use Prim.Native.Nat.{_-_, _≤_}
 use native.Mathlib.Omega.{arith}
 use mathlib.Core.Path.{_≡_, sym, _∙_}
@@ -6,7 +7,6 @@ use mathlib.Core.Bool.{not, false}
 use Rattle.graphs.specs.Lists.{some-below, some-zero}
 use Rattle.entry_set.specs.Sets.{legal}
 use Rattle.merge_state.specs.Loading.{set-at}
-use Rattle.merge_rows.proofs.Laws.{none-more, some-found, none-left}
 use Rattle.merge_loading.specs.Sets.{test-narrow, test-room, illegal-is}
 use borrow.Author.Needs.{needs}
 use Rattle.merge_loading.proofs.sets.any_illegal.Statement.{statement}

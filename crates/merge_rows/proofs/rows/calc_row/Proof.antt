@@ -13,8 +13,8 @@ use Rattle.merge_rows.proofs.rows.calc_row.Statement.{statement}
 use Rattle.merge_rows.proofs.rows.calc_row.Tie as tie
 use Rattle.merge_rows.proofs.rows.calc_row.Reads as reads
 use Rattle.merge_rows.proofs.rows.calc_row.Lts as lts
-use Rattle.merge_rows.proofs.tests.are_bad_starts.Reads as are-bad-starts-reads
-use Rattle.merge_rows.proofs.tests.has_stray.Reads as has-stray-reads
+use Rattle.merge_rows.proofs.checks.are_bad_starts.Reads as are-bad-starts-reads
+use Rattle.merge_rows.proofs.checks.has_misfit.Reads as has-misfit-reads
 use Rattle.merge_area.proofs.standing_row.Reads as standing-row-reads
 
 -- src/rows.rt:100:9
@@ -30,18 +30,18 @@ returns : tie.Need-returns
 returns c = early _ _ _ (calc-stand _ _ _ _ (c .before .before .are-bad-starts .ensures) (c .before .standing-row .ensures)) (c .if1 .taken)
 
 -- src/rows.rt:105:8
-has-stray-requires : tie.Need-has-stray-requires
-has-stray-requires c κs = search needs
+has-misfit-requires : tie.Need-has-misfit-requires
+has-misfit-requires c κs = search needs
 
 -- src/rows.rt:106:9
 returns-2 : tie.Need-returns-2
 unfolding later
-returns-2 c = late _ _ _ _ _ (calc-stand _ _ _ _ (c .before .before .before .before .are-bad-starts .ensures) (c .before .before .before .standing-row .ensures)) (c .before .before .if1 .left) (fits-here _ _ [] (sym (c .before .has-stray .ensures) ∙ c .if2 .taken))
+returns-2 c = late _ _ _ _ _ (calc-stand _ _ _ _ (c .before .before .before .before .are-bad-starts .ensures) (c .before .before .before .standing-row .ensures)) (c .before .before .if1 .left) (fits-here _ _ [] (sym (c .before .has-misfit .ensures) ∙ c .if2 .taken))
 
 -- src/rows.rt:96:1
 returns-3 : tie.Need-returns-3
 unfolding later
-returns-3 c = late _ _ _ _ _ (calc-stand _ _ _ _ (c .before .before .before .before .are-bad-starts .ensures) (c .before .before .before .standing-row .ensures)) (c .before .before .if1 .left) (fits-next _ _ _ [] (sym (c .before .has-stray .ensures) ∙ c .if2 .left) fits-none)
+returns-3 c = late _ _ _ _ _ (calc-stand _ _ _ _ (c .before .before .before .before .are-bad-starts .ensures) (c .before .before .before .standing-row .ensures)) (c .before .before .if1 .left) (fits-next _ _ _ [] (sym (c .before .has-misfit .ensures) ∙ c .if2 .left) fits-none)
 
 pub calc-row-spec : {M : Type 1} → statement M
 calc-row-spec =
@@ -50,6 +50,6 @@ calc-row-spec =
     are-bad-starts-requires
     standing-row-requires
     returns
-    has-stray-requires
+    has-misfit-requires
     returns-2
     returns-3)

@@ -12,7 +12,7 @@ use Rattle.merge_rows.proofs.rows.pair_row.Statement.{statement}
 use Rattle.merge_rows.proofs.rows.pair_row.Tie as tie
 use Rattle.merge_rows.proofs.rows.pair_row.Reads as reads
 use Rattle.merge_rows.proofs.rows.pair_row.Lts as lts
-use Rattle.merge_rows.proofs.tests.is_unmade.Reads as is-unmade-reads
+use Rattle.merge_rows.proofs.checks.is_unmade.Reads as is-unmade-reads
 use Rattle.merge_area.proofs.standing_row.Reads as standing-row-reads
 
 -- src/rows.rt:114:9
@@ -40,17 +40,17 @@ is-unmade-requires-2 c κs = stood _ _ _ _ (c .before .before .before .standing-
 -- src/rows.rt:122:9
 returns-3 : tie.Need-returns-3
 unfolding over-lists bad-lists later
-returns-3 c = late _ _ _ _ _ (c .before .before .before .before .before .standing-row .ensures) (c .before .before .before .before .if1 .left) (fits-here _ _ _ (or-right (unmade (read (c .before .before .before .before .before .before .before .args .sizes) (c .before .before .before .before .before .before .before .args .area .now)) (c .before .before .before .before .before .before .before .args .source)) _ (sym (c .before .is-unmade2 .ensures) ∙ c .if3 .taken)))
+returns-3 c = late _ _ _ _ _ (c .before .before .before .before .before .standing-row .ensures) (c .before .before .before .before .if1 .left) (fits-here _ _ _ (or-right (unmade (read (c .before .before .before .before .before .before .before .args .sizes) (c .before .before .before .before .before .before .before .args .area .now)) (c .before .before .before .before .before .before .before .args .one .0)) _ (sym (c .before .is-unmade2 .ensures) ∙ c .if3 .taken)))
 
 -- src/rows.rt:125:9
 returns-4 : tie.Need-returns-4
 unfolding over-lists bad-lists later
-returns-4 c = late _ _ _ _ _ (c .before .before .before .before .before .before .standing-row .ensures) (c .before .before .before .before .before .if1 .left) (fits-next _ _ _ _ (or-false _ _ (sym (c .before .before .before .before .is-unmade .ensures) ∙ c .before .before .before .if2 .left) (sym (c .before .before .is-unmade2 .ensures) ∙ c .before .if3 .left)) (fits-here _ _ [] (eq-eqb _ _ (c .if4 .taken))))
+returns-4 c = late _ _ _ _ _ (c .before .before .before .before .before .before .before .before .standing-row .ensures) (c .before .before .before .before .before .before .before .if1 .left) (fits-next _ _ _ _ (or-false _ _ (sym (c .before .before .before .before .before .before .is-unmade .ensures) ∙ c .before .before .before .before .before .if2 .left) (sym (c .before .before .before .before .is-unmade2 .ensures) ∙ c .before .before .before .if3 .left)) (fits-here _ _ [] (eq-eqb _ _ (c .if4 .taken))))
 
 -- src/rows.rt:111:1
 returns-5 : tie.Need-returns-5
 unfolding over-lists bad-lists later
-returns-5 c = late _ _ _ _ _ (c .before .before .before .before .before .before .standing-row .ensures) (c .before .before .before .before .before .if1 .left) (fits-next _ _ _ _ (or-false _ _ (sym (c .before .before .before .before .is-unmade .ensures) ∙ c .before .before .before .if2 .left) (sym (c .before .before .is-unmade2 .ensures) ∙ c .before .if3 .left)) (fits-next _ _ _ [] (ne-eqb _ _ (c .if4 .left)) fits-none))
+returns-5 c = late _ _ _ _ _ (c .before .before .before .before .before .before .before .before .standing-row .ensures) (c .before .before .before .before .before .before .before .if1 .left) (fits-next _ _ _ _ (or-false _ _ (sym (c .before .before .before .before .before .before .is-unmade .ensures) ∙ c .before .before .before .before .before .if2 .left) (sym (c .before .before .before .before .is-unmade2 .ensures) ∙ c .before .before .before .if3 .left)) (fits-next _ _ _ [] (ne-eqb _ _ (c .if4 .left)) fits-none))
 
 pub pair-row-spec : {M : Type 1} → statement M
 pair-row-spec =

@@ -1,4 +1,4 @@
-use Rattle.merge_rows.proofs.Laws.{few-candidates, pass-lists, pass-stray, pass-room}
+use Rattle.merge_rows.proofs.Laws.{few-candidates, pass-lists, pass-misfit, pass-room}
 use Rattle.merge_laws.specs.Rows.{fits-here, fits-next, fits-none, early, stood}
 use Rattle.merge_state.specs.Table.{over-lists, bad-lists}
 use native.Mathlib.Omega.{arith}
@@ -9,10 +9,10 @@ use Rattle.merge_rows.proofs.rows.pass_row.Reads as reads
 use Rattle.merge_rows.proofs.rows.pass_row.Lts as lts
 use Rattle.merge_area.proofs.header.Reads as header-reads
 use Rattle.merge_area.proofs.standing_row.Reads as standing-row-reads
-use Rattle.merge_rows.proofs.tests.count_candidates.Reads as count-candidates-reads
-use Rattle.merge_rows.proofs.tests.has_stray.Reads as has-stray-reads
-use Rattle.merge_rows.proofs.tests.is_other_length.Reads as is-other-length-reads
-use Rattle.merge_rows.proofs.tests.lacks_numbers.Reads as lacks-numbers-reads
+use Rattle.merge_rows.proofs.checks.count_candidates.Reads as count-candidates-reads
+use Rattle.merge_rows.proofs.checks.has_misfit.Reads as has-misfit-reads
+use Rattle.merge_rows.proofs.checks.is_other_length.Reads as is-other-length-reads
+use Rattle.merge_rows.proofs.checks.lacks_numbers.Reads as lacks-numbers-reads
 
 -- src/rows.rt:156:9
 standing-row-requires : tie.Need-standing-row-requires
@@ -44,12 +44,12 @@ cast-initial : tie.Need-cast-initial
 cast-initial c = search needs
 
 -- src/rows.rt:171:8
-has-stray-requires : tie.Need-has-stray-requires
-has-stray-requires c κs = search needs
+has-misfit-requires : tie.Need-has-misfit-requires
+has-misfit-requires c κs = search needs
 
 -- src/rows.rt:172:9
 returns-3 : tie.Need-returns-3
-returns-3 c = pass-stray _ _ _ _ _ _ _ _ (c .before .before .before .before .before .before .before .standing-row .ensures) (c .before .before .before .before .before .before .if1 .left) (c .before .before .before .before .before .count-candidates .ensures) (c .before .before .before .before .is-other-length .ensures) _ (c .before .before .before .if2 .left) (c .before .before .header .ensures) (c .before .has-stray .ensures) (c .if3 .taken)
+returns-3 c = pass-misfit _ _ _ _ _ _ _ _ (c .before .before .before .before .before .before .before .standing-row .ensures) (c .before .before .before .before .before .before .if1 .left) (c .before .before .before .before .before .count-candidates .ensures) (c .before .before .before .before .is-other-length .ensures) _ (c .before .before .before .if2 .left) (c .before .before .header .ensures) (c .before .has-misfit .ensures) (c .if3 .taken)
 
 -- src/rows.rt:174:8
 lacks-numbers-requires : tie.Need-lacks-numbers-requires
@@ -57,11 +57,11 @@ lacks-numbers-requires c κs = let s = stood _ _ _ _ (c .before .before .before 
 
 -- src/rows.rt:175:9
 returns-4 : tie.Need-returns-4
-returns-4 c = pass-room _ _ _ _ _ _ _ _ (c .before .before .before .before .before .before .before .before .before .standing-row .ensures) (c .before .before .before .before .before .before .before .before .if1 .left) (c .before .before .before .before .before .before .before .count-candidates .ensures) (c .before .before .before .before .before .before .is-other-length .ensures) _ (c .before .before .before .before .before .if2 .left) (c .before .before .before .before .header .ensures) (c .before .before .before .has-stray .ensures) 18 (c .before .before .if3 .left) (c .before .lacks-numbers .ensures) (fits-here _ 18 _ (c .if4 .taken))
+returns-4 c = pass-room _ _ _ _ _ _ _ _ (c .before .before .before .before .before .before .before .before .before .standing-row .ensures) (c .before .before .before .before .before .before .before .before .if1 .left) (c .before .before .before .before .before .before .before .count-candidates .ensures) (c .before .before .before .before .before .before .is-other-length .ensures) _ (c .before .before .before .before .before .if2 .left) (c .before .before .before .before .header .ensures) (c .before .before .before .has-misfit .ensures) 18 (c .before .before .if3 .left) (c .before .lacks-numbers .ensures) (fits-here _ 18 _ (c .if4 .taken))
 
 -- src/rows.rt:146:1
 returns-5 : tie.Need-returns-5
-returns-5 c = pass-room _ _ _ _ _ _ _ _ (c .before .before .before .before .before .before .before .before .before .standing-row .ensures) (c .before .before .before .before .before .before .before .before .if1 .left) (c .before .before .before .before .before .before .before .count-candidates .ensures) (c .before .before .before .before .before .before .is-other-length .ensures) _ (c .before .before .before .before .before .if2 .left) (c .before .before .before .before .header .ensures) (c .before .before .before .has-stray .ensures) 0 (c .before .before .if3 .left) (c .before .lacks-numbers .ensures) (fits-next _ 18 0 _ (c .if4 .left) fits-none)
+returns-5 c = pass-room _ _ _ _ _ _ _ _ (c .before .before .before .before .before .before .before .before .before .standing-row .ensures) (c .before .before .before .before .before .before .before .before .if1 .left) (c .before .before .before .before .before .before .before .count-candidates .ensures) (c .before .before .before .before .before .before .is-other-length .ensures) _ (c .before .before .before .before .before .if2 .left) (c .before .before .before .before .header .ensures) (c .before .before .before .has-misfit .ensures) 0 (c .before .before .if3 .left) (c .before .lacks-numbers .ensures) (fits-next _ 18 0 _ (c .if4 .left) fits-none)
 
 pub pass-row-spec : {M : Type 1} → statement M
 pass-row-spec =
@@ -74,7 +74,7 @@ pass-row-spec =
     returns-2
     header-requires
     cast-initial
-    has-stray-requires
+    has-misfit-requires
     returns-3
     lacks-numbers-requires
     returns-4

@@ -12,7 +12,7 @@ use Rattle.merge_rows.proofs.rows.reach_row.Statement.{statement}
 use Rattle.merge_rows.proofs.rows.reach_row.Tie as tie
 use Rattle.merge_rows.proofs.rows.reach_row.Reads as reads
 use Rattle.merge_rows.proofs.rows.reach_row.Lts as lts
-use Rattle.merge_rows.proofs.tests.is_unmade.Reads as is-unmade-reads
+use Rattle.merge_rows.proofs.checks.is_unmade.Reads as is-unmade-reads
 use Rattle.merge_area.proofs.standing_row.Reads as standing-row-reads
 
 -- src/rows.rt:133:9
@@ -40,7 +40,7 @@ is-unmade-requires-2 c κs = stood _ _ _ _ (c .before .before .before .standing-
 -- src/rows.rt:141:9
 returns-3 : tie.Need-returns-3
 unfolding over-lists bad-lists later
-returns-3 c = late _ _ _ _ _ (c .before .before .before .before .before .standing-row .ensures) (c .before .before .before .before .if1 .left) (fits-here _ _ _ (or-right (unmade (read (c .before .before .before .before .before .before .before .args .sizes) (c .before .before .before .before .before .before .before .args .area .now)) (c .before .before .before .before .before .before .before .args .from)) _ (sym (c .before .is-unmade2 .ensures) ∙ c .if3 .taken)))
+returns-3 c = late _ _ _ _ _ (c .before .before .before .before .before .standing-row .ensures) (c .before .before .before .before .if1 .left) (fits-here _ _ _ (or-right (unmade (read (c .before .before .before .before .before .before .before .args .sizes) (c .before .before .before .before .before .before .before .args .area .now)) (c .before .before .before .before .before .before .before .args .from .0)) _ (sym (c .before .is-unmade2 .ensures) ∙ c .if3 .taken)))
 
 -- src/rows.rt:130:1
 returns-4 : tie.Need-returns-4

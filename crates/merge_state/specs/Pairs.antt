@@ -8,9 +8,8 @@ use mathlib.Core.List.{List, [], _∷_, _++_, append-assoc}
 use lib.ListN.{length}
 use lib.Dec.{eqb}
 use borrow.Author.Tests.{eq-eqb, ne-eqb}
-use Rattle.merge_state.specs.State.{None, chunk-of, at}
+use Rattle.merge_state.specs.State.{None, chunk-of, at, pairs}
 use Rattle.merge_state.specs.Ordered.{one-longer, at-old, at-new}
-use Rattle.merge_area.specs.Read.{pairs}
 
 pub pairs-length : (f : ℕ → ℕ × ℕ) (n : ℕ) → length (pairs f n) ≡ n
 unfolding pairs

@@ -1,10 +1,10 @@
 use mathlib.Core.Path.{sym, refl, _∙_}
-use Rattle.merge_area.specs.PairLaws.{pairs-length}
+use Rattle.merge_state.specs.Pairs.{pairs-length}
 use borrow.Author.Needs.{needs}
-use Rattle.merge_rows.proofs.tests.is_full.Statement.{statement}
-use Rattle.merge_rows.proofs.tests.is_full.Tie as tie
-use Rattle.merge_rows.proofs.tests.is_full.Reads as reads
-use Rattle.merge_rows.proofs.tests.is_full.Lts as lts
+use Rattle.merge_rows.proofs.checks.is_full.Statement.{statement}
+use Rattle.merge_rows.proofs.checks.is_full.Tie as tie
+use Rattle.merge_rows.proofs.checks.is_full.Reads as reads
+use Rattle.merge_rows.proofs.checks.is_full.Lts as lts
 use Rattle.merge_area.proofs.header.Reads as header-reads
 
 -- src/tests.rt:24:22

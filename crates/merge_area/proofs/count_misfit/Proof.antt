@@ -1,9 +1,9 @@
 use Rattle.merge_state.specs.State.{misfit}
 use borrow.Author.Tests.{eq-eqb, ne-eqb, lt-leb, le-leb}
-use Rattle.merge_area.proofs.is_misfit.Statement.{statement}
-use Rattle.merge_area.proofs.is_misfit.Tie as tie
-use Rattle.merge_area.proofs.is_misfit.Reads as reads
-use Rattle.merge_area.proofs.is_misfit.Lts as lts
+use Rattle.merge_area.proofs.count_misfit.Statement.{statement}
+use Rattle.merge_area.proofs.count_misfit.Tie as tie
+use Rattle.merge_area.proofs.count_misfit.Reads as reads
+use Rattle.merge_area.proofs.count_misfit.Lts as lts
 
 -- src/lib.rt:54:9
 returns : tie.Need-returns
@@ -25,5 +25,5 @@ returns-4 : tie.Need-returns-4
 unfolding misfit
 returns-4 c = rw (le-leb _ _ (c .before .if1 .left), c .if2 .left)
 
-pub is-misfit-spec : {M : Type 1} → statement M
-is-misfit-spec = tie.close (tie.spec returns returns-2 returns-3 returns-4)
+pub count-misfit-spec : {M : Type 1} → statement M
+count-misfit-spec = tie.close (tie.spec returns returns-2 returns-3 returns-4)

@@ -1,4 +1,6 @@
 // Single tests of the table's rows.
+use merge_area::places::need_place;
+use merge_state::ChunkIdx;
 use merge_state::Sizes;
 ghost use mathlib.Core.Path.{_≡_};
 ghost use mathlib.Core.Bool.{false, not, _||_};
@@ -6,17 +8,17 @@ ghost use Prim.Native.Nat.{_+_, _<_, _≤_};
 ghost use lib.ListN.{length, getD};
 ghost use lib.Dec.{eqb, ltb};
 ghost use Rattle.graphs.specs.Count.{count};
-ghost use Rattle.merge_state.specs.Table.{unmade, full, stray, bad-starts, falling};
+ghost use Rattle.merge_state.specs.Table.{unmade, full, any-misfit, bad-starts, falling};
 ghost use Rattle.merge_area.specs.Layout.{cell, head};
 ghost use Rattle.merge_area.specs.Read.{read, needs-in};
 ghost use Rattle.merge_area.specs.Within.{Headed};
 
 // The chunk isn't made yet.
-pub fn is_unmade(sizes: Sizes, area: &[u32], x: u32) -> bool
+pub fn is_unmade(sizes: Sizes, area: &[u32], x: ChunkIdx) -> bool
     requires { ⌜ Headed sizes (now area) ⌝ }
-    ensures { λ r. ⌜ r ≡ unmade (read sizes (now (area .entry))) x ⌝ }
+    ensures { λ r. ⌜ r ≡ unmade (read sizes (now (area .entry))) (x .0) ⌝ }
 {
-    merge_area::header(sizes, area, 1) <= x
+    merge_area::header(sizes, area, 1) <= x.0
 }
 
 // No list entry is left.
@@ -28,8 +30,8 @@ pub fn is_full(sizes: Sizes, area: &[u32]) -> bool
 }
 
 // Some number of the list isn't below top, nor None where that is allowed.
-pub fn has_stray(l: &[u32], top: usize, free: bool) -> bool
-    ensures { λ r. ⌜ r ≡ stray top free (now (l .entry)) ⌝ }
+pub fn has_misfit(l: &[u32], top: usize, free: bool) -> bool
+    ensures { λ r. ⌜ r ≡ any-misfit top free (now (l .entry)) ⌝ }
 {
     0 < merge_area::count_faults(l, 0, l.len(), top, free)
 }
@@ -40,8 +42,7 @@ pub fn count_candidates(sizes: Sizes, area: &[u32]) -> usize
     ensures { λ r. ⌜ r ≡ count (needs-in sizes (now (area .entry))) (cell (now (area .entry)) (head sizes 1)) ⌝ }
 {
     let made = merge_area::header(sizes, area, 1) as usize;
-    let needs = sizes.chunks * sizes.chunks + 32 + 19 * sizes.chunks;
-    merge_area::count_faults(area, needs, made, 1, false)
+    merge_area::count_faults(area, need_place(sizes, 0), made, 1, false)
 }
 
 // One of four lengths isn't n.

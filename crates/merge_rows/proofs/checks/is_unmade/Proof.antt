@@ -1,9 +1,9 @@
 use mathlib.Core.Path.{sym, refl, _∙_}
 use borrow.Author.Needs.{needs}
-use Rattle.merge_rows.proofs.tests.is_unmade.Statement.{statement}
-use Rattle.merge_rows.proofs.tests.is_unmade.Tie as tie
-use Rattle.merge_rows.proofs.tests.is_unmade.Reads as reads
-use Rattle.merge_rows.proofs.tests.is_unmade.Lts as lts
+use Rattle.merge_rows.proofs.checks.is_unmade.Statement.{statement}
+use Rattle.merge_rows.proofs.checks.is_unmade.Tie as tie
+use Rattle.merge_rows.proofs.checks.is_unmade.Reads as reads
+use Rattle.merge_rows.proofs.checks.is_unmade.Lts as lts
 use Rattle.merge_area.proofs.header.Reads as header-reads
 
 -- src/tests.rt:16:5
@@ -12,7 +12,7 @@ header-requires c κs = search needs
 
 -- src/tests.rt:12:1
 returns : tie.Need-returns
-returns c = rw (c .header .ensures) refl
+returns c = rw (c .before .header .ensures) refl
 
 pub is-unmade-spec : {M : Type 1} → statement M
 is-unmade-spec = tie.close (tie.spec header-requires returns)

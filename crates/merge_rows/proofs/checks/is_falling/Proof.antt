@@ -1,5 +1,5 @@
+use Rattle.merge_state.specs.Search.{none-left, none-more, some-found}
 use native.Mathlib.Omega.{arith}
-use Rattle.merge_rows.proofs.Laws.{none-more, some-found, none-left}
 use Rattle.merge_state.specs.Table.{falling}
 use Rattle.graphs.specs.Lists.{some-below, some-zero}
 use borrow.Author.Tests.{lt-ltb, le-ltb}
@@ -8,10 +8,10 @@ use lib.ListN.{getD}
 use mathlib.Core.Bool.{false}
 use mathlib.Core.Path.{_≡_, sym, ap, _∙_}
 use Prim.Native.Nat.{_-_, _≤_, _+_}
-use Rattle.merge_rows.proofs.tests.is_falling.Statement.{statement}
-use Rattle.merge_rows.proofs.tests.is_falling.Tie as tie
-use Rattle.merge_rows.proofs.tests.is_falling.Reads as reads
-use Rattle.merge_rows.proofs.tests.is_falling.Lts as lts
+use Rattle.merge_rows.proofs.checks.is_falling.Statement.{statement}
+use Rattle.merge_rows.proofs.checks.is_falling.Tie as tie
+use Rattle.merge_rows.proofs.checks.is_falling.Reads as reads
+use Rattle.merge_rows.proofs.checks.is_falling.Lts as lts
 
 abbrev Inv-loop : tie.InvT-loop
 Inv-loop starts n i₀ i = (i ≤ n) × (some-below (λ k. ltb (getD starts (k + 1) 0) (getD starts k 0)) i ≡ false)
