@@ -3,7 +3,7 @@ use Prim.Native.Nat.{ℕ}
 use mathlib.Core.Bool.{Bool, true, false}
 use mathlib.Core.List.{List, [], _∷_}
 use Rattle.merge_state.specs.State.{None}
-use Rattle.merge_state.specs.Table.{Answer, Call, done, refused, says, chunk, nothing, lists, would-create-circular-dependency, is-reachable, merge-chunk-dependencies, to-temp-idx, pass}
+use Rattle.merge_state.specs.Table.{Call, done, refused, says, chunk, nothing, lists, would-create-circular-dependency, is-reachable, merge-chunk-dependencies, to-temp-idx, pass}
 use Rattle.cases.specs.MergeRun.{MergeCase}
 
 -- the chunks of P9 to P13: source, target and two others

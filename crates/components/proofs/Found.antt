@@ -1,10 +1,10 @@
 -- What the edges within components tell of the only component. Assumes nothing.
-use Prim.Native.Nat.{ℕ, zero, suc, _+_, _-_, _*_, _^_, _<_, _≤_}
+use Prim.Native.Nat.{ℕ, _+_, _<_, _≤_}
 use native.Mathlib.Omega.{arith}
 use native.Mathlib.Decide.{ℕ-discrete, decLt}
 use mathlib.Core.Path.{_≡_, refl, sym, ap, _∙_, subst}
-use mathlib.Core.Logic.{_⊎_, inl, inr, ⊎-elim}
-use mathlib.Core.Bool.{Bool, true, false, cond, _&&_, _||_, true≢false}
+use mathlib.Core.Logic.{inl, ⊎-elim}
+use mathlib.Core.Bool.{Bool, true, false, cond, true≢false}
 use mathlib.Core.List.{List}
 use lib.Dec.{eqb, ltb}
 use lib.ListN.{getD, length, set, length-set}
@@ -16,11 +16,11 @@ use Rattle.graphs.specs.Lists.{has, below}
 use Rattle.graphs.specs.Tab.{is-tab}
 use Rattle.graphs.specs.Walk.{Walk, one, more, via, only}
 use Rattle.graphs.specs.Walks.{sources-below, join, sound, complete, walk-from, only-walk}
-use Rattle.neighbours.specs.Lists.{deg, nb, edge, Graph, Listed, listed, listed-to}
+use Rattle.neighbours.specs.Lists.{edge, Listed, listed, listed-to}
 use Rattle.depth_first.specs.Order.{Ordered}
 use Rattle.depth_first.specs.Steps.{at, Walked}
 use Rattle.components.specs.Components.{turn, twinned, Split, CanWalkBack}
-use Rattle.components.specs.Only.{flagged, Met, Inner, CanMeet, CanFlag, Flagged, CanAsk}
+use Rattle.components.specs.Only.{flagged, Met, Inner, CanMeet, Flagged, CanAsk}
 
 -- the law of the flags
 module _ {e : ℕ → ℕ → Bool} {n : ℕ} {d : ℕ → ℕ} {f : ℕ → ℕ → ℕ} {c : ℕ → ℕ} (G : Listed e n d f) (s : Split e n c) where

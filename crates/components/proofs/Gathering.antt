@@ -1,5 +1,5 @@
 -- What `gather` labels: a walk against the edges over nodes with no label. Assumes nothing.
-use Prim.Native.Nat.{ℕ, zero, suc, _+_, _-_, _*_, _<_, _≤_}
+use Prim.Native.Nat.{ℕ, _<_, _≤_}
 use native.Mathlib.Omega.{arith}
 use native.Mathlib.Decide.{ℕ-discrete, decLt}
 use mathlib.Core.Path.{_≡_, refl, sym, ap, _∙_, subst}
@@ -7,16 +7,16 @@ use mathlib.Core.Logic.{_⊎_, inl, inr, ⊎-elim}
 use mathlib.Core.Bool.{Bool, true, false, not, _&&_, _||_, true≢false}
 use mathlib.Core.List.{List}
 use lib.Dec.{eqb}
-use lib.ListN.{getD, length, set}
+use lib.ListN.{getD}
 use borrow.Author.Tests.{eqb-true, eqb-false, eq-eqb, ne-eqb, not-true}
 use Rattle.graphs.specs.Bools.{or-cases, or-left, or-right, and-left, and-right, and-both}
 use Rattle.graphs.specs.Lists.{has, below}
 use Rattle.graphs.specs.Walk.{Walk, one, more, via}
 use Rattle.graphs.specs.Walks.{sources-below, join, sound, complete}
-use Rattle.neighbours.specs.Lists.{deg, nb, edge, Graph, listed, listed-to}
+use Rattle.neighbours.specs.Lists.{deg, nb, edge, listed, listed-to}
 use Rattle.walks.specs.Spread.{met, stk, every, Spread, Ready, Kept, Looked, CanLook, CanSpread, HandsOn, Done}
 use Rattle.walks.proofs.Moves as moves
-use Rattle.walks.proofs.Layer.{met-yes, met-no, yes-met, kept-trans, ready-first, look-can, push-ready, push-kept, seed-state, at-y}
+use Rattle.walks.proofs.Layer.{met-yes, yes-met, kept-trans, ready-first, look-can, push-ready, push-kept, seed-state, at-y}
 use Rattle.walks.proofs.Ends.{offers-list}
 use Rattle.depth_first.specs.Order.{WalkIn, here, step}
 use Rattle.depth_first.specs.Steps.{at}

@@ -1,18 +1,18 @@
 -- The labels as lists, from the first to the last. Assumes nothing.
-use Prim.Native.Nat.{ℕ, zero, suc, _+_, _-_, _*_, _^_, _<_, _≤_}
+use Prim.Native.Nat.{ℕ, _+_, _<_}
 use native.Mathlib.Omega.{arith}
-use mathlib.Core.Path.{_≡_, refl, sym, ap, _∙_}
-use mathlib.Core.Logic.{_⊎_, inl, inr, ⊎-elim}
-use mathlib.Core.Bool.{Bool, true, false, _&&_, _||_}
+use mathlib.Core.Path.{_≡_, sym, ap}
+use mathlib.Core.Logic.{inl, inr, ⊎-elim}
+use mathlib.Core.Bool.{Bool, true, _&&_, _||_}
 use mathlib.Core.List.{List}
 use lib.Dec.{eqb}
-use lib.ListN.{getD, length}
+use lib.ListN.{length}
 use borrow.Author.Tests.{eqb-true, eq-eqb}
 use Rattle.graphs.specs.Bools.{or-cases, or-left, or-right, and-left, and-right, and-both}
 use Rattle.graphs.specs.Lists.{below}
 use Rattle.graphs.specs.Walk.{via}
 use Rattle.graphs.specs.Walks.{Sources, sources-below, sound, complete}
-use Rattle.neighbours.specs.Lists.{edge, Graph, listed, listed-to}
+use Rattle.neighbours.specs.Lists.{edge, listed, listed-to}
 use Rattle.depth_first.specs.Order.{Reach}
 use Rattle.depth_first.specs.Steps.{at}
 use Rattle.components.specs.Components.{turn, twinned, CanGather, Gathered, Parted, Parting, Split, CanWalkBack}

@@ -1,8 +1,7 @@
 -- The components of a graph, by labels that the second walk gives out against the edges. Assumes nothing.
-use Prim.Native.Nat.{ℕ, zero, suc, _+_, _-_, _*_, _^_, _<_, _≤_}
+use Prim.Native.Nat.{ℕ, _^_, _<_, _≤_}
 use mathlib.Core.Path.{_≡_}
-use mathlib.Core.Logic.{_⊎_}
-use mathlib.Core.Bool.{Bool, true, false, _||_, _&&_}
+use mathlib.Core.Bool.{Bool, true, _||_, _&&_}
 use mathlib.Core.List.{List}
 use lib.ListN.{getD, length}
 use lib.Dec.{eqb}

@@ -4,19 +4,19 @@ use native.Mathlib.Omega.{arith}
 use native.Mathlib.Decide.{decLt}
 use mathlib.Core.Path.{_≡_, refl, sym, ap, ap₂, _∙_, subst}
 use mathlib.Core.Bool.{false}
-use mathlib.Core.List.{List, [], _∷_, _++_}
+use mathlib.Core.List.{List, []}
 use lib.ListN.{getD, length}
 use lib.Dec.{ltb}
 use borrow.Author.Tests.{lt-ltb, le-ltb, ltb-true, eqb-false, not-true}
 use Rattle.graphs.specs.Bools.{and-left, and-right, fails}
-use Rattle.entry_set.specs.Sets.{value, width}
+use Rattle.entry_set.specs.Sets.{width}
 use Rattle.entry_set.specs.SetLaws.{below-256, sets-room}
 use Rattle.merge_state.specs.declared.Sizes.{Sizes}
 use Rattle.merge_state.specs.State.{None, Graph, pairs}
 use Rattle.merge_state.specs.Methods.{appended}
 use Rattle.merge_state.specs.Table.{turned}
 use Rattle.merge_state.specs.Ordered.{Ordered}
-use Rattle.merge_state.specs.Loading.{Lent, lister, set-at, lent-pair, loaded, load}
+use Rattle.merge_state.specs.Loading.{Lent, lister, lent-pair, loaded, load}
 use Rattle.merge_state.specs.LoadKept.{listed-in, loaded-kept, load-kept}
 use Rattle.merge_area.specs.Layout.{room, cell, head, side, need, key, home}
 use Rattle.merge_area.specs.Read.{entry, named-set, depends-in, effects-in, needs-in, log-in, sets-in, home-in, keys-in, read}

@@ -1,9 +1,9 @@
 -- While no gray neighbour is met, the moves keep `Falls`; a gray one closes a walk. Assumes nothing.
-use Prim.Native.Nat.{ℕ, zero, suc, _+_, _-_, _*_, _<_, _≤_}
+use Prim.Native.Nat.{ℕ, _+_, _-_, _<_, _≤_}
 use native.Mathlib.Omega.{arith}
 use native.Mathlib.Decide.{ℕ-discrete}
-use mathlib.Core.Path.{_≡_, refl, sym, ap, _∙_}
-use mathlib.Core.Bool.{Bool, true, false}
+use mathlib.Core.Path.{_≡_, ap}
+use mathlib.Core.Bool.{Bool, true}
 use Rattle.graphs.specs.Walk.{Walk, one, more}
 use Rattle.neighbours.specs.Lists.{Listed, listed-to}
 use Rattle.depth_first.specs.Search.{Search, Falls}

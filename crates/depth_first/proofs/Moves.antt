@@ -1,12 +1,12 @@
 -- The moves of a depth-first search keep `Search`. Assumes nothing.
-use Prim.Native.Nat.{ℕ, zero, suc, _+_, _-_, _*_, _<_, _≤_}
+use Prim.Native.Nat.{ℕ, zero, suc, _+_, _-_, _<_, _≤_}
 use native.Mathlib.Omega.{arith}
 use native.Mathlib.Decide.{ℕ-discrete}
 use native.Mathlib.Nat.{add-zero}
 use mathlib.Core.Path.{_≡_, refl, sym, ap, _∙_}
-use mathlib.Core.Logic.{_⊎_, inl, inr, ⊎-elim}
-use mathlib.Core.Bool.{Bool, true, false}
-use Rattle.graphs.specs.Walk.{Walk, one, more}
+use mathlib.Core.Logic.{inl, inr}
+use mathlib.Core.Bool.{Bool, true}
+use Rattle.graphs.specs.Walk.{Walk, one}
 use Rattle.graphs.specs.Walks.{join}
 use Rattle.neighbours.specs.Lists.{Listed, listed-to}
 use Rattle.depth_first.specs.Order.{Reach, WalkIn, here, step, Ordered}

@@ -1,7 +1,6 @@
 -- The searches from one node after the other. Assumes nothing.
-use Prim.Native.Nat.{ℕ, zero, suc, _+_, _-_, _*_, _^_, _<_, _≤_}
+use Prim.Native.Nat.{ℕ, zero, suc, _+_, _<_, _≤_}
 use native.Mathlib.Omega.{arith}
-use native.Mathlib.Decide.{ℕ-discrete}
 use mathlib.Core.Path.{_≡_, refl, sym, ap, _∙_}
 use mathlib.Core.Bool.{Bool, true, false, true≢false}
 use mathlib.Core.List.{List, _++_}
@@ -9,11 +8,10 @@ use lib.ListN.{getD, length, replicate, drop}
 use borrow.Author.Count.{below-more}
 use Rattle.graphs.specs.Bools.{fails}
 use Rattle.graphs.specs.Lists.{below}
-use Rattle.graphs.specs.Walk.{Walk, cyclic}
+use Rattle.graphs.specs.Walk.{cyclic}
 use Rattle.graphs.specs.Walks.{sources-below, cyclic-walk}
-use Rattle.neighbours.specs.Lists.{deg, nb, edge, Graph, listed}
-use Rattle.depth_first.specs.Search.{Search, Falls}
-use Rattle.depth_first.specs.Steps.{at, Ready, Kept, Searched, CanWalk, Walked}
+use Rattle.neighbours.specs.Lists.{deg, nb, edge, listed}
+use Rattle.depth_first.specs.Steps.{at, Ready, Searched, CanWalk, Walked}
 use Rattle.depth_first.proofs.Moves as moves
 use Rattle.depth_first.proofs.Falling as falling
 

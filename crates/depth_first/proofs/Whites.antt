@@ -1,5 +1,5 @@
 -- How many nodes are white, and how far the cursors have to go. Assumes nothing.
-use Prim.Native.Nat.{ℕ, zero, suc, _+_, _-_, _<_, _≤_}
+use Prim.Native.Nat.{ℕ, zero, suc, _+_, _<_, _≤_}
 use native.Mathlib.Omega.{arith}
 use mathlib.Core.Path.{_≡_, refl, ap}
 use Rattle.graphs.specs.Total.{total, is0, whites, total-change, total-at}

@@ -1,6 +1,6 @@
 -- What a depth-first search keeps. A node's colour is 0 while it is white, 1 while it is gray, and k + 2 when it is black and was the k-th to finish.
 -- Assumes nothing.
-use Prim.Native.Nat.{ℕ, zero, suc, _+_, _-_, _*_, _<_, _≤_}
+use Prim.Native.Nat.{ℕ, _+_, _-_, _*_, _<_, _≤_}
 use mathlib.Core.Path.{_≡_}
 use mathlib.Core.Bool.{Bool, true}
 use Rattle.graphs.specs.Total.{total, whites}

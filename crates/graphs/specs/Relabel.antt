@@ -1,13 +1,13 @@
 -- A naming f of the nodes below n that carries edges over carries walks, `cyclic` and `only` over. Assumes nothing.
 use Prim.Native.Nat.{ℕ, _<_}
-use mathlib.Core.Path.{_≡_, refl, sym, ap, subst, _∙_}
+use mathlib.Core.Path.{_≡_, refl, sym, subst}
 use mathlib.Core.Logic.{_↔_}
 use mathlib.Core.Bool.{Bool, true}
 use mathlib.Core.List.{List}
 use Rattle.graphs.specs.Bools.{alike}
 use Rattle.graphs.specs.Lists.{has, below}
 use Rattle.graphs.specs.Walk.{Walk, one, more, via, cyclic, only}
-use Rattle.graphs.specs.Walks.{Sources, sources-below, walk-from, via-walk, cyclic-walk, only-walk}
+use Rattle.graphs.specs.Walks.{sources-below, walk-from, via-walk, cyclic-walk, only-walk}
 
 -- e is the edges between nodes below n, and e′ the edges between their names; different nodes have different names
 pub record Named (e e′ : ℕ → ℕ → Bool) (n : ℕ) (f : ℕ → ℕ) : Type 0 where

@@ -1,14 +1,13 @@
 -- What `new` answers and leaves, where a row from 1 to 8 fits and where none does. Assumes nothing.
-use mathlib.Core.Path.{_≡_, refl, sym, _∙_}
+use mathlib.Core.Path.{_≡_, refl}
 use mathlib.Core.Bool.{Bool, true, false, cond}
 use mathlib.Core.List.{List}
 use Prim.Native.Nat.{ℕ}
-use lib.Dec.{eqb}
 use lib.ListN.{length}
-use borrow.Author.Tests.{eq-eqb, ne-eqb}
+use borrow.Author.Tests.{ne-eqb}
 use Rattle.graphs.specs.Walk.{cyclic}
 use Rattle.ledger.specs.Graph.{Load, edge}
-use Rattle.ledger.specs.Answer.{Answer, refused, acyclic}
+use Rattle.ledger.specs.Answer.{refused, acyclic}
 use Rattle.ledger.specs.Answer as answer
 use Rattle.ledger.specs.Loading.{entry-sets, loading-row, loading}
 use Rattle.move_area.specs.Area.{encode}

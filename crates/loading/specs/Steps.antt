@@ -1,8 +1,8 @@
 -- What the steps of a loading ask and show. Assumes nothing.
 use mathlib.Core.Path.{_≡_}
-use mathlib.Core.Bool.{Bool, true, false, cond}
+use mathlib.Core.Bool.{Bool, true, false}
 use mathlib.Core.List.{List}
-use Prim.Native.Nat.{ℕ, _+_, _*_, _≤_, _<_}
+use Prim.Native.Nat.{ℕ, _+_, _*_, _≤_}
 use lib.ListN.{length, set}
 use Rattle.graphs.specs.Count.{ind}
 use Rattle.graphs.specs.Lists.{below}

@@ -1,24 +1,23 @@
 -- A call leaves an area that holds the ledger's next state. Assumes nothing.
-use mathlib.Core.Path.{_≡_, refl, sym, ap, subst, _∙_}
+use mathlib.Core.Path.{_≡_, refl, sym, _∙_}
 use mathlib.Core.Bool.{Bool, true, false, not, cond, _&&_, true≢false}
 use mathlib.Core.List.{List}
-use Prim.Native.Nat.{ℕ, zero, suc, _+_, _*_, _≤_, _<_}
+use Prim.Native.Nat.{ℕ, _+_, _≤_, _<_}
 use native.Mathlib.Omega.{arith}
 use native.Mathlib.Decide.{ℕ-discrete}
 use lib.Dec.{eqb, ltb, leb}
-use lib.ListN.{length, getD, set, length-set}
+use lib.ListN.{length, set, length-set}
 use lib.Seq.{getD-set-same, getD-set-other}
 use borrow.Author.Tests.{lt-ltb, le-ltb, leb-true, leb-false}
-use Rattle.graphs.specs.Bools.{and-left, and-right, and-both}
 use Rattle.graphs.specs.Lists.{has}
-use Rattle.graphs.specs.Tab.{tab, tab-length, tab-at}
+use Rattle.graphs.specs.Tab.{tab-length, tab-at}
 use Rattle.graphs.specs.Walk.{via, cyclic}
 use Rattle.entry_set.specs.Sets.{value, legal}
 use Rattle.ledger.specs.Graph.{Load, at, edge}
-use Rattle.ledger.specs.Answer.{Answer, refused, rejected, is-refused}
+use Rattle.ledger.specs.Answer.{is-refused}
 use Rattle.ledger.specs.Ledger.{Ledger, step1, step2, step3, full, move, try-move, call}
 use Rattle.ledger.specs.MoveLaws.{steps}
-use Rattle.ledger.specs.Sound.{Sound, call-sound, room-free}
+use Rattle.ledger.specs.Sound.{call-sound}
 use Rattle.move_area.specs.Area.{State}
 use Rattle.move_area.specs.Held.{Held}
 use Rattle.move_area.specs.Calls.{tried, last, next, marks-for, walked, after}

@@ -2,7 +2,7 @@
 use mathlib.Core.Bool.{Bool, not, cond, _&&_}
 use mathlib.Core.List.{List}
 use Prim.Native.Nat.{ℕ, _+_}
-use lib.Dec.{eqb, ltb, leb}
+use lib.Dec.{eqb, ltb}
 use lib.ListN.{length, set, replicate}
 use Rattle.graphs.specs.Lists.{has}
 use Rattle.graphs.specs.Tab.{tab}

@@ -1,23 +1,22 @@
 -- Lists of calls on an area: each is lent the area as the last one left it. Assumes nothing.
 use mathlib.Core.Path.{_≡_, refl, sym, ap, ap₂, subst, _∙_}
-use mathlib.Core.Bool.{Bool, true, false, not, cond, true≢false}
+use mathlib.Core.Bool.{Bool, true, false, cond}
 use mathlib.Core.List.{List, [], _∷_}
-use Prim.Native.Nat.{ℕ, zero, suc, _+_, _*_, _≤_, _<_}
+use Prim.Native.Nat.{ℕ, _+_, _*_, _≤_}
 use native.Mathlib.Omega.{arith}
 use lib.Dec.{eqb}
-use lib.ListN.{length, replicate, length-replicate, getD-replicate}
+use lib.ListN.{length, length-replicate, getD-replicate}
 use borrow.Author.Tests.{eqb-true, eqb-false}
-use Rattle.graphs.specs.Bools.{fails}
 use Rattle.entry_set.specs.Sets.{width}
-use Rattle.ledger.specs.Graph.{Load, at}
-use Rattle.ledger.specs.Answer.{Answer, refused, is-refused}
-use Rattle.ledger.specs.Ledger.{Ledger, Call, try-move, asks, move, ask, call, answers, ledger, loaded}
-use Rattle.ledger.specs.Loading.{refusal, first-row, loading-row, row7, row8, entry-sets, loading}
-use Rattle.ledger.specs.LoadLaws.{Loadable, Loadable-sets, first-row-none, loading-row-none, loading-unrefused}
+use Rattle.ledger.specs.Graph.{Load}
+use Rattle.ledger.specs.Answer.{Answer, is-refused}
+use Rattle.ledger.specs.Ledger.{Ledger, Call, try-move, asks, move, ask, call, answers, ledger}
+use Rattle.ledger.specs.Loading.{refusal, first-row, loading-row, row7, row8}
+use Rattle.ledger.specs.LoadLaws.{Loadable-sets, loading-row-none, loading-unrefused}
 use Rattle.ledger.specs.Sound.{loading-sound}
 use Rattle.move_area.specs.Bodies.{atomAt}
 use Rattle.move_area.specs.Area.{State, encode, decode, consistent}
-use Rattle.move_area.specs.Held.{Held, decode-encode, encode-long, encode-again, encode-consistent, consistent-held, consistent-whole}
+use Rattle.move_area.specs.Held.{Held, decode-encode, encode-long, encode-again, encode-consistent}
 use Rattle.move_area.specs.CallLaws.{after-ledger, after-held, refused-keeps}
 use Rattle.move_area.specs.Calls.{Called, first, new, checked, asked, after}
 use Rattle.move_area.specs.Calls as calls

@@ -1,7 +1,7 @@
 -- A set's first number. Assumes nothing.
 use mathlib.Core.Path.{_≡_, refl}
 use mathlib.Core.List.{_∷_, _++_}
-use Prim.Native.Nat.{ℕ, _+_, _^_, _<_}
+use Prim.Native.Nat.{ℕ, _^_, _<_}
 use Rattle.entry_set.specs.Joined.{joined, parts}
 use Rattle.entry_set.specs.JoinedLaws.{low-part}
 use Rattle.entry_set.specs.Sets.{number, words}

@@ -1,7 +1,7 @@
 -- What the program `moves` prints (01, "Program `moves`"). Assumes nothing.
 use mathlib.Core.Bool.{Bool, true, not, cond, _&&_, _||_}
 use mathlib.Core.List.{List, [], _∷_, _++_}
-use Prim.Native.Nat.{ℕ, zero, suc, _+_, _-_}
+use Prim.Native.Nat.{ℕ, zero, suc, _+_}
 use lib.Dec.{leb, eqb}
 use lib.ListN.{take, replicate}
 use Rattle.graphs.specs.Tab.{tab}

@@ -2,20 +2,20 @@
 use mathlib.Core.Path.{_≡_, refl, sym, ap, _∙_, subst}
 use mathlib.Core.List.{List}
 use mathlib.Core.Bool.{Bool, true, false, cond, not, _&&_}
-use Prim.Native.Nat.{ℕ, zero, suc, _+_, _-_, _*_, _≤_, _<_}
+use Prim.Native.Nat.{ℕ, zero, suc, _+_, _*_, _≤_, _<_}
 use native.Mathlib.Omega.{arith}
 use native.Mathlib.Nat.{zero-add}
 use lib.Dec.{eqb}
 use lib.ListN.{length, getD, replicate, length-replicate, getD-replicate}
 use borrow.Author.Tests.{eqb-true}
-use Rattle.graphs.specs.Bools.{and-left, and-right, and-both}
-use Rattle.graphs.specs.Count.{ind, count, ind-le, count-none, count-more, count-yes, count-le, count-mono}
+use Rattle.graphs.specs.Bools.{and-both}
+use Rattle.graphs.specs.Count.{ind, count, count-none, count-more, count-yes, count-le, count-mono}
 use Rattle.graphs.specs.Square.{index-lt}
 use Rattle.graphs.specs.Slots.{stands, cell, flat, added, removed}
 use Rattle.graphs.specs.SlotLaws.{more-at, less-at, length-more, length-less, hits-yes, flat-beyond}
 use Rattle.layout.specs.Patch.{patch, patch-long, patch-in, patch-out, is-patch}
-use Rattle.node_edges.specs.Matrix.{matrix, matrix-long, matrix-at, Holds}
-use Rattle.node_edges.specs.Steps.{Within, within-place, CanAdd, CanRemove, CanLose, CanGain, CanShed, CanUpdate, CanFill, Both, another, changed, gained, lost, Grown, Fallen}
+use Rattle.node_edges.specs.Matrix.{matrix, matrix-long, matrix-at}
+use Rattle.node_edges.specs.Steps.{within-place, CanAdd, CanLose, CanGain, CanShed, CanUpdate, CanFill, another, changed, gained, lost, Grown, Fallen}
 
 -- an edge that is no other has the same ends
 same-ends : (a b c d : ℕ) → another a b c d ≡ false → (a ≡ c) × (b ≡ d)

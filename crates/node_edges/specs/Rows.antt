@@ -1,13 +1,13 @@
 -- What the functions that check the matrix row by row ask and show. Assumes nothing.
-use mathlib.Core.Path.{_≡_, refl, sym, ap, _∙_}
+use mathlib.Core.Path.{_≡_, sym, ap, _∙_}
 use mathlib.Core.List.{List}
-use mathlib.Core.Bool.{Bool, true, false, not}
+use mathlib.Core.Bool.{Bool, true, not}
 use Prim.Native.Nat.{ℕ, _+_, _*_, _^_, _≤_, _<_}
 use lib.Dec.{eqb, ltb}
-use lib.ListN.{length, getD, take}
+use lib.ListN.{length, getD}
 use Rattle.graphs.specs.Bools.{Decides}
 use Rattle.graphs.specs.Count.{count, count-ext}
-use Rattle.graphs.specs.Slots.{slotEdge, Ends, Counts}
+use Rattle.graphs.specs.Slots.{slotEdge, Ends}
 use Rattle.neighbours.specs.Groups.{occ}
 use Rattle.neighbours.specs.Steps.{Grouped}
 use Rattle.neighbours.specs.Parts.{partOf, part-occ}

@@ -1,6 +1,4 @@
 -- What the answers of the calls say, in document 01's numbers and values. Assumes nothing.
-use Prim.Native.Nat.{ℕ}
-use mathlib.Core.List.{List, [], _∷_}
 use Rattle.entry_set.specs.Sets.{value, numbers}
 use Rattle.ledger.specs.Answer.{Answer, refused, acyclic, accepted, rejected}
 use Rattle.ledger.specs.Answer as answer

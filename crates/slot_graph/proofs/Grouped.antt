@@ -1,11 +1,9 @@
 -- Grouped slots are neighbour lists of the graph, and, grouped the other way, of the graph turned round. Assumes nothing.
-use Prim.Native.Nat.{ℕ, _+_, _-_, _*_, _^_, _≤_, _<_}
-use native.Mathlib.Omega.{arith}
-use mathlib.Core.Path.{_≡_, refl, sym, ap, _∙_, fun-ext}
+use Prim.Native.Nat.{ℕ}
+use mathlib.Core.Path.{_≡_, sym, ap, _∙_, fun-ext}
 use mathlib.Core.Bool.{Bool}
 use mathlib.Core.List.{List}
-use lib.ListN.{length, getD}
-use Rattle.graphs.specs.Slots.{slotEdge, Ends}
+use Rattle.graphs.specs.Slots.{slotEdge}
 use Rattle.graphs.specs.SlotLaws.{slot-turned}
 use Rattle.neighbours.specs.Grouped.{group-graph, group-edges}
 use Rattle.neighbours.specs.Lists.{edge, Graph}

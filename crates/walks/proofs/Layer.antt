@@ -1,10 +1,9 @@
 -- The same on the lists, for the stores of `src/lib.rt`. Assumes nothing.
-use Prim.Native.Nat.{ℕ, zero, suc, _+_, _-_, _*_, _^_, _<_, _≤_}
+use Prim.Native.Nat.{ℕ, _+_, _-_, _<_, _≤_}
 use native.Mathlib.Omega.{arith}
 use native.Mathlib.Decide.{ℕ-discrete, decLt}
-use mathlib.Core.Path.{_≡_, refl, sym, ap, _∙_}
-use mathlib.Core.Logic.{_⊎_, inl, inr, ⊎-elim}
-use mathlib.Core.Bool.{Bool, true, false, not, true≢false}
+use mathlib.Core.Path.{_≡_, refl, ap, _∙_}
+use mathlib.Core.Bool.{Bool, true, false, not}
 use mathlib.Core.List.{List}
 use lib.ListN.{getD, length, set, length-set}
 use lib.Dec.{ltb}
@@ -13,7 +12,7 @@ use borrow.Author.Tests.{lt-ltb, le-ltb}
 use Rattle.graphs.specs.Bools.{fails}
 use Rattle.graphs.specs.Count.{ind}
 use Rattle.graphs.specs.Total.{whites, whites-le, whites-push, room-for}
-use Rattle.walks.specs.Spread.{met, stk, Offers, Spread, Ready, size, Kept, CanLook, Looked, HandsOn, Scanned, Done}
+use Rattle.walks.specs.Spread.{met, stk, Offers, Spread, Ready, size, Kept, CanLook, Looked, Scanned, Done}
 use Rattle.walks.proofs.Moves as moves
 
 -- marked as a number

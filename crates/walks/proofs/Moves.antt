@@ -1,12 +1,10 @@
 -- The moves of a walk keep `Spread`. Assumes nothing.
-use Prim.Native.Nat.{ℕ, zero, suc, _+_, _-_, _*_, _<_, _≤_}
+use Prim.Native.Nat.{ℕ, _+_, _-_, _<_, _≤_}
 use native.Mathlib.Omega.{arith}
 use native.Mathlib.Decide.{ℕ-discrete}
-use mathlib.Core.Path.{_≡_, refl, sym, ap, _∙_}
+use mathlib.Core.Path.{_≡_, sym, ap, _∙_}
 use mathlib.Core.Logic.{_⊎_, inl, inr, ⊎-elim}
 use mathlib.Core.Bool.{Bool, true, false, true≢false}
-use Rattle.graphs.specs.Bools.{fails}
-use Rattle.graphs.specs.Walk.{Walk, one, more}
 use Rattle.walks.specs.Spread.{Offers, Spread}
 
 module _ {n : ℕ} {d : ℕ → ℕ} {f : ℕ → ℕ → ℕ} {h : ℕ → ℕ → Bool} {o r : ℕ → Bool} {c s : ℕ → ℕ} {sp t j : ℕ} (v : Spread n d f h o r c s sp t j) where

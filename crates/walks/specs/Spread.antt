@@ -1,5 +1,5 @@
 -- A walk that marks nodes and has a stack of those whose neighbours it has still to look at. Assumes nothing.
-use Prim.Native.Nat.{ℕ, zero, suc, _+_, _-_, _*_, _^_, _<_, _≤_}
+use Prim.Native.Nat.{ℕ, _+_, _*_, _^_, _<_, _≤_}
 use mathlib.Core.Path.{_≡_}
 use mathlib.Core.Logic.{_⊎_}
 use mathlib.Core.Bool.{Bool, true, false, not}
@@ -8,7 +8,7 @@ use lib.ListN.{getD, length, set}
 use lib.Dec.{ltb}
 use Rattle.graphs.specs.Count.{ind}
 use Rattle.graphs.specs.Total.{whites}
-use Rattle.neighbours.specs.Lists.{deg, nb, edge, Graph}
+use Rattle.neighbours.specs.Lists.{Graph}
 
 -- whether x is marked: it has this mark, or a greater one
 abbrev pub met : ℕ → List ℕ → ℕ → ℕ

@@ -1,13 +1,9 @@
 -- `components::flag` meets its contract. Assumes nothing.
-use mathlib.Core.Path.{refl, sym, ap}
+use mathlib.Core.Path.{refl}
 use borrow.Author.Tests.{eq-eqb, ne-eqb}
-use lib.ListN.{set}
-use Rattle.graphs.specs.Count.{ind}
 use borrow.Author.Needs.{needs}
 use Rattle.components.proofs.flag.Statement.{statement}
 use Rattle.components.proofs.flag.Tie as tie
-use Rattle.components.proofs.flag.Reads as reads
-use Rattle.components.proofs.flag.Lts as lts
 
 mul-flags : tie.Need-mul-flags
 mul-flags c = search needs

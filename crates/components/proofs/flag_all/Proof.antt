@@ -2,13 +2,10 @@
 use Rattle.components.specs.Only.{Flagged}
 use Prim.Native.Nat.{_-_}
 use native.Mathlib.Omega.{arith}
-use mathlib.Core.Path.{_≡_, refl, _∙_}
+use mathlib.Core.Path.{_≡_, refl}
 use Rattle.components.proofs.Found.{flag-more}
 use Rattle.components.proofs.flag_all.Statement.{statement}
 use Rattle.components.proofs.flag_all.Tie as tie
-use Rattle.components.proofs.flag_all.Reads as reads
-use Rattle.components.proofs.flag_all.Lts as lts
-use Rattle.components.proofs.flag.Reads as flag-reads
 
 abbrev Inv-loop : tie.InvT-loop
 Inv-loop label n found flags₀ x₀ flags x =

@@ -3,10 +3,6 @@ use Rattle.components.proofs.Gathering.{gather-can, spread-can, gather-
 use borrow.Author.Needs.{needs}
 use Rattle.components.proofs.gather.Statement.{statement}
 use Rattle.components.proofs.gather.Tie as tie
-use Rattle.components.proofs.gather.Reads as reads
-use Rattle.components.proofs.gather.Lts as lts
-use Rattle.walks.proofs.look.Reads as look-reads
-use Rattle.walks.proofs.spread.Reads as spread-reads
 
 look-requires : tie.Need-look-requires
 look-requires c κs =

@@ -2,7 +2,7 @@
 use borrow.Author.Needs.{needs}
 use Prim.Native.Nat.{_-_, _≤_}
 use native.Mathlib.Omega.{arith}
-use mathlib.Core.Path.{_≡_, refl, _∙_}
+use mathlib.Core.Path.{_≡_}
 use Rattle.neighbours.specs.Direction.{along}
 use Rattle.neighbours.specs.Lists.{deg, row-of, place-of}
 use Rattle.depth_first.specs.Steps.{at}
@@ -10,11 +10,6 @@ use Rattle.components.specs.Only.{Met, Inner}
 use Rattle.components.proofs.Meets.{met-turn, met-next, met-node, subst-met}
 use Rattle.components.proofs.inner.Statement.{statement}
 use Rattle.components.proofs.inner.Tie as tie
-use Rattle.components.proofs.inner.Reads as reads
-use Rattle.components.proofs.inner.Lts as lts
-use Rattle.neighbours.proofs.degree.Reads as degree-reads
-use Rattle.neighbours.proofs.neighbour.Reads as neighbour-reads
-use Rattle.components.proofs.meet.Reads as meet-reads
 
 abbrev Inv-loop : tie.InvT-loop
 Inv-loop dir starts dependencies dependents n label x found m many f₀ j₀ f j =

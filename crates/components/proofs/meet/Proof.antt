@@ -1,11 +1,7 @@
 -- `components::meet` meets its contract. Assumes nothing.
-use mathlib.Core.Path.{refl}
-use borrow.Author.Tests.{eq-eqb, ne-eqb}
 use Rattle.components.proofs.Meets.{meet-other, meet-first, meet-same, meet-two}
 use Rattle.components.proofs.meet.Statement.{statement}
 use Rattle.components.proofs.meet.Tie as tie
-use Rattle.components.proofs.meet.Reads as reads
-use Rattle.components.proofs.meet.Lts as lts
 
 returns : tie.Need-returns
 returns c =

@@ -5,12 +5,6 @@ use Rattle.components.proofs.Found.{back-can, meet-can, only-done}
 use borrow.Author.Needs.{needs}
 use Rattle.components.proofs.only_cyclic_component.Statement.{statement}
 use Rattle.components.proofs.only_cyclic_component.Tie as tie
-use Rattle.components.proofs.only_cyclic_component.Reads as reads
-use Rattle.components.proofs.only_cyclic_component.Lts as lts
-use Rattle.components.proofs.flag_all.Reads as flag-all-reads
-use Rattle.components.proofs.second_walk.Reads as second-walk-reads
-use Rattle.components.proofs.within.Reads as within-reads
-use Rattle.depth_first.proofs.first_walk.Reads as first-walk-reads
 
 first-walk-requires : tie.Need-first-walk-requires
 first-walk-requires c κs = search needs

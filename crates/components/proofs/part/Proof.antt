@@ -1,13 +1,8 @@
 -- `components::part` meets its contract. Assumes nothing.
-use native.Mathlib.Omega.{arith}
-use mathlib.Core.Path.{refl}
 use Rattle.components.proofs.Labels.{part-can, part-new, part-skip}
 use borrow.Author.Needs.{needs}
 use Rattle.components.proofs.part.Statement.{statement}
 use Rattle.components.proofs.part.Tie as tie
-use Rattle.components.proofs.part.Reads as reads
-use Rattle.components.proofs.part.Lts as lts
-use Rattle.components.proofs.gather.Reads as gather-reads
 
 mul-r : tie.Need-mul-r
 mul-r c = search needs

@@ -8,10 +8,6 @@ use Rattle.depth_first.proofs.Rounds.{cleared}
 use Rattle.components.proofs.Labels.{parting-first, part-node, split-of}
 use Rattle.components.proofs.second_walk.Statement.{statement}
 use Rattle.components.proofs.second_walk.Tie as tie
-use Rattle.components.proofs.second_walk.Reads as reads
-use Rattle.components.proofs.second_walk.Lts as lts
-use Rattle.components.proofs.part.Reads as part-reads
-use Rattle.neighbours.proofs.clear.Reads as clear-reads
 
 abbrev Inv-loop : tie.InvT-loop
 Inv-loop turned dependencies dependents n order label₀ stack₀ k₀ label stack k =

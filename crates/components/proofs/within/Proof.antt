@@ -1,16 +1,13 @@
 -- `components::within` meets its contract. Assumes nothing.
 use Prim.Native.Nat.{_-_, _≤_}
 use native.Mathlib.Omega.{arith}
-use mathlib.Core.Path.{_≡_, refl, _∙_}
+use mathlib.Core.Path.{_≡_}
 use Rattle.neighbours.specs.Direction.{along}
 use Rattle.depth_first.specs.Steps.{at}
 use Rattle.components.specs.Only.{Met, Inner}
 use Rattle.components.proofs.Meets.{met-none}
 use Rattle.components.proofs.within.Statement.{statement}
 use Rattle.components.proofs.within.Tie as tie
-use Rattle.components.proofs.within.Reads as reads
-use Rattle.components.proofs.within.Lts as lts
-use Rattle.components.proofs.inner.Reads as inner-reads
 
 abbrev Inv-loop : tie.InvT-loop
 Inv-loop dir starts dependencies dependents n label f₀ x₀ f x =

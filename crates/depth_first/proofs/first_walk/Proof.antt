@@ -7,10 +7,6 @@ use Rattle.neighbours.specs.Direction.{along}
 use Rattle.depth_first.proofs.Rounds.{Round, cleared, round-first, round-more, round-done}
 use Rattle.depth_first.proofs.first_walk.Statement.{statement}
 use Rattle.depth_first.proofs.first_walk.Tie as tie
-use Rattle.depth_first.proofs.first_walk.Reads as reads
-use Rattle.depth_first.proofs.first_walk.Lts as lts
-use Rattle.depth_first.proofs.search.Reads as search-reads
-use Rattle.neighbours.proofs.clear.Reads as clear-reads
 
 abbrev Inv-loop : tie.InvT-loop
 Inv-loop dir starts dependencies dependents n colour₀ cursor₀ stack₀ low₀ order₀ fin₀ met₀ i₀ colour cursor stack low order fin met i =

@@ -9,10 +9,6 @@ use Rattle.depth_first.specs.Steps.{at, Ready, Kept}
 use Rattle.depth_first.proofs.Layer.{top-of, kept-refl, kept-trans, discover-can, push-ready, push-kept, push-known}
 use Rattle.depth_first.proofs.search.Statement.{statement}
 use Rattle.depth_first.proofs.search.Tie as tie
-use Rattle.depth_first.proofs.search.Reads as reads
-use Rattle.depth_first.proofs.search.Lts as lts
-use Rattle.depth_first.proofs.discover.Reads as discover-reads
-use Rattle.depth_first.proofs.step.Reads as step-reads
 
 abbrev Inv-loop : tie.InvT-loop
 Inv-loop dir starts dependencies dependents n colour₀ cursor₀ stack₀ low₀ order₀ root from before sp₀ fin₀ met₀ colour cursor stack low order sp fin met =

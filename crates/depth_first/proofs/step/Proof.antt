@@ -1,16 +1,10 @@
 -- `depth_first::step` meets its contract. Assumes nothing.
-use mathlib.Core.Path.{_≡_, sym, _∙_}
+use mathlib.Core.Path.{sym, _∙_}
 use Rattle.neighbours.specs.Lists.{row-of, place-of}
 use Rattle.depth_first.proofs.Layer.{pop-step, next-in, visit-can, visit-step}
 use borrow.Author.Needs.{needs}
 use Rattle.depth_first.proofs.step.Statement.{statement}
 use Rattle.depth_first.proofs.step.Tie as tie
-use Rattle.depth_first.proofs.step.Reads as reads
-use Rattle.depth_first.proofs.step.Lts as lts
-use Rattle.depth_first.proofs.finish.Reads as finish-reads
-use Rattle.depth_first.proofs.visit.Reads as visit-reads
-use Rattle.neighbours.proofs.degree.Reads as degree-reads
-use Rattle.neighbours.proofs.neighbour.Reads as neighbour-reads
 
 sub-t : tie.Need-sub-t
 sub-t c = search needs

@@ -4,9 +4,6 @@ use mathlib.Core.Path.{refl}
 use borrow.Author.Needs.{needs}
 use Rattle.depth_first.proofs.visit.Statement.{statement}
 use Rattle.depth_first.proofs.visit.Tie as tie
-use Rattle.depth_first.proofs.visit.Reads as reads
-use Rattle.depth_first.proofs.visit.Lts as lts
-use Rattle.depth_first.proofs.discover.Reads as discover-reads
 
 mul-c : tie.Need-mul-c
 mul-c c = search needs

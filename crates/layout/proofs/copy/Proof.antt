@@ -4,8 +4,6 @@ use native.Mathlib.Omega.{arith}
 use Rattle.layout.proofs.Writes.{Copying, copy-none, copy-more, copy-done}
 use Rattle.layout.proofs.copy.Statement.{statement}
 use Rattle.layout.proofs.copy.Tie as tie
-use Rattle.layout.proofs.copy.Reads as reads
-use Rattle.layout.proofs.copy.Lts as lts
 
 abbrev Inv-loop : tie.InvT-loop
 Inv-loop area₀ at from start k i₀ area i =

@@ -4,8 +4,6 @@ use native.Mathlib.Omega.{arith}
 use Rattle.layout.proofs.Writes.{Filling, fill-none, fill-more, fill-done}
 use Rattle.layout.proofs.fill_with.Statement.{statement}
 use Rattle.layout.proofs.fill_with.Tie as tie
-use Rattle.layout.proofs.fill_with.Reads as reads
-use Rattle.layout.proofs.fill_with.Lts as lts
 
 abbrev Inv-loop : tie.InvT-loop
 Inv-loop area₀ at k v i₀ area i = Filling area₀ at k v i area

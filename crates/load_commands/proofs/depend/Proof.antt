@@ -2,7 +2,6 @@
 use mathlib.Core.Path.{refl}
 use borrow.Author.Tests.{le-leb, lt-leb}
 use Rattle.load_commands.specs.Machine as def
-use Prim.Native.Nat.{_-_}
 use borrow.Author.Needs.{needs}
 use Rattle.load_commands.proofs.depend.Statement.{statement}
 use Rattle.load_commands.proofs.depend.Tie as tie

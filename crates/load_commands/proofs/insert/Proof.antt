@@ -2,7 +2,6 @@
 use mathlib.Core.Path.{refl}
 use native.Mathlib.Omega.{arith}
 use Rattle.load_commands.proofs.Lists.{Shifting, shifting-none, shifting-more, shifting-done}
-use Prim.Native.Nat.{_-_}
 use lib.ListN.{length-set}
 use Rattle.load_commands.proofs.insert.Statement.{statement}
 use Rattle.load_commands.proofs.insert.Tie as tie

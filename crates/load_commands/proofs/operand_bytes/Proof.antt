@@ -1,6 +1,6 @@
 -- `load_commands::operand_bytes` meets its contract. Assumes nothing.
 use mathlib.Core.Path.{refl}
-use mathlib.Core.Logic.{_⊎_, inl, inr, ⊎-elim}
+use mathlib.Core.Logic.{inl, inr, ⊎-elim}
 use borrow.Author.Tests.{ne-eqb}
 use Rattle.load_commands.proofs.operand_bytes.Statement.{statement}
 use Rattle.load_commands.proofs.operand_bytes.Tie as tie

@@ -1,7 +1,6 @@
 -- `load_commands::read` meets its contract. Assumes nothing.
 use borrow.Author.Tests.{eq-eqb, ne-eqb}
 use Rattle.load_commands.specs.Machine as def
-use Prim.Native.Nat.{_-_}
 use borrow.Author.Needs.{needs}
 use Rattle.load_commands.proofs.read.Statement.{statement}
 use Rattle.load_commands.proofs.read.Tie as tie

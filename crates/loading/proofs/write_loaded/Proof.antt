@@ -4,11 +4,6 @@ use Rattle.loading.proofs.Reading.{start-can, graph-can}
 use Rattle.loading.proofs.Loaded.{start-is, flags-can, loaded-says, loaded-is}
 use Rattle.loading.proofs.write_loaded.Statement.{statement}
 use Rattle.loading.proofs.write_loaded.Tie as tie
-use Rattle.loading.proofs.write_loaded.Reads as reads
-use Rattle.loading.proofs.write_loaded.Lts as lts
-use Rattle.loading.proofs.flags.write_flags.Reads as write-flags-reads
-use Rattle.loading.proofs.graph.write_graph.Reads as write-graph-reads
-use Rattle.loading.proofs.start.write_start.Reads as write-start-reads
 
 write-start-requires : tie.Need-write-start-requires
 write-start-requires c κs = start-can (c .before .before .before .before .before .before .before .before .before .before .before .before .before .before .before .before .before .before .before .before .pre)

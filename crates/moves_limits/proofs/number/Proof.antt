@@ -6,8 +6,6 @@ use native.Mathlib.Omega.{arith}
 use lib.ListN.{length, length-set}
 use Rattle.moves_limits.proofs.number.Statement.{statement}
 use Rattle.moves_limits.proofs.number.Tie as tie
-use Rattle.moves_limits.proofs.number.Reads as reads
-use Rattle.moves_limits.proofs.number.Lts as lts
 
 abbrev Inv-loop : tie.InvT-loop
 Inv-loop list₀ i₀ list i = (length list ≡ length list₀) × (i ≤ length list₀)

@@ -7,8 +7,6 @@ use Rattle.node_edges.specs.Steps.{within-place}
 use borrow.Author.Needs.{needs}
 use Rattle.node_edges.proofs.add.Statement.{statement}
 use Rattle.node_edges.proofs.add.Tie as tie
-use Rattle.node_edges.proofs.add.Reads as reads
-use Rattle.node_edges.proofs.add.Lts as lts
 
 mul-i : tie.Need-mul-i
 mul-i c = omega (arith, within-place (c .before .pre .within))

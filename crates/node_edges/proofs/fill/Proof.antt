@@ -7,10 +7,6 @@ use Rattle.node_edges.specs.Steps.{Grown}
 use Rattle.node_edges.proofs.Following.{grown-none, fill-can, fill-more, fill-done}
 use Rattle.node_edges.proofs.fill.Statement.{statement}
 use Rattle.node_edges.proofs.fill.Tie as tie
-use Rattle.node_edges.proofs.fill.Reads as reads
-use Rattle.node_edges.proofs.fill.Lts as lts
-use Rattle.layout.proofs.fill_with.Reads as fill-with-reads
-use Rattle.node_edges.proofs.add.Reads as add-reads
 
 abbrev Inv-loop : tie.InvT-loop
 Inv-loop edges₀ n s t m k₀ edges k = (k ≤ m) × Grown (cell s t n) k edges₀ edges

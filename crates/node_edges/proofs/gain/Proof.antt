@@ -4,10 +4,6 @@ use borrow.Author.Needs.{needs}
 use borrow.Author.Needs.{needs}
 use Rattle.node_edges.proofs.gain.Statement.{statement}
 use Rattle.node_edges.proofs.gain.Tie as tie
-use Rattle.node_edges.proofs.gain.Reads as reads
-use Rattle.node_edges.proofs.gain.Lts as lts
-use Rattle.node_edges.proofs.add.Reads as add-reads
-use Rattle.node_edges.proofs.is_another.Reads as is-another-reads
 
 is-another-requires : tie.Need-is-another-requires
 is-another-requires c κs = search needs

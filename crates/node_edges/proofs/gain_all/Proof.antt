@@ -5,9 +5,6 @@ use Rattle.node_edges.specs.Steps.{Grown, gained}
 use Rattle.node_edges.proofs.Following.{grown-none, grown-done, gain-can, gain-more}
 use Rattle.node_edges.proofs.gain_all.Statement.{statement}
 use Rattle.node_edges.proofs.gain_all.Tie as tie
-use Rattle.node_edges.proofs.gain_all.Reads as reads
-use Rattle.node_edges.proofs.gain_all.Lts as lts
-use Rattle.node_edges.proofs.gain.Reads as gain-reads
 
 abbrev Inv-loop : tie.InvT-loop
 Inv-loop edges₀ n s t u v m k₀ edges k = (k ≤ m) × Grown (gained s t u v n) k edges₀ edges

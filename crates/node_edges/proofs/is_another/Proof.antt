@@ -3,8 +3,6 @@ use mathlib.Core.Path.{refl}
 use borrow.Author.Tests.{eq-eqb, ne-eqb}
 use Rattle.node_edges.proofs.is_another.Statement.{statement}
 use Rattle.node_edges.proofs.is_another.Tie as tie
-use Rattle.node_edges.proofs.is_another.Reads as reads
-use Rattle.node_edges.proofs.is_another.Lts as lts
 
 returns : tie.Need-returns
 returns c = rw (eq-eqb _ _ (c .if1 .taken)) refl

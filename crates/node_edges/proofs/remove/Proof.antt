@@ -7,8 +7,6 @@ use Rattle.node_edges.specs.Steps.{within-place}
 use borrow.Author.Needs.{needs}
 use Rattle.node_edges.proofs.remove.Statement.{statement}
 use Rattle.node_edges.proofs.remove.Tie as tie
-use Rattle.node_edges.proofs.remove.Reads as reads
-use Rattle.node_edges.proofs.remove.Lts as lts
 
 mul-i : tie.Need-mul-i
 mul-i c = omega (arith, within-place (c .before .pre .within))

@@ -4,10 +4,6 @@ use borrow.Author.Needs.{needs}
 use borrow.Author.Needs.{needs}
 use Rattle.node_edges.proofs.shed.Statement.{statement}
 use Rattle.node_edges.proofs.shed.Tie as tie
-use Rattle.node_edges.proofs.shed.Reads as reads
-use Rattle.node_edges.proofs.shed.Lts as lts
-use Rattle.node_edges.proofs.is_another.Reads as is-another-reads
-use Rattle.node_edges.proofs.remove.Reads as remove-reads
 
 is-another-requires : tie.Need-is-another-requires
 is-another-requires c κs = search needs

@@ -5,9 +5,6 @@ use Rattle.node_edges.specs.Steps.{Fallen, lost}
 use Rattle.node_edges.proofs.Following.{fallen-none, fallen-done, shed-can, shed-more}
 use Rattle.node_edges.proofs.shed_all.Statement.{statement}
 use Rattle.node_edges.proofs.shed_all.Tie as tie
-use Rattle.node_edges.proofs.shed_all.Reads as reads
-use Rattle.node_edges.proofs.shed_all.Lts as lts
-use Rattle.node_edges.proofs.shed.Reads as shed-reads
 
 abbrev Inv-loop : tie.InvT-loop
 Inv-loop edges₀ n s t u v m k₀ edges k = (k ≤ m) × Fallen (lost s t u v n) k edges₀ edges

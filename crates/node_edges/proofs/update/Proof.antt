@@ -4,10 +4,6 @@ use Rattle.node_edges.proofs.Following.{update-gain, update-shed, updat
 use borrow.Author.Needs.{needs}
 use Rattle.node_edges.proofs.update.Statement.{statement}
 use Rattle.node_edges.proofs.update.Tie as tie
-use Rattle.node_edges.proofs.update.Reads as reads
-use Rattle.node_edges.proofs.update.Lts as lts
-use Rattle.node_edges.proofs.gain_all.Reads as gain-all-reads
-use Rattle.node_edges.proofs.shed_all.Reads as shed-all-reads
 
 gain-all-requires : tie.Need-gain-all-requires
 gain-all-requires c κs = update-gain (c .before .before .before .before .before .before .pre)

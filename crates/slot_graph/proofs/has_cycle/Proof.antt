@@ -1,17 +1,13 @@
 -- `slot_graph::has_cycle` meets its contract. Assumes nothing.
 use Prim.Native.Nat.{ℕ}
 use mathlib.Core.Bool.{Bool}
-use mathlib.Core.Path.{_≡_, ap, _∙_}
+use mathlib.Core.Path.{ap, _∙_}
 use Rattle.graphs.specs.Lists.{below}
 use Rattle.graphs.specs.Walk.{cyclic}
 use Rattle.slot_graph.proofs.Grouped.{group-can, lists-graph, lists-edges}
 use borrow.Author.Needs.{needs}
 use Rattle.slot_graph.proofs.has_cycle.Statement.{statement}
 use Rattle.slot_graph.proofs.has_cycle.Tie as tie
-use Rattle.slot_graph.proofs.has_cycle.Reads as reads
-use Rattle.slot_graph.proofs.has_cycle.Lts as lts
-use Rattle.depth_first.proofs.has_cycle.Reads as has-cycle-reads
-use Rattle.neighbours.proofs.group.Reads as group-reads
 
 group-requires : tie.Need-group-requires
 group-requires c κs =

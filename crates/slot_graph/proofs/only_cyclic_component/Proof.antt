@@ -2,16 +2,12 @@
 use native.Mathlib.Omega.{arith}
 use Prim.Native.Nat.{ℕ}
 use mathlib.Core.Bool.{Bool}
-use mathlib.Core.Path.{_≡_, ap, _∙_}
+use mathlib.Core.Path.{ap, _∙_}
 use Rattle.components.specs.Only.{flagged}
 use Rattle.slot_graph.proofs.Grouped.{group-can, turned-slots, lists-graph, lists-edges, lists-turned}
 use borrow.Author.Needs.{needs}
 use Rattle.slot_graph.proofs.only_cyclic_component.Statement.{statement}
 use Rattle.slot_graph.proofs.only_cyclic_component.Tie as tie
-use Rattle.slot_graph.proofs.only_cyclic_component.Reads as reads
-use Rattle.slot_graph.proofs.only_cyclic_component.Lts as lts
-use Rattle.components.proofs.only_cyclic_component.Reads as only-cyclic-component-reads
-use Rattle.neighbours.proofs.group.Reads as group-reads
 
 group-requires : tie.Need-group-requires
 group-requires c κs =

@@ -6,10 +6,6 @@ use Rattle.walks.proofs.Ends.{row-can, closure-done}
 use borrow.Author.Needs.{needs}
 use Rattle.walks.proofs.closure.Statement.{statement}
 use Rattle.walks.proofs.closure.Tie as tie
-use Rattle.walks.proofs.closure.Reads as reads
-use Rattle.walks.proofs.closure.Lts as lts
-use Rattle.walks.proofs.scan_row.Reads as scan-row-reads
-use Rattle.walks.proofs.spread_rows.Reads as spread-rows-reads
 
 scan-row-requires : tie.Need-scan-row-requires
 scan-row-requires c κs =

@@ -4,8 +4,6 @@ use mathlib.Core.Path.{refl}
 use borrow.Author.Needs.{needs}
 use Rattle.walks.proofs.look.Statement.{statement}
 use Rattle.walks.proofs.look.Tie as tie
-use Rattle.walks.proofs.look.Reads as reads
-use Rattle.walks.proofs.look.Lts as lts
 
 -- src/lib.rt:17:16
 mul-if1 : tie.Need-mul-if1

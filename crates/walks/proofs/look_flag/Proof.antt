@@ -3,9 +3,6 @@ use mathlib.Core.Path.{refl}
 use borrow.Author.Needs.{needs}
 use Rattle.walks.proofs.look_flag.Statement.{statement}
 use Rattle.walks.proofs.look_flag.Tie as tie
-use Rattle.walks.proofs.look_flag.Reads as reads
-use Rattle.walks.proofs.look_flag.Lts as lts
-use Rattle.walks.proofs.look.Reads as look-reads
 
 returns : tie.Need-returns
 returns c =

@@ -5,10 +5,6 @@ use Rattle.walks.proofs.Ends.{reach-done}
 use borrow.Author.Needs.{needs}
 use Rattle.walks.proofs.reach.Statement.{statement}
 use Rattle.walks.proofs.reach.Tie as tie
-use Rattle.walks.proofs.reach.Reads as reads
-use Rattle.walks.proofs.reach.Lts as lts
-use Rattle.walks.proofs.scan.Reads as scan-reads
-use Rattle.walks.proofs.spread.Reads as spread-reads
 
 scan-requires : tie.Need-scan-requires
 scan-requires c κs =

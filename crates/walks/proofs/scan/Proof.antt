@@ -10,11 +10,6 @@ use Rattle.walks.proofs.Layer.{scan-none, turn-can, turn-more}
 use Rattle.walks.proofs.Ends.{offers-list}
 use Rattle.walks.proofs.scan.Statement.{statement}
 use Rattle.walks.proofs.scan.Tie as tie
-use Rattle.walks.proofs.scan.Reads as reads
-use Rattle.walks.proofs.scan.Lts as lts
-use Rattle.neighbours.proofs.degree.Reads as degree-reads
-use Rattle.neighbours.proofs.neighbour.Reads as neighbour-reads
-use Rattle.walks.proofs.look.Reads as look-reads
 
 abbrev Inv-loop : tie.InvT-loop
 Inv-loop dir starts dependencies dependents n mark marks₀ stack₀ sp t m s₀ j₀ marks stack s j =

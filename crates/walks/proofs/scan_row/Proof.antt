@@ -9,9 +9,6 @@ use Rattle.walks.proofs.Layer.{scan-none}
 use Rattle.walks.proofs.Ends.{offers-rows, flag-can, flag-more}
 use Rattle.walks.proofs.scan_row.Statement.{statement}
 use Rattle.walks.proofs.scan_row.Tie as tie
-use Rattle.walks.proofs.scan_row.Reads as reads
-use Rattle.walks.proofs.scan_row.Lts as lts
-use Rattle.walks.proofs.look_flag.Reads as look-flag-reads
 
 abbrev Inv-loop : tie.InvT-loop
 Inv-loop flags c n mark marks₀ stack₀ sp t from s₀ j₀ marks stack s j =

@@ -1,5 +1,4 @@
 -- `walks::spread` meets its contract. Assumes nothing.
-use Prim.Native.Nat.{_-_, _≤_}
 use native.Mathlib.Omega.{arith}
 use mathlib.Core.Path.{_≡_, refl, _∙_}
 use lib.ListN.{length}
@@ -10,9 +9,6 @@ use Rattle.walks.proofs.Layer.{done-none, done-more, top-node, top-read
 use Rattle.walks.proofs.Ends.{offers-list}
 use Rattle.walks.proofs.spread.Statement.{statement}
 use Rattle.walks.proofs.spread.Tie as tie
-use Rattle.walks.proofs.spread.Reads as reads
-use Rattle.walks.proofs.spread.Lts as lts
-use Rattle.walks.proofs.scan.Reads as scan-reads
 
 abbrev Inv-loop : tie.InvT-loop
 Inv-loop dir starts dependencies dependents n mark marks₀ stack₀ height sp₀ marks stack sp =

@@ -1,7 +1,6 @@
 -- `walks::spread_rows` meets its contract. Assumes nothing.
 use Rattle.walks.proofs.Ends.{offers-rows, row-can}
 use Rattle.walks.specs.Closed.{flagEdge}
-use Prim.Native.Nat.{_-_, _≤_}
 use native.Mathlib.Omega.{arith}
 use mathlib.Core.Path.{_≡_, refl, _∙_}
 use lib.ListN.{length}
@@ -9,9 +8,6 @@ use Rattle.walks.specs.Spread.{wide, itself, size, Done}
 use Rattle.walks.proofs.Layer.{done-none, done-more, top-node, top-ready, scan-less}
 use Rattle.walks.proofs.spread_rows.Statement.{statement}
 use Rattle.walks.proofs.spread_rows.Tie as tie
-use Rattle.walks.proofs.spread_rows.Reads as reads
-use Rattle.walks.proofs.spread_rows.Lts as lts
-use Rattle.walks.proofs.scan_row.Reads as scan-row-reads
 
 abbrev Inv-loop : tie.InvT-loop
 Inv-loop flags c n mark marks₀ stack₀ height left₀ marks stack left =

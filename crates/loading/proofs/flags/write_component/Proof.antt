@@ -8,10 +8,6 @@ use Rattle.move_area.specs.Bodies.{laneAt}
 use Rattle.loading.proofs.Flagging.{flags-part}
 use Rattle.loading.proofs.flags.write_component.Statement.{statement}
 use Rattle.loading.proofs.flags.write_component.Tie as tie
-use Rattle.loading.proofs.flags.write_component.Reads as reads
-use Rattle.loading.proofs.flags.write_component.Lts as lts
-use Rattle.layout.proofs.copy.Reads as copy-reads
-use Rattle.slot_graph.proofs.only_cyclic_component.Reads as only-cyclic-component-reads
 
 only-cyclic-component-requires : tie.Need-only-cyclic-component-requires
 only-cyclic-component-requires c κs = c .before .before .before .before .before .before .before .before .before .before .before .before .before .before .before .before .before .before .before .before .before .before .before .pre .ask

@@ -6,10 +6,6 @@ use borrow.Author.Tests.{not-true, not-false}
 use Rattle.loading.proofs.Flagging.{flags-none, flags-some, flags-again}
 use Rattle.loading.proofs.flags.write_flags.Statement.{statement}
 use Rattle.loading.proofs.flags.write_flags.Tie as tie
-use Rattle.loading.proofs.flags.write_flags.Reads as reads
-use Rattle.loading.proofs.flags.write_flags.Lts as lts
-use Rattle.loading.proofs.flags.write_component.Reads as write-component-reads
-use Rattle.slot_graph.proofs.has_cycle.Reads as has-cycle-reads
 
 has-cycle-requires : tie.Need-has-cycle-requires
 has-cycle-requires c κs = record { slots = c .before .before .before .before .before .before .before .before .before .before .before .before .before .before .before .before .before .before .before .before .pre .ask .slots; lists = c .before .before .before .before .before .before .before .before .before .before .before .before .before .before .before .before .before .before .before .before .pre .ask .lists; scratch = c .before .before .before .before .before .before .before .before .before .before .before .before .before .before .before .before .before .before .before .before .pre .ask .scratch }

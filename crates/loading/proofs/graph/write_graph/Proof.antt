@@ -4,12 +4,6 @@ use native.Mathlib.Omega.{arith}
 use Rattle.loading.proofs.Flagging.{fill-can, graph-written}
 use Rattle.loading.proofs.graph.write_graph.Statement.{statement}
 use Rattle.loading.proofs.graph.write_graph.Tie as tie
-use Rattle.loading.proofs.graph.write_graph.Reads as reads
-use Rattle.loading.proofs.graph.write_graph.Lts as lts
-use Rattle.consistency.proofs.fill_own_slots.Reads as fill-own-slots-reads
-use Rattle.consistency.proofs.slot_count.Reads as slot-count-reads
-use Rattle.layout.proofs.copy.Reads as copy-reads
-use Rattle.node_edges.proofs.fill.Reads as fill-reads
 
 fill-own-slots-requires : tie.Need-fill-own-slots-requires
 fill-own-slots-requires c κs = c .before .before .before .before .before .before .before .before .before .before .before .before .before .pre

@@ -3,9 +3,6 @@ use native.Mathlib.Omega.{arith}
 use borrow.Author.Needs.{needs}
 use Rattle.loading.proofs.local.load_small.Statement.{statement}
 use Rattle.loading.proofs.local.load_small.Tie as tie
-use Rattle.loading.proofs.local.load_small.Reads as reads
-use Rattle.loading.proofs.local.load_small.Lts as lts
-use Rattle.loading.proofs.write_loaded.Reads as write-loaded-reads
 
 slice-aggregate-write-loaded : tie.Need-slice-aggregate-write-loaded
 slice-aggregate-write-loaded c = search needs

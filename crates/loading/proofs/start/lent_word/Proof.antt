@@ -6,10 +6,6 @@ use Rattle.entry_set.specs.Joined.{parts}
 use borrow.Author.Needs.{needs}
 use Rattle.loading.proofs.start.lent_word.Statement.{statement}
 use Rattle.loading.proofs.start.lent_word.Tie as tie
-use Rattle.loading.proofs.start.lent_word.Reads as reads
-use Rattle.loading.proofs.start.lent_word.Lts as lts
-use Rattle.entry_set.proofs.set_at.Reads as set-at-reads
-use Rattle.entry_set.proofs.word.Reads as word-reads
 
 set-at-requires : tie.Need-set-at-requires
 set-at-requires c κs = search needs

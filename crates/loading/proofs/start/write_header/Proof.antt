@@ -5,8 +5,6 @@ use Rattle.loading.proofs.Starting.{set-three}
 use borrow.Author.Needs.{needs}
 use Rattle.loading.proofs.start.write_header.Statement.{statement}
 use Rattle.loading.proofs.start.write_header.Tie as tie
-use Rattle.loading.proofs.start.write_header.Reads as reads
-use Rattle.loading.proofs.start.write_header.Lts as lts
 
 cast-area : tie.Need-cast-area
 cast-area c = search needs

@@ -5,8 +5,6 @@ use native.Mathlib.Omega.{arith}
 use Rattle.loading.proofs.Tabbing.{Tabbing, tab-none, tab-more, tab-done}
 use Rattle.loading.proofs.start.write_numbers.Statement.{statement}
 use Rattle.loading.proofs.start.write_numbers.Tie as tie
-use Rattle.loading.proofs.start.write_numbers.Reads as reads
-use Rattle.loading.proofs.start.write_numbers.Lts as lts
 
 abbrev Inv-loop : tie.InvT-loop
 Inv-loop area₀ at k i₀ area i = Tabbing (λ (x : ℕ). x) area₀ at k i area

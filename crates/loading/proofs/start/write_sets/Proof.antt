@@ -4,9 +4,6 @@ use Rattle.loading.proofs.Starting.{sets-lay}
 use borrow.Author.Needs.{needs}
 use Rattle.loading.proofs.start.write_sets.Statement.{statement}
 use Rattle.loading.proofs.start.write_sets.Tie as tie
-use Rattle.loading.proofs.start.write_sets.Reads as reads
-use Rattle.loading.proofs.start.write_sets.Lts as lts
-use Rattle.loading.proofs.start.write_words.Reads as write-words-reads
 
 write-words-requires : tie.Need-write-words-requires
 write-words-requires c κs = search needs

@@ -4,13 +4,6 @@ use Rattle.loading.proofs.Starting.{words-can, start-written}
 use borrow.Author.Needs.{needs}
 use Rattle.loading.proofs.start.write_start.Statement.{statement}
 use Rattle.loading.proofs.start.write_start.Tie as tie
-use Rattle.loading.proofs.start.write_start.Reads as reads
-use Rattle.loading.proofs.start.write_start.Lts as lts
-use Rattle.entry_set.proofs.set_width.Reads as set-width-reads
-use Rattle.layout.proofs.fill_with.Reads as fill-with-reads
-use Rattle.loading.proofs.start.write_header.Reads as write-header-reads
-use Rattle.loading.proofs.start.write_numbers.Reads as write-numbers-reads
-use Rattle.loading.proofs.start.write_sets.Reads as write-sets-reads
 
 mul-square : tie.Need-mul-square
 mul-square c = search needs

@@ -1,15 +1,11 @@
 -- `loading::start::write_words` meets its contract. Assumes nothing.
-use mathlib.Core.Path.{refl}
-use Prim.Native.Nat.{ℕ, _-_}
+use Prim.Native.Nat.{_-_}
 use native.Mathlib.Omega.{arith}
 use Rattle.loading.specs.Start.{lentWord}
 use Rattle.loading.proofs.Tabbing.{Tabbing, tab-none, tab-more, tab-done}
 use Rattle.loading.proofs.Starting.{lane-room, set-room}
 use Rattle.loading.proofs.start.write_words.Statement.{statement}
 use Rattle.loading.proofs.start.write_words.Tie as tie
-use Rattle.loading.proofs.start.write_words.Reads as reads
-use Rattle.loading.proofs.start.write_words.Lts as lts
-use Rattle.loading.proofs.start.lent_word.Reads as lent-word-reads
 
 abbrev Inv-loop : tie.InvT-loop
 Inv-loop area₀ n sets w a j at i₀ area i = Tabbing (lentWord w sets j) area₀ at a i area

@@ -1,5 +1,4 @@
 -- `moves_commands::commands::load` meets its contract. Assumes nothing.
-use Prim.Native.Nat.{_-_}
 use Rattle.moves_commands.proofs.Turns.{load-steps}
 use borrow.Author.Needs.{needs}
 use Rattle.moves_commands.proofs.commands.load.Statement.{statement}

@@ -1,5 +1,4 @@
 -- `moves_commands::commands::move_atom` meets its contract. Assumes nothing.
-use Prim.Native.Nat.{_-_}
 use Rattle.moves_commands.proofs.Turns.{move-steps}
 use borrow.Author.Needs.{needs}
 use Rattle.moves_commands.proofs.commands.move_atom.Statement.{statement}

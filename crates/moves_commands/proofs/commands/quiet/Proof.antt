@@ -1,6 +1,5 @@
 -- `moves_commands::commands::quiet` meets its contract. Assumes nothing.
 use native.Mathlib.Omega.{arith}
-use Prim.Native.Nat.{_-_}
 use Rattle.replies.specs.Room.{put-none}
 use borrow.Author.Needs.{needs}
 use Rattle.moves_commands.proofs.commands.quiet.Statement.{statement}

@@ -1,5 +1,4 @@
 -- `moves_commands::commands::set_of` meets its contract. Assumes nothing.
-use Prim.Native.Nat.{_-_}
 use Rattle.moves_commands.proofs.Turns.{set-steps}
 use borrow.Author.Needs.{needs}
 use Rattle.moves_commands.proofs.commands.set_of.Statement.{statement}

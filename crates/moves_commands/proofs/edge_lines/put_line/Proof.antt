@@ -1,5 +1,4 @@
 -- `moves_commands::edge_lines::put_line` meets its contract. Assumes nothing.
-use Prim.Native.Nat.{_-_}
 use Rattle.replies.specs.Room.{put-as}
 use Rattle.moves_commands.proofs.Lines.{list-some, line-told}
 use borrow.Author.Needs.{needs}

@@ -1,5 +1,5 @@
 -- `reaches_itself` meets its contract. Assumes nothing.
-use Rattle.slot_graph.proofs.Grouped.{group-can, lists-graph}
+use Rattle.slot_graph.proofs.Grouped.{lists-graph}
 use Rattle.neighbours.specs.Grouped.{group-edges}
 use Rattle.moving.specs.Test.{itself-done}
 use borrow.Author.Needs.{needs}

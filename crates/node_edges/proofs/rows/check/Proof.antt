@@ -6,10 +6,6 @@ use lib.ListN.{length, length-set}
 use Rattle.node_edges.proofs.Checking.{Rows, rows-none, rows-can, rows-more, rows-no, rows-done}
 use Rattle.node_edges.proofs.rows.check.Statement.{statement}
 use Rattle.node_edges.proofs.rows.check.Tie as tie
-use Rattle.node_edges.proofs.rows.check.Reads as reads
-use Rattle.node_edges.proofs.rows.check.Lts as lts
-use Rattle.layout.proofs.fill_with.Reads as fill-with-reads
-use Rattle.node_edges.proofs.rows.check_row.Reads as check-row-reads
 
 abbrev Inv-loop : tie.InvT-loop
 Inv-loop edges n starts list row₀ degrees₀ x₀ row degrees x = (x ≤ n) × Rows edges n starts list row degrees x × (length row ≡ length row₀) × (length degrees ≡ length degrees₀)

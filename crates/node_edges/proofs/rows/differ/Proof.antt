@@ -3,8 +3,6 @@ use mathlib.Core.Path.{refl}
 use borrow.Author.Tests.{eq-eqb, ne-eqb}
 use Rattle.node_edges.proofs.rows.differ.Statement.{statement}
 use Rattle.node_edges.proofs.rows.differ.Tie as tie
-use Rattle.node_edges.proofs.rows.differ.Reads as reads
-use Rattle.node_edges.proofs.rows.differ.Lts as lts
 
 returns : tie.Need-returns
 returns c = rw (ne-eqb _ _ (c .if1 .taken)) refl

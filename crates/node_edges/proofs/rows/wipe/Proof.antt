@@ -5,8 +5,6 @@ use lib.ListN.{length}
 use Rattle.node_edges.proofs.Checking.{Less, less-none, less-more, less-done}
 use Rattle.node_edges.proofs.rows.wipe.Statement.{statement}
 use Rattle.node_edges.proofs.rows.wipe.Tie as tie
-use Rattle.node_edges.proofs.rows.wipe.Reads as reads
-use Rattle.node_edges.proofs.rows.wipe.Lts as lts
 
 abbrev Inv-loop : tie.InvT-loop
 Inv-loop part row₀ k₀ row k = (k ≤ length part) × Less part row₀ row k

@@ -6,9 +6,6 @@ use Rattle.placement.proofs.Deciding.{none-below, below-up-to}
 use borrow.Author.Needs.{needs}
 use Rattle.placement.proofs.compare.all_below.Statement.{statement}
 use Rattle.placement.proofs.compare.all_below.Tie as tie
-use Rattle.placement.proofs.compare.all_below.Reads as reads
-use Rattle.placement.proofs.compare.all_below.Lts as lts
-use Rattle.placement.proofs.compare.none_above.Reads as none-above-reads
 
 -- src/compare.rt:42:9
 returns : tie.Need-returns

@@ -7,8 +7,6 @@ use Rattle.placement.specs.Compare.{PartUpTo}
 use Rattle.placement.proofs.Deciding.{each-none, each-more, each-done}
 use Rattle.placement.proofs.compare.none_above.Statement.{statement}
 use Rattle.placement.proofs.compare.none_above.Tie as tie
-use Rattle.placement.proofs.compare.none_above.Reads as reads
-use Rattle.placement.proofs.compare.none_above.Lts as lts
 
 abbrev Inv-loop : tie.InvT-loop
 Inv-loop list at k bound fits₀ i₀ fits i = (i ≤ k) × Decides (PartUpTo list at i bound) fits

@@ -8,8 +8,6 @@ use Rattle.graphs.specs.Bools.{Decides, eqb-decides}
 use Rattle.placement.specs.Compare.{SamePart}
 use Rattle.placement.proofs.compare.same_numbers.Statement.{statement}
 use Rattle.placement.proofs.compare.same_numbers.Tie as tie
-use Rattle.placement.proofs.compare.same_numbers.Reads as reads
-use Rattle.placement.proofs.compare.same_numbers.Lts as lts
 
 abbrev Inv-loop : tie.InvT-loop
 Inv-loop a at b from n same₀ i₀ same i = (i ≤ n) × Decides (SamePart a at b from i) same

@@ -8,10 +8,6 @@ use Rattle.placement.specs.Facades.{fronting}
 use Rattle.placement.proofs.Fronting.{fronts-none, fronts-can, fronts-more, fronts-done}
 use Rattle.placement.proofs.fronts.facades.Statement.{statement}
 use Rattle.placement.proofs.fronts.facades.Tie as tie
-use Rattle.placement.proofs.fronts.facades.Reads as reads
-use Rattle.placement.proofs.fronts.facades.Lts as lts
-use Rattle.layout.proofs.fill_with.Reads as fill-with-reads
-use Rattle.placement.proofs.fronts.front.Reads as front-reads
 
 abbrev Inv-loop : tie.InvT-loop
 Inv-loop area at stride r counts e out₀ x₀ out x = (x ≤ r) × Written (λ b. highest (fronting area at stride counts b) x) 0 e out₀ out

@@ -6,10 +6,6 @@ use Rattle.placement.proofs.Fronting.{front-empty, front-other, front-f
 use borrow.Author.Needs.{needs}
 use Rattle.placement.proofs.fronts.front.Statement.{statement}
 use Rattle.placement.proofs.fronts.front.Tie as tie
-use Rattle.placement.proofs.fronts.front.Reads as reads
-use Rattle.placement.proofs.fronts.front.Lts as lts
-use Rattle.entry_set.proofs.read_lanes.Reads as read-lanes-reads
-use Rattle.entry_set.proofs.single_bit.Reads as single-bit-reads
 
 -- src/fronts.rt:24:9
 returns : tie.Need-returns

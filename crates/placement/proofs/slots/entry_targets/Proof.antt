@@ -6,9 +6,6 @@ use Rattle.placement.specs.Slots.{entry-target}
 use Rattle.placement.proofs.Writing.{written-none, written-more, written-upto}
 use Rattle.placement.proofs.slots.entry_targets.Statement.{statement}
 use Rattle.placement.proofs.slots.entry_targets.Tie as tie
-use Rattle.placement.proofs.slots.entry_targets.Reads as reads
-use Rattle.placement.proofs.slots.entry_targets.Lts as lts
-use Rattle.placement.proofs.slots.at.Reads as at-reads
 
 abbrev Inv-loop : tie.InvT-loop
 Inv-loop nodes dependencies d targets₀ k₀ targets k = (k ≤ d) × Written (entry-target dependencies nodes) 0 k targets₀ targets

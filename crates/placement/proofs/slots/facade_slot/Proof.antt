@@ -7,9 +7,6 @@ use Rattle.placement.proofs.Slotting.{faced-yes, faced-no-front, faced-
 use borrow.Author.Needs.{needs}
 use Rattle.placement.proofs.slots.facade_slot.Statement.{statement}
 use Rattle.placement.proofs.slots.facade_slot.Tie as tie
-use Rattle.placement.proofs.slots.facade_slot.Reads as reads
-use Rattle.placement.proofs.slots.facade_slot.Lts as lts
-use Rattle.placement.proofs.slots.at.Reads as at-reads
 
 -- src/slots.rt:90:13
 mul-sources : tie.Need-mul-sources

@@ -7,10 +7,6 @@ use Rattle.placement.specs.Slots.{atoms}
 use Rattle.placement.proofs.Slotting.{tally-none, tally-can, tally-more, tally-done}
 use Rattle.placement.proofs.slots.tally.Statement.{statement}
 use Rattle.placement.proofs.slots.tally.Tie as tie
-use Rattle.placement.proofs.slots.tally.Reads as reads
-use Rattle.placement.proofs.slots.tally.Lts as lts
-use Rattle.layout.proofs.fill_with.Reads as fill-with-reads
-use Rattle.placement.proofs.slots.bump.Reads as bump-reads
 
 abbrev Inv-loop : tie.InvT-loop
 Inv-loop counts₀ n nodes a i₀ counts i = (i ≤ a) × Written (atoms nodes i) 0 n counts₀ counts

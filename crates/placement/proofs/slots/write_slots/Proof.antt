@@ -3,11 +3,6 @@ use Rattle.placement.proofs.Slotting.{slots-sources, slots-targets, slo
 use borrow.Author.Needs.{needs}
 use Rattle.placement.proofs.slots.write_slots.Statement.{statement}
 use Rattle.placement.proofs.slots.write_slots.Tie as tie
-use Rattle.placement.proofs.slots.write_slots.Reads as reads
-use Rattle.placement.proofs.slots.write_slots.Lts as lts
-use Rattle.placement.proofs.slots.entry_sources.Reads as entry-sources-reads
-use Rattle.placement.proofs.slots.entry_targets.Reads as entry-targets-reads
-use Rattle.placement.proofs.slots.facade_slots.Reads as facade-slots-reads
 
 -- src/slots.rt:138:5
 entry-sources-requires : tie.Need-entry-sources-requires

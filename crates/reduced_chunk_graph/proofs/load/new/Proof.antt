@@ -8,10 +8,6 @@ use Rattle.loading.specs.New.{new-refused, new-answer, new-area}
 use borrow.Author.Needs.{needs}
 use Rattle.reduced_chunk_graph.proofs.load.new.Statement.{statement}
 use Rattle.reduced_chunk_graph.proofs.load.new.Tie as tie
-use Rattle.reduced_chunk_graph.proofs.load.new.Reads as reads
-use Rattle.reduced_chunk_graph.proofs.load.new.Lts as lts
-use Rattle.load_checks.proofs.loading_refusal.Reads as loading-refusal-reads
-use Rattle.loading.proofs.load.Reads as load-reads
 
 loading-refusal-requires : tie.Need-loading-refusal-requires
 loading-refusal-requires c κs = search needs

@@ -5,14 +5,7 @@ use Rattle.reduced_chunk_graph.specs.MoveLaws.{goes-ten, goes-eleven, go
 use borrow.Author.Needs.{needs}
 use Rattle.reduced_chunk_graph.proofs.moves.go_on.Statement.{statement}
 use Rattle.reduced_chunk_graph.proofs.moves.go_on.Tie as tie
-use Rattle.reduced_chunk_graph.proofs.moves.go_on.Reads as reads
-use Rattle.reduced_chunk_graph.proofs.moves.go_on.Lts as lts
-use Rattle.entry_set.proofs.equal.Reads as equal-reads
-use Rattle.entry_set.proofs.from_list.Reads as from-list-reads
-use Rattle.entry_set.proofs.is_legal.Reads as is-legal-reads
-use Rattle.entry_set.proofs.read_lanes.Reads as read-lanes-reads
 use Rattle.entry_set.specs.SetLaws.{legal-short}
-use Rattle.moving.proofs.try_checked.Reads as try-checked-reads
 
 -- src/moves.rt:32:9
 returns : tie.Need-returns

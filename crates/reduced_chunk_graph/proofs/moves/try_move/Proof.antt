@@ -3,11 +3,6 @@ use Rattle.reduced_chunk_graph.specs.MoveLaws.{call-refused, call-answer
 use borrow.Author.Needs.{needs}
 use Rattle.reduced_chunk_graph.proofs.moves.try_move.Statement.{statement}
 use Rattle.reduced_chunk_graph.proofs.moves.try_move.Tie as tie
-use Rattle.reduced_chunk_graph.proofs.moves.try_move.Reads as reads
-use Rattle.reduced_chunk_graph.proofs.moves.try_move.Lts as lts
-use Rattle.load_checks.proofs.refusal.Reads as refusal-reads
-use Rattle.reduced_chunk_graph.proofs.moves.try_large.Reads as try-large-reads
-use Rattle.reduced_chunk_graph.proofs.moves.try_small.Reads as try-small-reads
 
 -- src/moves.rt:176:9
 refusal-requires : tie.Need-refusal-requires
