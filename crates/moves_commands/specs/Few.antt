@@ -10,7 +10,7 @@ use lib.ListN.{length}
 use borrow.Author.Tests.{eqb-true, ltb-true}
 use Rattle.graphs.specs.Bools.{and-left, and-right}
 use Rattle.graphs.specs.Count.{ind, count, ind-le}
-use Rattle.graphs.specs.Total.{total, total-same}
+use Rattle.graphs.specs.Total.{total, total-same, count-total}
 use Rattle.ledger.specs.Graph.{Load, at, none, owner, lies, occupied, entry, facade, mult, edge, rising, row, edges}
 use Rattle.ledger.specs.Listing.{Rising, next, rising-rising}
 use Rattle.ledger.specs.Listing as listing
@@ -30,11 +30,6 @@ total-zero : (f : ℕ → ℕ) (n : ℕ) → ((i : ℕ) → i < n → f i ≡ 0)
 unfolding total
 total-zero f zero h = refl
 total-zero f (suc n) h = omega (arith, total-zero f n (λ i b. h i (omega arith)), h n (omega arith))
-
-count-total : (p : ℕ → Bool) (n : ℕ) → count p n ≡ total (λ j. ind (p j)) n
-unfolding total count
-count-total p zero = refl
-count-total p (suc n) = ap (λ k. k + ind (p n)) (count-total p n)
 
 -- a sum of which at most one number isn't 0
 total-one : (f : ℕ → ℕ) (n : ℕ) → ((i : ℕ) → i < n → f i ≤ 1) → ((i j : ℕ) → i < n → j < n → 1 ≤ f i → 1 ≤ f j → i ≡ j) → total f n ≤ 1
