@@ -1,6 +1,5 @@
 -- What each answer says, in document 01's terms. Assumes nothing.
 use Prim.Native.Nat.{ℕ}
-use mathlib.Core.Bool.{Bool}
 use mathlib.Core.List.{List}
 use Rattle.merge_state.specs.Table.{Answer, done, refused, says, chunk, nothing, lists}
 use Rattle.chunk_optimizer.specs.declared.DoneAnswer as d

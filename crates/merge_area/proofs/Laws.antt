@@ -1,15 +1,13 @@
 -- Laws that several proofs of this crate cite. Assumes nothing.
-use Prim.Native.Nat.{ℕ, suc, _+_, _-_, _*_, _^_, _≤_, _<_}
+use Prim.Native.Nat.{ℕ, _+_, _-_, _*_, _^_, _≤_, _<_}
 use native.Mathlib.Omega.{arith}
-use native.Mathlib.Nat.{mul-le-mul-right, suc-mul, add-mul}
-use mathlib.Core.Path.{_≡_, refl, sym, ap, _∙_}
-use mathlib.Core.Bool.{Bool, true, false, not, cond, _||_}
+use mathlib.Core.Path.{_≡_, sym, ap, _∙_}
+use mathlib.Core.Bool.{Bool, true, false, not}
 use mathlib.Core.List.{List}
-use lib.ListN.{length, getD}
-use Rattle.graphs.specs.Count.{ind, ind-le, count, count-none, count-more, count-le}
+use Rattle.graphs.specs.Count.{ind, ind-le, count, count-more, count-le}
 use Rattle.graphs.specs.Bools.{Decides}
-use Rattle.graphs.specs.Lists.{some-below, some-give, some-zero, some-suc}
-use lib.Dec.{ltb, eqb}
+use Rattle.graphs.specs.Lists.{some-below}
+use lib.Dec.{ltb}
 use Rattle.set_order.specs.Order.{Distinct}
 use Rattle.equal_sets.specs.Laid.{row-set}
 use Rattle.entry_set.specs.declared.EntrySet.{EntrySet}

@@ -1,10 +1,10 @@
 -- Rows 14, 15 and 21 of a merge area, as computed tests. Sentences quoted are document 01's. Assumes nothing.
 use Prim.Native.Nat.{ℕ, _+_, _-_, _*_, _^_, _≤_}
 use mathlib.Core.Path.{_≡_}
-use mathlib.Core.Bool.{Bool, true, false, not, _&&_, _||_}
+use mathlib.Core.Bool.{Bool, true, false, not, _||_}
 use mathlib.Core.List.{List}
 use lib.ListN.{getD, length}
-use lib.Dec.{ltb, leb, eqb}
+use lib.Dec.{ltb, eqb}
 use Rattle.graphs.specs.Count.{count}
 use Rattle.graphs.specs.Lists.{some-below}
 use Rattle.entry_set.specs.Lanes.{lanes}

@@ -1,14 +1,12 @@
 -- What the functions that write an area rely on. Assumes nothing.
-use Prim.Native.Nat.{ℕ, suc, _+_, _*_, _<_, _≤_}
-use native.Mathlib.Omega.{arith}
+use Prim.Native.Nat.{ℕ, _+_, _*_, _<_, _≤_}
 use mathlib.Core.Path.{_≡_}
-use mathlib.Core.Logic.{_⊎_}
 use mathlib.Core.List.{List}
 use lib.ListN.{getD, length}
 use Rattle.merge_state.specs.declared.Sizes.{Sizes}
 use Rattle.merge_state.specs.State.{None}
 use Rattle.merge_area.specs.Layout.{room, cell, head, home, entry-chunk, entry-module}
-use Rattle.merge_area.specs.Within.{Within, Headed}
+use Rattle.merge_area.specs.Within.{Within}
 
 pub record CanAppend (z : Sizes) (a : List ℕ) (x m : ℕ) : Type 0 where
   pub within : Within z

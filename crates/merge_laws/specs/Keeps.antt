@@ -2,14 +2,13 @@
 use Prim.Native.Nat.{ℕ, zero, suc, _+_, _-_, _*_, _<_, _≤_}
 use native.Mathlib.Numerals.{add-one}
 use native.Mathlib.Omega.{arith}
-use native.Mathlib.Decide.{ℕ-discrete, decLt}
-use mathlib.Core.Path.{_≡_, refl, sym, ap, _∙_}
+use mathlib.Core.Path.{_≡_, refl, _∙_}
 use mathlib.Core.Bool.{Bool, true, false, cond, _||_}
 use mathlib.Core.List.{List}
 use lib.ListN.{getD, length, set, length-set}
 use lib.Dec.{eqb}
-use lib.Seq.{getD-set-same, getD-set-other}
-use borrow.Author.Tests.{eq-eqb, ne-eqb, eqb-true, eqb-false}
+use lib.Seq.{getD-set-other}
+use borrow.Author.Tests.{eq-eqb, ne-eqb, eqb-false}
 use Rattle.graphs.specs.Bools.{or-false-left}
 use Rattle.entry_set.specs.Joined.{parts}
 use Rattle.entry_set.specs.JoinedLaws.{length-parts}
@@ -20,7 +19,7 @@ use Rattle.merge_state.specs.declared.Sizes.{Sizes}
 use Rattle.merge_state.specs.State.{None}
 use Rattle.merge_area.specs.Layout.{cell, head, set-place, set-chunk, side, need, home, entry-chunk, entry-module}
 use Rattle.merge_area.specs.Writes.{append-area, open-area, init-area, link, linked, calc-area}
-use Rattle.merge_laws.specs.Can.{CanAppend, CanOpen, Homed, CanLink, CanLinked, CanCalc}
+use Rattle.merge_laws.specs.Can.{CanAppend, CanOpen, CanLink, CanLinked, CanCalc}
 
 -- opening a chunk
 module _ (z : Sizes) (a : List ℕ) (v : ℕ) where

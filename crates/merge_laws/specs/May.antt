@@ -1,34 +1,32 @@
 -- What each call may rely on once no row refuses it. Assumes nothing.
-use Prim.Native.Nat.{ℕ, zero, suc, _+_, _-_, _*_, _^_, _<_, _≤_}
+use Prim.Native.Nat.{ℕ, zero, suc, _+_, _-_, _<_, _≤_}
 use native.Mathlib.Omega.{arith}
-use native.Mathlib.Decide.{decLt}
-use mathlib.Core.Path.{_≡_, refl, sym, ap, _∙_}
-use mathlib.Core.Logic.{_⊎_, ⊎-elim}
-use mathlib.Core.Bool.{Bool, true, false, not, cond, _&&_, _||_}
-use mathlib.Core.List.{List, [], _∷_}
+use mathlib.Core.Path.{_≡_, sym, ap, _∙_}
+use mathlib.Core.Bool.{Bool, false, not, _&&_, _||_}
+use mathlib.Core.List.{List}
 use lib.ListN.{getD, length}
 use lib.Dec.{eqb, leb, ltb}
-use borrow.Author.Tests.{eqb-true, eqb-false, eq-eqb, ne-eqb, leb-false, ltb-true, ltb-false, lt-ltb, le-ltb, not-true, not-false}
-use Rattle.graphs.specs.Bools.{and-left, or-false-left, or-false-right, fails}
-use Rattle.graphs.specs.Lists.{below, some-below, some-none}
+use borrow.Author.Tests.{eqb-true, eqb-false, eq-eqb, ne-eqb, leb-false, ltb-false, lt-ltb, le-ltb, not-false}
+use Rattle.graphs.specs.Bools.{and-left, or-false-left, or-false-right}
+use Rattle.graphs.specs.Lists.{below, some-none}
 use Rattle.graphs.specs.Walk.{via}
 use Rattle.walks.specs.Closed.{flagEdge}
-use Rattle.entry_set.specs.Sets.{value, legal, width}
+use Rattle.entry_set.specs.Sets.{value, width}
 use Rattle.merge_state.specs.declared.Sizes.{Sizes}
 use Rattle.merge_state.specs.State.{None, chunk-of, pairs}
 use Rattle.merge_state.specs.Methods.{warns, warn, reachable}
-use Rattle.merge_state.specs.Table.{Answer, says, chunk, nothing, Call, init-module-assignment, add-module-to-chunk, to-temp-idx, calc-chunk-dependencies, would-create-circular-dependency, is-reachable, merge-chunk-dependencies, first-fitting, falling, bad-starts, bad-lists, over-lists, later, acted, full}
-use Rattle.merge_state.specs.Ordered.{Ordered, seen}
+use Rattle.merge_state.specs.Table.{says, chunk, nothing, init-module-assignment, add-module-to-chunk, to-temp-idx, calc-chunk-dependencies, would-create-circular-dependency, is-reachable, merge-chunk-dependencies, falling, bad-starts, bad-lists, over-lists, later, acted, full}
+use Rattle.merge_state.specs.Ordered.{seen}
 use Rattle.merge_state.specs.Kept.{none-fits, no-misfit}
-use Rattle.merge_area.specs.Layout.{room, cell, head, key, home}
+use Rattle.merge_area.specs.Layout.{room, cell, head, key}
 use Rattle.merge_area.specs.Read.{read, sets-in, keys-in, entry, named-set}
 use Rattle.merge_state.specs.Pairs.{pairs-length, pairs-at}
-use Rattle.merge_area.specs.Within.{Within, Headed}
+use Rattle.merge_area.specs.Within.{Headed}
 use Rattle.merge_area.specs.Calls.{refusal, standing}
 use Rattle.merge_warning.specs.Hits.{CanAsk}
-use Rattle.merge_laws.specs.Rows.{Stood, Free, free}
+use Rattle.merge_laws.specs.Rows.{Stood, free}
 use Rattle.merge_laws.specs.Can.{CanAppend, CanAssign, CanCalc, CanMergeArea}
-use Rattle.merge_laws.specs.Ordering.{ordered, flags-clean, depends-flag, home-in-range, entry-chunk-in, entry-module-in, set-chunk-in}
+use Rattle.merge_laws.specs.Ordering.{flags-clean, depends-flag, home-in-range, entry-chunk-in, entry-module-in, set-chunk-in}
 
 -- entries are left
 left : (z : Sizes) (a : List ℕ) → full z (read z a) ≡ false → cell a (head z 4) < z .entries

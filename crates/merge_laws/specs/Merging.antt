@@ -1,17 +1,14 @@
 -- The merge of two rows, number by number. Assumes nothing.
-use Prim.Native.Nat.{ℕ, zero, suc, _+_, _-_, _*_, _<_, _≤_}
-use native.Mathlib.Numerals.{add-one}
+use Prim.Native.Nat.{ℕ, _+_, _-_, _*_, _<_, _≤_}
 use native.Mathlib.Omega.{arith}
-use native.Mathlib.Nat.{mul-le-mul-right, suc-mul}
-use native.Mathlib.Decide.{ℕ-discrete, decLe, decLt}
-use mathlib.Core.Path.{_≡_, refl, sym, ap, _∙_, fun-ext}
-use mathlib.Core.Bool.{Bool, true, false, not, cond, _&&_, _||_, and-false, or-true}
-use mathlib.Core.List.{List, [], _∷_}
+use native.Mathlib.Decide.{ℕ-discrete, decLt}
+use mathlib.Core.Path.{_≡_, refl, sym, ap, _∙_}
+use mathlib.Core.Bool.{true, false, not, _||_, and-false, or-true}
+use mathlib.Core.List.{List}
 use lib.ListN.{getD, length, set, length-set, List·getD-eq-default}
-use lib.Dec.{eqb, ltb, leb}
-use lib.Seq.{getD-set-same, getD-set-other, ext-getD}
+use lib.Dec.{eqb}
+use lib.Seq.{getD-set-same, getD-set-other}
 use borrow.Author.Tests.{le-leb, lt-leb, lt-ltb, le-ltb, eq-eqb, ne-eqb}
-use Rattle.graphs.specs.Count.{ind}
 use Rattle.graphs.specs.Tab.{tab, tab-length, tab-at, is-tab}
 use Rattle.entry_set.specs.SetLaws.{sets-room}
 use Rattle.merge_area.specs.Writes.{union-cell, within, merging, merged-rows}

@@ -1,23 +1,23 @@
 -- An area that row 21 doesn't refuse holds a graph in order. Assumes nothing.
-use Rattle.entry_set.specs.SetLaws.{sets-room}
-use Prim.Native.Nat.{ℕ, zero, suc, _+_, _-_, _*_, _^_, _<_, _≤_}
+use Prim.Native.Nat.{ℕ, _+_, _-_, _*_, _^_, _<_, _≤_}
 use native.Mathlib.Omega.{arith}
 use native.Mathlib.Decide.{ℕ-discrete, decLt}
 use mathlib.Core.Path.{_≡_, refl, sym, ap, _∙_, fun-ext}
-use mathlib.Core.Logic.{_⊎_, inl, inr, ⊎-elim}
-use mathlib.Core.Bool.{Bool, true, false, not, cond, _&&_, _||_, true≢false}
+use mathlib.Core.Logic.{_⊎_, inl, inr}
+use mathlib.Core.Bool.{Bool, true, false, not, cond, _&&_, _||_}
 use mathlib.Core.List.{List}
-use lib.ListN.{getD, length}
-use lib.Dec.{eqb, leb, ltb}
-use borrow.Author.Tests.{eqb-true, eqb-false, eq-eqb, ne-eqb, leb-false, le-leb, ltb-true, ltb-false, lt-ltb, le-ltb, not-true, not-false}
+use lib.ListN.{getD}
+use lib.Dec.{eqb, ltb}
+use borrow.Author.Tests.{eqb-false, ne-eqb, leb-false, ltb-true, ltb-false, lt-ltb, le-ltb, not-true, not-false}
 use Rattle.graphs.specs.Bools.{alike, fails, and-left, and-right, and-both, or-false-left, or-false-right}
-use Rattle.graphs.specs.Count.{count, count-pos}
+use Rattle.graphs.specs.Count.{count-pos}
 use Rattle.graphs.specs.Lists.{some-below, some-none}
 use Rattle.walks.specs.Closed.{flagEdge}
 use Rattle.walks.specs.ClosedLaws.{flag-from, flag-to, flag-is}
 use Rattle.entry_set.specs.Lanes.{lanes}
+use Rattle.entry_set.specs.SetLaws.{sets-room}
 use Rattle.merge_state.specs.declared.Sizes.{Sizes}
-use Rattle.merge_state.specs.State.{None, misfit, at, pairs}
+use Rattle.merge_state.specs.State.{None, misfit, at}
 use Rattle.merge_state.specs.Loading.{came-before, twice}
 use Rattle.merge_state.specs.Warning.{Sound}
 use Rattle.merge_state.specs.Ordered.{Ordered, never}

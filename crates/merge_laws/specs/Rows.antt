@@ -1,16 +1,15 @@
 -- The table's rows: the first fitting one, and what a call that none refuses may rely on. Assumes nothing.
-use Prim.Native.Nat.{ℕ, zero, suc, _+_, _*_, _<_, _≤_}
+use Prim.Native.Nat.{ℕ, zero, suc, _<_, _≤_}
 use native.Mathlib.Omega.{arith}
 use mathlib.Core.Path.{_≡_, refl, sym, ap, _∙_}
-use mathlib.Core.Bool.{Bool, true, false, not, cond, _||_}
+use mathlib.Core.Bool.{Bool, true, false, _||_}
 use mathlib.Core.List.{List, [], _∷_}
 use lib.ListN.{length}
 use Rattle.graphs.specs.Bools.{or-false-left, or-false-right}
 use Rattle.merge_state.specs.declared.Sizes.{Sizes}
-use lib.Dec.{leb, ltb, eqb}
-use borrow.Author.Tests.{leb-false, ltb-false, eqb-false}
-use Rattle.merge_state.specs.Table.{init-module-assignment, add-module-to-chunk, register-chunk-graph-index, to-temp-idx, calc-chunk-dependencies, would-create-circular-dependency, is-reachable, merge-chunk-dependencies, pass}
-use Rattle.merge_state.specs.Table.{Answer, refused, Call, first-fitting, over-lists, bad-lists, later, acted, turned}
+use lib.Dec.{leb}
+use borrow.Author.Tests.{leb-false}
+use Rattle.merge_state.specs.Table.{register-chunk-graph-index, Answer, refused, Call, first-fitting, over-lists, bad-lists, later, acted, turned}
 use Rattle.merge_state.specs.Kept.{none-fits}
 use Rattle.merge_area.specs.Layout.{room}
 use Rattle.merge_area.specs.Read.{read}

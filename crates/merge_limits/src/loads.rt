@@ -1,4 +1,7 @@
 // Loadings at their limits: four chunks, modules, list entries and bits, two of the chunks initial where nothing else is said.
+//
+// Places of such an area: 16 = 4×4 is the first number of the header (17 chunks made, 19 sets, 20 list entries, 21 no field), 48 = 16 + 32 the first of the
+// chunks' lanes (120 = 48 + 18×4 side effects, 124 = 48 + 19×4 needs of creation, 128 = 48 + 20×4 keys), 176 = 48 + 32×4 the first module's chunk.
 use crate::done_code;
 use crate::four;
 use crate::said_code;
@@ -224,7 +227,7 @@ fn short_area() {
     say(b"its first number: ", wide(area[0]));
 }
 
-pub fn cases() {
+pub(crate) fn cases() {
     let mut area = [7u32; 432];
     loaded(&mut area);
     one_entry_more(&mut area);

@@ -127,7 +127,7 @@ fn again(area: &mut [u32; 432]) {
     say_lists(&kinds, &numbers);
 }
 
-// A module listed twice counts where it was put last; what it depends on counts for both chunks.
+// A module listed twice counts where it was put last; what it depends on counts for both chunks. Whether x depends on y stands at 4×x + y.
 fn listed_twice(area: &mut [u32; 432]) {
     let effects = [0u32, 0, 0, 5];
     let set = [4u64; 1];
@@ -222,7 +222,7 @@ fn all_initial(area: &mut [u32; 432]) {
     say(b"the last key: ", done_code(b));
     let c = chunk_optimizer::register_chunk_graph_index(four(), area, ChunkIdx(4), ChunkIdx(0));
     say(b"one past it: ", done_code(c));
-    area[124] = 1;
+    area[124] = 1; // chunk 0's need of creation: 124 = 4×4 + 32 + 19×4
     let d = chunk_optimizer::register_chunk_graph_index(four(), area, ChunkIdx(3), ChunkIdx(0));
     say(b"an initial chunk that needs creation: ", done_code(d));
 }

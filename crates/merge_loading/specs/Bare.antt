@@ -12,7 +12,7 @@ use Rattle.graphs.specs.Tab.{tab, tab-length, tab-at}
 use Rattle.layout.specs.Patch.{patch, patch-long, patch-in, patch-out}
 use Rattle.entry_set.specs.Joined.{parts}
 use Rattle.entry_set.specs.JoinedLaws.{length-parts}
-use Rattle.entry_set.specs.Sets.{value, width, number}
+use Rattle.entry_set.specs.Sets.{value, width}
 use Rattle.entry_set.specs.Lanes.{lanes, setLanes}
 use Rattle.entry_set.specs.LaneLaws.{length-setStrided, setStrided-other, lanes-set, lanes-same}
 use Rattle.merge_state.specs.declared.Sizes.{Sizes}

@@ -11,7 +11,7 @@ use Rattle.graphs.specs.Bools.{and-left}
 use Rattle.graphs.specs.Count.{count, count-yes, count-mono}
 use Rattle.merge_state.specs.declared.Sizes.{Sizes}
 use Rattle.merge_state.specs.State.{None, Graph}
-use Rattle.merge_state.specs.Methods.{Passed, merged, created-chunk, warn, merges, candidate, passed}
+use Rattle.merge_state.specs.Methods.{Passed, merged, created-chunk, merges, candidate, passed}
 use Rattle.merge_state.specs.Table.{any-misfit}
 use Rattle.merge_state.specs.Ordered.{Ordered, never}
 use Rattle.merge_state.specs.Kept.{Passing, proposal, passed-kept}

@@ -1,16 +1,16 @@
 -- Laws that several proofs of this crate cite. Assumes nothing.
-use Prim.Native.Nat.{ℕ, suc, _+_, _-_, _*_, _≤_, _<_}
+use Prim.Native.Nat.{ℕ, _+_, _≤_}
 use native.Mathlib.Omega.{arith}
 use native.Mathlib.Decide.{ℕ-discrete}
-use mathlib.Core.Path.{_≡_, refl, sym, ap, ap₂, _∙_}
-use mathlib.Core.Bool.{Bool, true, false, not, cond, _&&_, _||_}
+use mathlib.Core.Path.{_≡_, sym, ap, ap₂, _∙_}
+use mathlib.Core.Bool.{Bool, true, false, not, _&&_, _||_}
 use mathlib.Core.List.{List, [], _∷_}
 use lib.ListN.{length, getD}
 use lib.Dec.{ltb, leb, eqb}
-use borrow.Author.Tests.{eq-eqb, ne-eqb, eqb-true, le-leb, lt-ltb, le-ltb, ltb-true, not-false}
+use borrow.Author.Tests.{eq-eqb, ne-eqb, eqb-true, le-leb, lt-ltb, ltb-true, not-false}
 use Rattle.graphs.specs.Bools.{alike, and-left, or-false}
 use Rattle.graphs.specs.Count.{count, count-pos, count-found, count-ext, count-le}
-use Rattle.graphs.specs.Lists.{some-below, some-give, some-take, some-zero, some-suc}
+use Rattle.graphs.specs.Lists.{some-give, some-take}
 use Rattle.entry_set.specs.declared.EntrySet.{EntrySet}
 use Rattle.entry_set.specs.Sets.{value, number, Holds, legal, width}
 use Rattle.merge_state.specs.declared.Sizes.{Sizes}

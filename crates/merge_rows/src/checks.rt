@@ -5,7 +5,7 @@ use merge_state::Sizes;
 ghost use mathlib.Core.Path.{_≡_};
 ghost use mathlib.Core.Bool.{false, not, _||_};
 ghost use Prim.Native.Nat.{_+_, _<_, _≤_};
-ghost use lib.ListN.{length, getD};
+ghost use lib.ListN.{length};
 ghost use lib.Dec.{eqb, ltb};
 ghost use Rattle.graphs.specs.Count.{count};
 ghost use Rattle.merge_state.specs.Table.{unmade, full, any-misfit, bad-starts, falling};

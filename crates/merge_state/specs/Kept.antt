@@ -1,21 +1,20 @@
 -- Every call leaves the graph in order. Assumes nothing.
-use Prim.Native.Nat.{ℕ, zero, suc, _+_, _*_, _^_, _<_, _≤_}
+use Prim.Native.Nat.{ℕ, zero, suc, _+_, _<_, _≤_}
 use native.Mathlib.Omega.{arith}
 use native.Mathlib.Decide.{decLt}
 use native.Mathlib.Numerals.{add-one}
 use mathlib.Core.Path.{_≡_, refl, sym, ap, _∙_}
-use mathlib.Core.Logic.{_⊎_, inl, inr, ⊎-elim}
-use mathlib.Core.Bool.{Bool, true, false, not, cond, _&&_, _||_}
+use mathlib.Core.Bool.{Bool, true, false, not, cond, _&&_}
 use mathlib.Core.List.{List, [], _∷_, _++_}
 use lib.ListN.{getD, length, List·getD-eq-default}
-use lib.Dec.{eqb, leb, ltb}
-use borrow.Author.Tests.{eqb-true, eqb-false, ne-eqb, leb-false, ltb-true, ltb-false, not-true, not-false}
+use lib.Dec.{eqb, leb}
+use borrow.Author.Tests.{eqb-false, ne-eqb, leb-false, ltb-true, ltb-false, not-true, not-false}
 use Rattle.graphs.specs.Bools.{and-left, and-right, and-both, or-false-left, or-false-right, fails}
 use Rattle.graphs.specs.Count.{count, count-yes, count-mono}
-use Rattle.graphs.specs.Lists.{some-below, some-none}
-use Rattle.entry_set.specs.Sets.{value, width, legal}
+use Rattle.graphs.specs.Lists.{some-none}
+use Rattle.entry_set.specs.Sets.{value, width}
 use Rattle.merge_state.specs.declared.Sizes.{Sizes}
-use Rattle.merge_state.specs.State.{None, Graph, chunk-of, misfit}
+use Rattle.merge_state.specs.State.{None, Graph, misfit}
 use Rattle.merge_state.specs.Methods.{Passed, merged, created-chunk, warn, merges, candidate, passed}
 use Rattle.merge_state.specs.Table.{Call, init-module-assignment, add-module-to-chunk, register-chunk-graph-index, to-temp-idx, calc-chunk-dependencies, would-create-circular-dependency, is-reachable, merge-chunk-dependencies, pass, first-fitting, any-misfit, later, acted}
 use Rattle.merge_state.specs.Ordered.{Ordered, never, appended-kept, registered-kept, created-chunk-kept, merged-kept, calculated-kept, assigned-kept}

@@ -1,6 +1,6 @@
 -- `new`: the merge graph after a loading. Sentences quoted are document 01's. Assumes nothing.
 use Prim.Native.Nat.{ℕ, zero, suc, _+_, _*_}
-use mathlib.Core.Bool.{Bool, true, false, not, cond, _||_}
+use mathlib.Core.Bool.{Bool, false, not, cond, _||_}
 use mathlib.Core.List.{List, [], _∷_}
 use lib.ListN.{getD, length, take, drop}
 use lib.Dec.{ltb, leb, eqb}

@@ -1,5 +1,5 @@
 -- A graph in order, as row 21 asks of a merge area; each method leaves it so. Assumes nothing.
-use Prim.Native.Nat.{ℕ, zero, suc, _+_, _*_, _^_, _<_, _≤_}
+use Prim.Native.Nat.{ℕ, zero, suc, _+_, _^_, _<_, _≤_}
 use native.Mathlib.Omega.{arith}
 use native.Mathlib.Decide.{ℕ-discrete, decLt}
 use mathlib.Core.Path.{_≡_, refl, sym, ap, _∙_}
@@ -11,7 +11,7 @@ use lib.Seq.{getD-append-seam}
 use lib.Dec.{eqb, leb, ltb}
 use borrow.Author.Tests.{eqb-true, eqb-false, leb-false, not-true}
 use Rattle.graphs.specs.Bools.{or-cases, and-left, and-right, fails}
-use Rattle.graphs.specs.Lists.{some-below, some-take}
+use Rattle.graphs.specs.Lists.{some-take}
 use Rattle.merge_state.specs.declared.Sizes.{Sizes}
 use Rattle.merge_state.specs.State.{None, Graph, put, put-same, put-other, chunk-of, at}
 use Rattle.merge_state.specs.Methods.{appended, opened, assigned-to, registered, module-on, listed-on, calculated, absorbed, merged, created-chunk}

@@ -1,20 +1,18 @@
 -- The warning over marks: which marked chunks depend on the source. Assumes nothing.
 use Prim.Native.Nat.{ℕ, zero, suc, _+_, _*_, _<_, _≤_}
 use native.Mathlib.Omega.{arith}
-use native.Mathlib.Decide.{decLt}
-use native.Mathlib.Nat.{mul-le-mul-right, suc-mul}
 use mathlib.Core.Path.{_≡_, refl, sym, ap, _∙_}
-use mathlib.Core.Logic.{_⊎_, inl, inr, ⊎-elim}
+use mathlib.Core.Logic.{⊎-elim}
 use mathlib.Core.Bool.{Bool, true, false, not, cond, _&&_, _||_}
 use mathlib.Core.List.{List}
 use lib.ListN.{getD, length, replicate}
 use lib.Dec.{eqb}
-use borrow.Author.Tests.{eqb-true, eqb-false, eq-eqb, ne-eqb}
+use borrow.Author.Tests.{eqb-true, eq-eqb, ne-eqb}
 use Rattle.graphs.specs.Bools.{alike, and-left, and-right, and-both, or-cases, or-left, or-right}
-use Rattle.graphs.specs.Lists.{below, some-below, some-give, some-take, some-zero, some-suc}
-use Rattle.graphs.specs.Tab.{tab, tab-length, tab-at}
+use Rattle.graphs.specs.Lists.{below, some-below, some-give, some-take}
+use Rattle.graphs.specs.Tab.{tab-at}
 use Rattle.graphs.specs.Walk.{Walk, one, more, via}
-use Rattle.graphs.specs.Walks.{sources-below, join, sound, complete}
+use Rattle.graphs.specs.Walks.{sources-below, sound, complete}
 use Rattle.walks.specs.Closed.{flagEdge, closed}
 use Rattle.walks.specs.ClosedLaws.{flag-from, flag-to, flag-is}
 use Rattle.walks.specs.Marks.{marking}

@@ -1,7 +1,7 @@
 // The two questions over the dependency flags: would a merge close a cycle, and does one chunk reach another.
 ghost use mathlib.Core.Path.{_≡_};
 ghost use Prim.Native.Nat.{_+_, _*_, _<_, _≤_};
-ghost use lib.ListN.{length, getD};
+ghost use lib.ListN.{length};
 ghost use Rattle.graphs.specs.Lists.{below, some-below};
 ghost use Rattle.graphs.specs.Walk.{via};
 ghost use Rattle.walks.specs.Closed.{flagEdge};

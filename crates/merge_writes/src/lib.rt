@@ -20,7 +20,7 @@ ghost use lib.ListN.{length, getD, set};
 ghost use Rattle.graphs.specs.Count.{ind};
 ghost use Rattle.entry_set.specs.Sets.{number};
 ghost use Rattle.merge_state.specs.State.{yes};
-ghost use Rattle.merge_area.specs.Layout.{room, cell, head};
+ghost use Rattle.merge_area.specs.Layout.{room};
 ghost use Rattle.merge_area.specs.Writes.{register-area, append-area, open-area, init-area, link, linked, calc-area, union-cell, merged-rows, merge-area, create-area};
 ghost use Rattle.merge_area.specs.Within.{Within};
 ghost use Rattle.merge_laws.specs.Can.{CanAppend, CanOpen, CanAssign, CanLink, CanLinked, CanCalc, CanMerge, CanMergeArea, CanCreate};

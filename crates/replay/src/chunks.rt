@@ -59,8 +59,13 @@ fn dependencies(c: usize, x: usize, area: &[u32], numbers: &[u64], at: usize) ->
     found
 }
 
+// Which of the chunks' lanes, behind the flags and the header, tell their side effects and their needs of creation.
+const EFFECTS_LANE: usize = 18;
+
+const NEEDS_LANE: usize = 19;
+
 // The chunk, its two flags and its dependencies behind their number are recorded.
-pub fn chunk_told(c: usize, area: &[u32], numbers: &[u64], at: usize) -> Step {
+pub(crate) fn chunk_told(c: usize, area: &[u32], numbers: &[u64], at: usize) -> Step {
     let x = further(numbers, at, 0) as usize;
     if 1024 < c {
         return unread(at);
@@ -70,8 +75,8 @@ pub fn chunk_told(c: usize, area: &[u32], numbers: &[u64], at: usize) -> Step {
     }
     let found = dependencies(c, x, area, numbers, skip(numbers, at, 4));
     let lanes = row_place(c, c, 32);
-    let effects = cell(area, lanes + row_place(c, 18, x)) as u64;
-    let needs = cell(area, lanes + row_place(c, 19, x)) as u64;
+    let effects = cell(area, lanes + row_place(c, EFFECTS_LANE, x)) as u64;
+    let needs = cell(area, lanes + row_place(c, NEEDS_LANE, x)) as u64;
     let flags = both(
         further(numbers, at, 1) == effects,
         further(numbers, at, 2) == needs,

@@ -25,6 +25,7 @@ use chunk_optimizer::TempIdxAnswer;
 use chunk_optimizer::YesNoAnswer;
 use merge_state::ChunkIdx;
 use merge_state::ModuleIdx;
+use merge_state::NONE;
 use merge_state::Sizes;
 
 fn done_told(numbers: &[u64], at: usize, r: DoneAnswer) -> Step {
@@ -49,7 +50,7 @@ fn said_told(numbers: &[u64], at: usize, r: YesNoAnswer) -> Step {
 fn chunk_found(numbers: &[u64], at: usize, c: OptionChunkIdx) -> Step {
     match c {
         OptionChunkIdx::Some(x) => value_told(numbers, at, 0, x.0 as u64),
-        OptionChunkIdx::None => value_told(numbers, at, 0, 4294967295),
+        OptionChunkIdx::None => value_told(numbers, at, 0, NONE as u64),
     }
 }
 
@@ -298,7 +299,7 @@ fn replay_pairs(
 }
 
 // A case whose sizes stand at a place.
-pub fn replay(numbers: &[u64], at: usize, area: &mut [u32]) -> Tally {
+pub(crate) fn replay(numbers: &[u64], at: usize, area: &mut [u32]) -> Tally {
     let z = Sizes {
         chunks: one(numbers, at) as usize,
         modules: further(numbers, at, 1) as usize,

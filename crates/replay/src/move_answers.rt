@@ -14,7 +14,7 @@ use reduced_chunk_graph::MoveAnswer;
 use reduced_chunk_graph::NumberAnswer;
 use reduced_chunk_graph::SetAnswer;
 
-pub fn load_told(numbers: &[u64], at: usize, r: LoadAnswer) -> Step {
+pub(crate) fn load_told(numbers: &[u64], at: usize, r: LoadAnswer) -> Step {
     match r {
         LoadAnswer::Acyclic => value_told(numbers, at, 0, 0),
         LoadAnswer::Cyclic => value_told(numbers, at, 0, 1),
@@ -22,7 +22,7 @@ pub fn load_told(numbers: &[u64], at: usize, r: LoadAnswer) -> Step {
     }
 }
 
-pub fn move_told(numbers: &[u64], at: usize, r: MoveAnswer) -> Step {
+pub(crate) fn move_told(numbers: &[u64], at: usize, r: MoveAnswer) -> Step {
     match r {
         MoveAnswer::Accepted => value_told(numbers, at, 0, 1),
         MoveAnswer::Rejected => value_told(numbers, at, 0, 0),
@@ -30,7 +30,7 @@ pub fn move_told(numbers: &[u64], at: usize, r: MoveAnswer) -> Step {
     }
 }
 
-pub fn number_told(numbers: &[u64], at: usize, r: NumberAnswer) -> Step {
+pub(crate) fn number_told(numbers: &[u64], at: usize, r: NumberAnswer) -> Step {
     match r {
         NumberAnswer::Number(n) => value_told(numbers, at, 0, n),
         NumberAnswer::Refused(row) => value_told(numbers, at, row, 0),
@@ -53,7 +53,7 @@ fn set_same(numbers: &[u64], at: usize, w: usize, row: u32, set: EntrySet) -> St
     }
 }
 
-pub fn set_told(numbers: &[u64], at: usize, w: usize, r: SetAnswer) -> Step
+pub(crate) fn set_told(numbers: &[u64], at: usize, w: usize, r: SetAnswer) -> Step
     requires { ⌜ w ≤ 4 ⌝ }
 {
     match r {
@@ -85,7 +85,7 @@ fn edge_step(numbers: &[u64], at: usize, w: usize, row: u32, found: u64, same: b
     }
 }
 
-pub fn edge_told(numbers: &[u64], at: usize, w: usize, r: EdgeAnswer) -> Step
+pub(crate) fn edge_told(numbers: &[u64], at: usize, w: usize, r: EdgeAnswer) -> Step
     requires { ⌜ w ≤ 4 ⌝ }
 {
     let p = skip(numbers, at, 2);

@@ -267,7 +267,7 @@ fn replay_load(
 }
 
 // A case whose sizes stand at a place.
-pub fn replay(numbers: &[u64], at: usize, area: &mut [u32]) -> Tally {
+pub(crate) fn replay(numbers: &[u64], at: usize, area: &mut [u32]) -> Tally {
     let a = one(numbers, at) as usize;
     let d = further(numbers, at, 1) as usize;
     let e = further(numbers, at, 2) as usize;

@@ -135,7 +135,7 @@ pub fn small(x: u64) -> u32
 }
 
 // As many numbers as the list has room for, from a place on.
-pub fn copy_small(numbers: &[u64], at: usize, list: &mut [u32]) {
+pub(crate) fn copy_small(numbers: &[u64], at: usize, list: &mut [u32]) {
     let mut i = 0;
     while i < list.len() {
         list[i] = small(further(numbers, at, i));
@@ -143,7 +143,7 @@ pub fn copy_small(numbers: &[u64], at: usize, list: &mut [u32]) {
     }
 }
 
-pub fn copy_wide(numbers: &[u64], at: usize, list: &mut [u64]) {
+pub(crate) fn copy_wide(numbers: &[u64], at: usize, list: &mut [u64]) {
     let mut i = 0;
     while i < list.len() {
         list[i] = further(numbers, at, i);
@@ -152,7 +152,7 @@ pub fn copy_wide(numbers: &[u64], at: usize, list: &mut [u64]) {
 }
 
 // The list's numbers stand at a place.
-pub fn same_list(numbers: &[u64], at: usize, list: &[u32]) -> bool {
+pub(crate) fn same_list(numbers: &[u64], at: usize, list: &[u32]) -> bool {
     let mut i = 0;
     while i < list.len() {
         if small(further(numbers, at, i)) != list[i] {

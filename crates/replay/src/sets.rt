@@ -51,7 +51,7 @@ fn word(numbers: &[u64], at: usize, w: usize, i: usize) -> u64 {
 }
 
 // The set at a place is this one.
-pub fn same_set(numbers: &[u64], at: usize, w: usize, set: EntrySet) -> bool {
+pub(crate) fn same_set(numbers: &[u64], at: usize, w: usize, set: EntrySet) -> bool {
     if word(numbers, at, w, 0) != set.0 {
         return false;
     }

@@ -24,7 +24,7 @@ pub struct Tally {
 }
 
 // Before the first call.
-pub fn begun() -> Tally {
+pub(crate) fn begun() -> Tally {
     Tally {
         end: 0,
         calls: 0,

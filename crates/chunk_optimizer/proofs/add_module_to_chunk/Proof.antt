@@ -1,16 +1,11 @@
-use Rattle.merge_laws.specs.May.{may-add, may-init, may-calc, may-ask, may-reach, pair-merge, may-merge, warn-is, reach-is, temp-stands, temp-past, temp-none, temp-some}
-use Rattle.merge_laws.specs.Rows.{refused-called, acted-called, stood, may-register}
+use Rattle.merge_laws.specs.May.{may-add}
+use Rattle.merge_laws.specs.Rows.{refused-called, acted-called}
 use Rattle.merge_area.specs.Writes.{write}
 use Rattle.merge_state.specs.Table.{acted}
-use mathlib.Core.Path.{_≡_, sym, refl, ap, _∙_}
-use native.Mathlib.Omega.{arith}
+use mathlib.Core.Path.{refl}
 use borrow.Author.Needs.{needs}
 use Rattle.chunk_optimizer.proofs.add_module_to_chunk.Statement.{statement}
 use Rattle.chunk_optimizer.proofs.add_module_to_chunk.Tie as tie
-use Rattle.chunk_optimizer.proofs.add_module_to_chunk.Reads as reads
-use Rattle.chunk_optimizer.proofs.add_module_to_chunk.Lts as lts
-use Rattle.merge_rows.proofs.rows.add_row.Reads as add-row-reads
-use Rattle.merge_writes.proofs.append.Reads as append-reads
 
 -- src/lib.rt:64:9
 add-row-requires : tie.Need-add-row-requires

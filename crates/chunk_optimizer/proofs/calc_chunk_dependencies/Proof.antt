@@ -1,17 +1,12 @@
-use Rattle.merge_laws.specs.May.{may-add, may-init, may-calc, may-ask, may-reach, pair-merge, may-merge, warn-is, reach-is, temp-stands, temp-past, temp-none, temp-some}
-use Rattle.merge_laws.specs.Rows.{refused-called, acted-called, stood, may-register}
+use Rattle.merge_laws.specs.May.{may-calc}
+use Rattle.merge_laws.specs.Rows.{refused-called, acted-called}
 use Rattle.merge_area.specs.Writes.{write}
 use Rattle.merge_state.specs.Table.{acted}
-use mathlib.Core.Path.{_≡_, sym, refl, ap, _∙_}
+use mathlib.Core.Path.{refl}
 use native.Mathlib.Omega.{arith}
 use borrow.Author.Needs.{needs}
 use Rattle.chunk_optimizer.proofs.calc_chunk_dependencies.Statement.{statement}
 use Rattle.chunk_optimizer.proofs.calc_chunk_dependencies.Tie as tie
-use Rattle.chunk_optimizer.proofs.calc_chunk_dependencies.Reads as reads
-use Rattle.chunk_optimizer.proofs.calc_chunk_dependencies.Lts as lts
-use Rattle.merge_area.proofs.header.Reads as header-reads
-use Rattle.merge_rows.proofs.rows.calc_row.Reads as calc-row-reads
-use Rattle.merge_writes.proofs.calculate.Reads as calculate-reads
 
 -- src/lib.rt:109:9
 calc-row-requires : tie.Need-calc-row-requires

@@ -1,18 +1,11 @@
-use Rattle.merge_laws.specs.May.{may-add, may-init, may-calc, may-ask, may-reach, pair-merge, may-merge, warn-is, reach-is, temp-stands, temp-past, temp-none, temp-some}
-use Rattle.merge_laws.specs.Rows.{refused-called, acted-called, stood, may-register}
+use Rattle.merge_laws.specs.May.{may-init}
+use Rattle.merge_laws.specs.Rows.{refused-called, acted-called}
 use Rattle.merge_area.specs.Writes.{write}
 use Rattle.merge_state.specs.Table.{acted}
-use mathlib.Core.Path.{_≡_, sym, refl, ap, _∙_}
-use native.Mathlib.Omega.{arith}
+use mathlib.Core.Path.{refl}
 use borrow.Author.Needs.{needs}
 use Rattle.chunk_optimizer.proofs.init_module_assignment.Statement.{statement}
 use Rattle.chunk_optimizer.proofs.init_module_assignment.Tie as tie
-use Rattle.chunk_optimizer.proofs.init_module_assignment.Reads as reads
-use Rattle.chunk_optimizer.proofs.init_module_assignment.Lts as lts
-use Rattle.entry_set.proofs.from_list.Reads as from-list-reads
-use Rattle.merge_rows.proofs.rows.find_chunk.Reads as find-chunk-reads
-use Rattle.merge_rows.proofs.rows.init_row.Reads as init-row-reads
-use Rattle.merge_writes.proofs.assign.Reads as assign-reads
 
 -- src/lib.rt:43:9
 init-row-requires : tie.Need-init-row-requires

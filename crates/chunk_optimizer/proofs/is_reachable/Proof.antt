@@ -1,17 +1,11 @@
-use Rattle.merge_laws.specs.May.{may-add, may-init, may-calc, may-ask, may-reach, pair-merge, may-merge, warn-is, reach-is, temp-stands, temp-past, temp-none, temp-some}
-use Rattle.merge_laws.specs.Rows.{refused-called, acted-called, stood, may-register}
+use Rattle.merge_laws.specs.May.{may-reach, reach-is}
+use Rattle.merge_laws.specs.Rows.{refused-called, acted-called}
 use Rattle.merge_area.specs.Writes.{write}
-use Rattle.merge_state.specs.Table.{acted}
-use mathlib.Core.Path.{_≡_, sym, refl, ap, _∙_}
+use mathlib.Core.Path.{refl}
 use native.Mathlib.Omega.{arith}
 use borrow.Author.Needs.{needs}
 use Rattle.chunk_optimizer.proofs.is_reachable.Statement.{statement}
 use Rattle.chunk_optimizer.proofs.is_reachable.Tie as tie
-use Rattle.chunk_optimizer.proofs.is_reachable.Reads as reads
-use Rattle.chunk_optimizer.proofs.is_reachable.Lts as lts
-use Rattle.merge_area.proofs.header.Reads as header-reads
-use Rattle.merge_rows.proofs.rows.reach_row.Reads as reach-row-reads
-use Rattle.merge_warning.proofs.reaches.Reads as reaches-reads
 
 -- src/lib.rt:134:9
 reach-row-requires : tie.Need-reach-row-requires

@@ -1,16 +1,11 @@
-use Rattle.merge_laws.specs.May.{may-add, may-init, may-calc, may-ask, may-reach, pair-merge, may-merge, warn-is, reach-is, temp-stands, temp-past, temp-none, temp-some}
-use Rattle.merge_laws.specs.Rows.{refused-called, acted-called, stood, may-register}
+use Rattle.merge_laws.specs.May.{pair-merge, may-merge}
+use Rattle.merge_laws.specs.Rows.{refused-called, acted-called}
 use Rattle.merge_area.specs.Writes.{write}
 use Rattle.merge_state.specs.Table.{acted}
-use mathlib.Core.Path.{_≡_, sym, refl, ap, _∙_}
-use native.Mathlib.Omega.{arith}
+use mathlib.Core.Path.{refl}
 use borrow.Author.Needs.{needs}
 use Rattle.chunk_optimizer.proofs.merge_chunk_dependencies.Statement.{statement}
 use Rattle.chunk_optimizer.proofs.merge_chunk_dependencies.Tie as tie
-use Rattle.chunk_optimizer.proofs.merge_chunk_dependencies.Reads as reads
-use Rattle.chunk_optimizer.proofs.merge_chunk_dependencies.Lts as lts
-use Rattle.merge_rows.proofs.rows.pair_row.Reads as pair-row-reads
-use Rattle.merge_writes.proofs.merge.Reads as merge-reads
 
 -- src/lib.rt:146:9
 pair-row-requires : tie.Need-pair-row-requires

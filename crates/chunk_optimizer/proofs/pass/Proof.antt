@@ -3,10 +3,6 @@ use Rattle.merge_pass.specs.Called.{may-pass, few-candidates, refused-pass, act
 use borrow.Author.Needs.{needs}
 use Rattle.chunk_optimizer.proofs.pass.Statement.{statement}
 use Rattle.chunk_optimizer.proofs.pass.Tie as tie
-use Rattle.chunk_optimizer.proofs.pass.Reads as reads
-use Rattle.chunk_optimizer.proofs.pass.Lts as lts
-use Rattle.merge_pass.proofs.commit.Reads as commit-reads
-use Rattle.merge_rows.proofs.rows.pass_row.Reads as pass-row-reads
 
 -- src/lib.rt:197:9
 pass-row-requires : tie.Need-pass-row-requires

@@ -1,16 +1,10 @@
-use Rattle.merge_laws.specs.May.{may-add, may-init, may-calc, may-ask, may-reach, pair-merge, may-merge, warn-is, reach-is, temp-stands, temp-past, temp-none, temp-some}
-use Rattle.merge_laws.specs.Rows.{refused-called, acted-called, stood, may-register}
+use Rattle.merge_laws.specs.Rows.{refused-called, acted-called, may-register}
 use Rattle.merge_area.specs.Writes.{write}
 use Rattle.merge_state.specs.Table.{acted}
-use mathlib.Core.Path.{_≡_, sym, refl, ap, _∙_}
-use native.Mathlib.Omega.{arith}
+use mathlib.Core.Path.{refl}
 use borrow.Author.Needs.{needs}
 use Rattle.chunk_optimizer.proofs.register_chunk_graph_index.Statement.{statement}
 use Rattle.chunk_optimizer.proofs.register_chunk_graph_index.Tie as tie
-use Rattle.chunk_optimizer.proofs.register_chunk_graph_index.Reads as reads
-use Rattle.chunk_optimizer.proofs.register_chunk_graph_index.Lts as lts
-use Rattle.merge_rows.proofs.rows.register_row.Reads as register-row-reads
-use Rattle.merge_writes.proofs.register.Reads as register-reads
 
 -- src/lib.rt:77:9
 register-row-requires : tie.Need-register-row-requires

@@ -2,16 +2,13 @@ use borrow.Author.Needs.{needs}
 use Rattle.merge_area.proofs.Laws.{counted, counted-le}
 use Rattle.merge_state.specs.State.{misfit}
 use Rattle.merge_area.specs.Consistent.{faults}
-use Rattle.graphs.specs.Count.{count, count-none, count-more, count-le, ind-le}
+use Rattle.graphs.specs.Count.{count, count-none, count-le}
 use lib.ListN.{getD}
-use mathlib.Core.Path.{_≡_, refl, sym, ap, _∙_}
+use mathlib.Core.Path.{_≡_, sym, ap, _∙_}
 use native.Mathlib.Omega.{arith}
 use Prim.Native.Nat.{_-_, _≤_, _+_}
 use Rattle.merge_area.proofs.count_faults.Statement.{statement}
 use Rattle.merge_area.proofs.count_faults.Tie as tie
-use Rattle.merge_area.proofs.count_faults.Reads as reads
-use Rattle.merge_area.proofs.count_faults.Lts as lts
-use Rattle.merge_area.proofs.count_misfit.Reads as count-misfit-reads
 
 abbrev Inv-loop : tie.InvT-loop
 Inv-loop l at n top free bad₀ i₀ bad i = (i ≤ n) × (bad ≡ count (λ j. misfit top free (getD l (at + j) 0)) i)

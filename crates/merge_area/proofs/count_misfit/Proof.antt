@@ -2,8 +2,6 @@ use Rattle.merge_state.specs.State.{misfit}
 use borrow.Author.Tests.{eq-eqb, ne-eqb, lt-leb, le-leb}
 use Rattle.merge_area.proofs.count_misfit.Statement.{statement}
 use Rattle.merge_area.proofs.count_misfit.Tie as tie
-use Rattle.merge_area.proofs.count_misfit.Reads as reads
-use Rattle.merge_area.proofs.count_misfit.Lts as lts
 
 -- src/lib.rt:54:9
 returns : tie.Need-returns

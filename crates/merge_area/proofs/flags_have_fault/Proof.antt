@@ -4,16 +4,12 @@ use Rattle.merge_area.proofs.Laws.{flags-last}
 use Rattle.merge_area.specs.Consistent.{row-fault, flags-fault}
 use Rattle.graphs.specs.Bools.{or-left}
 use Rattle.graphs.specs.Lists.{some-below}
-use mathlib.Core.Bool.{false, _||_}
-use mathlib.Core.Path.{_≡_, refl, sym, ap, _∙_}
+use mathlib.Core.Bool.{false}
+use mathlib.Core.Path.{_≡_, sym, _∙_}
 use native.Mathlib.Omega.{arith}
-use Prim.Native.Nat.{_-_, _≤_, _*_}
+use Prim.Native.Nat.{_-_, _≤_}
 use Rattle.merge_area.proofs.flags_have_fault.Statement.{statement}
 use Rattle.merge_area.proofs.flags_have_fault.Tie as tie
-use Rattle.merge_area.proofs.flags_have_fault.Reads as reads
-use Rattle.merge_area.proofs.flags_have_fault.Lts as lts
-use Rattle.merge_area.proofs.count_faults.Reads as count-faults-reads
-use Rattle.merge_area.proofs.row_has_fault.Reads as row-has-fault-reads
 
 abbrev Inv-loop : tie.InvT-loop
 Inv-loop area c n x₀ x = (x ≤ n) × (some-below (row-fault area c n) x ≡ false)

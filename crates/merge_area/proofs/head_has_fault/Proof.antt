@@ -1,14 +1,8 @@
 use Rattle.merge_area.proofs.Laws.{head-first, head-second, head-third, head-last}
 use native.Mathlib.Omega.{arith}
-use mathlib.Core.Path.{_≡_, refl, sym, ap, _∙_}
-use Rattle.merge_area.specs.Consistent.{head-fault}
-use borrow.Author.Tests.{lt-ltb, le-ltb}
 use borrow.Author.Needs.{needs}
 use Rattle.merge_area.proofs.head_has_fault.Statement.{statement}
 use Rattle.merge_area.proofs.head_has_fault.Tie as tie
-use Rattle.merge_area.proofs.head_has_fault.Reads as reads
-use Rattle.merge_area.proofs.head_has_fault.Lts as lts
-use Rattle.merge_area.proofs.header.Reads as header-reads
 
 -- src/lib.rt:108:16
 header-requires : tie.Need-header-requires

@@ -1,18 +1,10 @@
 use Rattle.merge_area.proofs.Laws.{odd-head, odd-flags, odd-index, odd-range, odd-twice, flags-now}
 use Rattle.merge_area.specs.Within.{headed}
-use mathlib.Core.Path.{_≡_, refl, sym, ap, _∙_}
+use mathlib.Core.Path.{sym, _∙_}
 use native.Mathlib.Omega.{arith}
 use borrow.Author.Needs.{needs}
 use Rattle.merge_area.proofs.is_inconsistent.Statement.{statement}
 use Rattle.merge_area.proofs.is_inconsistent.Tie as tie
-use Rattle.merge_area.proofs.is_inconsistent.Reads as reads
-use Rattle.merge_area.proofs.is_inconsistent.Lts as lts
-use Rattle.merge_area.proofs.count_index_faults.Reads as count-index-faults-reads
-use Rattle.merge_area.proofs.flags_have_fault.Reads as flags-have-fault-reads
-use Rattle.merge_area.proofs.head_has_fault.Reads as head-has-fault-reads
-use Rattle.merge_area.proofs.header.Reads as header-reads
-use Rattle.merge_area.proofs.sets_out_of_range.Reads as sets-out-of-range-reads
-use Rattle.merge_area.proofs.sets_repeat.Reads as sets-repeat-reads
 
 -- src/lib.rt:210:8
 head-has-fault-requires : tie.Need-head-has-fault-requires

@@ -1,10 +1,7 @@
 use Rattle.merge_area.specs.Consistent.{over}
 use borrow.Author.Tests.{eq-eqb, ne-eqb, lt-ltb, le-ltb}
-use borrow.Author.Tests.{eq-eqb, ne-eqb, lt-ltb, le-ltb, le-leb, lt-leb}
 use Rattle.merge_area.proofs.over_limits.Statement.{statement}
 use Rattle.merge_area.proofs.over_limits.Tie as tie
-use Rattle.merge_area.proofs.over_limits.Reads as reads
-use Rattle.merge_area.proofs.over_limits.Lts as lts
 
 -- src/lib.rt:18:9
 returns : tie.Need-returns

@@ -1,13 +1,9 @@
-use mathlib.Core.Path.{_≡_, refl, sym, ap, _∙_}
 use Rattle.entry_set.specs.SetLaws.{sets-room}
 use Rattle.merge_area.specs.Consistent.{row-fault}
 use native.Mathlib.Omega.{arith}
 use borrow.Author.Needs.{needs}
 use Rattle.merge_area.proofs.row_has_fault.Statement.{statement}
 use Rattle.merge_area.proofs.row_has_fault.Tie as tie
-use Rattle.merge_area.proofs.row_has_fault.Reads as reads
-use Rattle.merge_area.proofs.row_has_fault.Lts as lts
-use Rattle.merge_area.proofs.count_faults.Reads as count-faults-reads
 
 -- src/lib.rt:83:34
 mul-count-faults : tie.Need-mul-count-faults

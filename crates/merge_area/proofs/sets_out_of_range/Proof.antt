@@ -4,15 +4,11 @@ use native.Mathlib.Omega.{arith}
 use Rattle.merge_area.proofs.Laws.{range-eq}
 use Rattle.merge_area.specs.Consistent.{out-of-range}
 use Rattle.graphs.specs.Lists.{some-below}
-use mathlib.Core.Bool.{false, not}
+use mathlib.Core.Bool.{false}
 use mathlib.Core.Path.{_≡_, sym, ap, _∙_}
 use Prim.Native.Nat.{_-_, _≤_}
 use Rattle.merge_area.proofs.sets_out_of_range.Statement.{statement}
 use Rattle.merge_area.proofs.sets_out_of_range.Tie as tie
-use Rattle.merge_area.proofs.sets_out_of_range.Reads as reads
-use Rattle.merge_area.proofs.sets_out_of_range.Lts as lts
-use Rattle.entry_set.proofs.in_range.Reads as in-range-reads
-use Rattle.merge_area.proofs.set_of.Reads as set-of-reads
 
 abbrev Inv-loop : tie.InvT-loop
 Inv-loop sizes area n i₀ i = (i ≤ n) × (some-below (out-of-range sizes area) i ≡ false)

@@ -1,14 +1,9 @@
 use Rattle.merge_area.proofs.Laws.{stands-over, stands-many, stands-lists, stands-short, stands-odd, stands}
 use Rattle.merge_area.specs.Within.{within, longs}
-use mathlib.Core.Path.{_≡_, refl, sym, ap, _∙_}
+use mathlib.Core.Path.{sym, _∙_}
 use borrow.Author.Needs.{needs}
 use Rattle.merge_area.proofs.standing_row.Statement.{statement}
 use Rattle.merge_area.proofs.standing_row.Tie as tie
-use Rattle.merge_area.proofs.standing_row.Reads as reads
-use Rattle.merge_area.proofs.standing_row.Lts as lts
-use Rattle.merge_area.proofs.is_inconsistent.Reads as is-inconsistent-reads
-use Rattle.merge_area.proofs.over_limits.Reads as over-limits-reads
-use Rattle.merge_area.proofs.too_short.Reads as too-short-reads
 
 -- src/lib.rt:246:8
 over-limits-requires : tie.Need-over-limits-requires

@@ -1,10 +1,8 @@
-use mathlib.Core.Path.{_≡_, refl, sym, ap, _∙_}
+use mathlib.Core.Path.{refl}
 use Rattle.merge_area.specs.Consistent.{short}
 use borrow.Author.Needs.{needs}
 use Rattle.merge_area.proofs.too_short.Statement.{statement}
 use Rattle.merge_area.proofs.too_short.Tie as tie
-use Rattle.merge_area.proofs.too_short.Reads as reads
-use Rattle.merge_area.proofs.too_short.Lts as lts
 
 -- src/lib.rt:37:18
 mul-result : tie.Need-mul-result

@@ -5,10 +5,6 @@ use Rattle.merge_area.specs.Layout.{cell, head}
 use Rattle.merge_pass.specs.Going.{Going, going-none, going-can, going-more, going-length, going-kinds, going-numbers, going-done}
 use Rattle.merge_pass.proofs.commit.Statement.{statement}
 use Rattle.merge_pass.proofs.commit.Tie as tie
-use Rattle.merge_pass.proofs.commit.Reads as reads
-use Rattle.merge_pass.proofs.commit.Lts as lts
-use Rattle.merge_area.proofs.header.Reads as header-reads
-use Rattle.merge_pass.proofs.turn.Reads as turn-reads
 
 abbrev Inv-loop : tie.InvT-loop
 Inv-loop sizes area₀ proposals bars kinds₀ numbers₀ made j₀ k₀ area kinds numbers j k = (made ≡ cell area₀ (head sizes 1)) × Going sizes area₀ proposals bars kinds₀ numbers₀ k j area kinds numbers

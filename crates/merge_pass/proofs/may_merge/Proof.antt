@@ -4,10 +4,6 @@ use Rattle.merge_pass.specs.Placing.{not-proposed, barred, asked}
 use borrow.Author.Needs.{needs}
 use Rattle.merge_pass.proofs.may_merge.Statement.{statement}
 use Rattle.merge_pass.proofs.may_merge.Tie as tie
-use Rattle.merge_pass.proofs.may_merge.Reads as reads
-use Rattle.merge_pass.proofs.may_merge.Lts as lts
-use Rattle.merge_area.proofs.header.Reads as header-reads
-use Rattle.merge_warning.proofs.warn.Reads as warn-reads
 
 -- src/lib.rt:21:9
 returns : tie.Need-returns

@@ -5,12 +5,6 @@ use Rattle.merge_pass.specs.Placing.{placed-merged, placed-created}
 use borrow.Author.Needs.{needs}
 use Rattle.merge_pass.proofs.place.Statement.{statement}
 use Rattle.merge_pass.proofs.place.Tie as tie
-use Rattle.merge_pass.proofs.place.Reads as reads
-use Rattle.merge_pass.proofs.place.Lts as lts
-use Rattle.merge_area.proofs.header.Reads as header-reads
-use Rattle.merge_pass.proofs.may_merge.Reads as may-merge-reads
-use Rattle.merge_writes.proofs.create.Reads as create-reads
-use Rattle.merge_writes.proofs.merge.Reads as merge-reads
 
 -- src/lib.rt:35:8
 may-merge-requires : tie.Need-may-merge-requires

@@ -2,8 +2,6 @@ use Rattle.merge_warning.specs.Hits.{hit-none, hit-some}
 use borrow.Author.Needs.{needs}
 use Rattle.merge_warning.proofs.hits.Statement.{statement}
 use Rattle.merge_warning.proofs.hits.Tie as tie
-use Rattle.merge_warning.proofs.hits.Reads as reads
-use Rattle.merge_warning.proofs.hits.Lts as lts
 
 -- src/lib.rt:16:8
 mul-if1 : tie.Need-mul-if1

@@ -1,12 +1,9 @@
 use native.Mathlib.Omega.{arith}
 use Rattle.merge_warning.specs.Hits.{marked-yes, closed-reach, zeros}
-use mathlib.Core.Path.{_≡_, sym, ap, _∙_}
+use mathlib.Core.Path.{_∙_}
 use borrow.Author.Needs.{needs}
 use Rattle.merge_warning.proofs.reaches.Statement.{statement}
 use Rattle.merge_warning.proofs.reaches.Tie as tie
-use Rattle.merge_warning.proofs.reaches.Reads as reads
-use Rattle.merge_warning.proofs.reaches.Lts as lts
-use Rattle.walks.proofs.closure.Reads as closure-reads
 
 -- src/lib.rt:58:48
 slice-aggregate-closure : tie.Need-slice-aggregate-closure

@@ -4,13 +4,10 @@ use native.Mathlib.Omega.{arith}
 use Rattle.merge_warning.specs.Hits.{hit-at}
 use Rattle.graphs.specs.Lists.{some-below, some-zero}
 use mathlib.Core.Bool.{false}
-use mathlib.Core.Path.{_≡_, sym, ap, _∙_}
+use mathlib.Core.Path.{_≡_, sym, _∙_}
 use Prim.Native.Nat.{_-_, _≤_}
 use Rattle.merge_warning.proofs.some_hit.Statement.{statement}
 use Rattle.merge_warning.proofs.some_hit.Tie as tie
-use Rattle.merge_warning.proofs.some_hit.Reads as reads
-use Rattle.merge_warning.proofs.some_hit.Lts as lts
-use Rattle.merge_warning.proofs.hits.Reads as hits-reads
 
 abbrev Inv-loop : tie.InvT-loop
 Inv-loop flags c n source marks x₀ x = (x ≤ n) × (some-below (hit-at flags c n source marks) x ≡ false)

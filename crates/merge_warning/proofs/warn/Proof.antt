@@ -1,13 +1,8 @@
 use Rattle.merge_warning.specs.Hits.{warns-target, warns-member, zeros}
 use native.Mathlib.Omega.{arith}
-use mathlib.Core.Path.{_≡_, sym, ap, _∙_}
 use borrow.Author.Needs.{needs}
 use Rattle.merge_warning.proofs.warn.Statement.{statement}
 use Rattle.merge_warning.proofs.warn.Tie as tie
-use Rattle.merge_warning.proofs.warn.Reads as reads
-use Rattle.merge_warning.proofs.warn.Lts as lts
-use Rattle.merge_warning.proofs.some_hit.Reads as some-hit-reads
-use Rattle.walks.proofs.closure.Reads as closure-reads
 
 -- src/lib.rt:44:52
 slice-aggregate-closure : tie.Need-slice-aggregate-closure

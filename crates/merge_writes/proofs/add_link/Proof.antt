@@ -2,12 +2,9 @@ use native.Mathlib.Omega.{arith}
 use Rattle.entry_set.specs.SetLaws.{sets-room}
 use Rattle.merge_area.specs.Writes.{link}
 use borrow.Author.Tests.{eq-eqb, ne-eqb}
-use mathlib.Core.Path.{_≡_, refl, sym, ap, _∙_}
 use borrow.Author.Needs.{needs}
 use Rattle.merge_writes.proofs.add_link.Statement.{statement}
 use Rattle.merge_writes.proofs.add_link.Tie as tie
-use Rattle.merge_writes.proofs.add_link.Reads as reads
-use Rattle.merge_writes.proofs.add_link.Lts as lts
 
 -- src/writes.rt:93:9
 returns : tie.Need-returns

@@ -1,14 +1,7 @@
-use Rattle.merge_laws.specs.Keeps.{open-length, open-append, init-new, init-old}
-use lib.ListN.{length}
-use mathlib.Core.Path.{_≡_, refl, sym, ap, _∙_}
+use Rattle.merge_laws.specs.Keeps.{open-append, init-new, init-old}
 use borrow.Author.Needs.{needs}
 use Rattle.merge_writes.proofs.assign.Statement.{statement}
 use Rattle.merge_writes.proofs.assign.Tie as tie
-use Rattle.merge_writes.proofs.assign.Reads as reads
-use Rattle.merge_writes.proofs.assign.Lts as lts
-use Rattle.merge_writes.proofs.append.Reads as append-reads
-use Rattle.merge_writes.proofs.open.Reads as open-reads
-use Rattle.merge_area.proofs.header.Reads as header-reads
 
 -- src/writes.rt:79:13
 header-requires : tie.Need-header-requires

@@ -1,10 +1,6 @@
-use mathlib.Core.Path.{_≡_, refl, sym, ap, _∙_}
 use borrow.Author.Needs.{needs}
 use Rattle.merge_writes.proofs.merge_cell.Statement.{statement}
 use Rattle.merge_writes.proofs.merge_cell.Tie as tie
-use Rattle.merge_writes.proofs.merge_cell.Reads as reads
-use Rattle.merge_writes.proofs.merge_cell.Lts as lts
-use Rattle.merge_writes.proofs.union_of.Reads as union-of-reads
 
 -- src/writes.rt:153:28
 mul-union-of : tie.Need-mul-union-of

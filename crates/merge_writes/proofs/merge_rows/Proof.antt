@@ -3,9 +3,6 @@ use Rattle.merge_laws.specs.Merging.{Half, half-none, half-can, half-more, half
 use Prim.Native.Nat.{_-_}
 use Rattle.merge_writes.proofs.merge_rows.Statement.{statement}
 use Rattle.merge_writes.proofs.merge_rows.Tie as tie
-use Rattle.merge_writes.proofs.merge_rows.Reads as reads
-use Rattle.merge_writes.proofs.merge_rows.Lts as lts
-use Rattle.merge_writes.proofs.merge_cell.Reads as merge-cell-reads
 
 abbrev Inv-loop : tie.InvT-loop
 Inv-loop flags₀ c target source y₀ flags y = Half flags₀ c target source flags y

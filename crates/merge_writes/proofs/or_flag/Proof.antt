@@ -1,9 +1,6 @@
-use mathlib.Core.Bool.{or-true}
 use borrow.Author.Tests.{eq-eqb, ne-eqb}
 use Rattle.merge_writes.proofs.or_flag.Statement.{statement}
 use Rattle.merge_writes.proofs.or_flag.Tie as tie
-use Rattle.merge_writes.proofs.or_flag.Reads as reads
-use Rattle.merge_writes.proofs.or_flag.Lts as lts
 
 -- src/writes.rt:30:9
 returns : tie.Need-returns

@@ -1,8 +1,6 @@
 use Rattle.merge_laws.specs.Merging.{union-self, union-left, union-right, union-none}
 use Rattle.merge_writes.proofs.union_of.Statement.{statement}
 use Rattle.merge_writes.proofs.union_of.Tie as tie
-use Rattle.merge_writes.proofs.union_of.Reads as reads
-use Rattle.merge_writes.proofs.union_of.Lts as lts
 
 -- src/writes.rt:137:9
 returns : tie.Need-returns

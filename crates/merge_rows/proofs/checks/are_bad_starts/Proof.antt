@@ -1,12 +1,8 @@
 use native.Mathlib.Omega.{arith}
 use Rattle.merge_rows.proofs.Laws.{bad-count, bad-begin, bad-end, bad-fall}
-use mathlib.Core.Path.{sym, refl, _∙_}
 use borrow.Author.Needs.{needs}
 use Rattle.merge_rows.proofs.checks.are_bad_starts.Statement.{statement}
 use Rattle.merge_rows.proofs.checks.are_bad_starts.Tie as tie
-use Rattle.merge_rows.proofs.checks.are_bad_starts.Reads as reads
-use Rattle.merge_rows.proofs.checks.are_bad_starts.Lts as lts
-use Rattle.merge_rows.proofs.checks.is_falling.Reads as is-falling-reads
 
 -- src/tests.rt:54:9
 returns : tie.Need-returns

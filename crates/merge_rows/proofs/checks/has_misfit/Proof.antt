@@ -2,9 +2,6 @@ use Rattle.merge_rows.proofs.Laws.{misfit-is}
 use borrow.Author.Needs.{needs}
 use Rattle.merge_rows.proofs.checks.has_misfit.Statement.{statement}
 use Rattle.merge_rows.proofs.checks.has_misfit.Tie as tie
-use Rattle.merge_rows.proofs.checks.has_misfit.Reads as reads
-use Rattle.merge_rows.proofs.checks.has_misfit.Lts as lts
-use Rattle.merge_area.proofs.count_faults.Reads as count-faults-reads
 
 -- src/tests.rt:31:9
 count-faults-requires : tie.Need-count-faults-requires

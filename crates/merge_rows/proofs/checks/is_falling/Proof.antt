@@ -6,12 +6,10 @@ use borrow.Author.Tests.{lt-ltb, le-ltb}
 use lib.Dec.{ltb}
 use lib.ListN.{getD}
 use mathlib.Core.Bool.{false}
-use mathlib.Core.Path.{_≡_, sym, ap, _∙_}
+use mathlib.Core.Path.{_≡_}
 use Prim.Native.Nat.{_-_, _≤_, _+_}
 use Rattle.merge_rows.proofs.checks.is_falling.Statement.{statement}
 use Rattle.merge_rows.proofs.checks.is_falling.Tie as tie
-use Rattle.merge_rows.proofs.checks.is_falling.Reads as reads
-use Rattle.merge_rows.proofs.checks.is_falling.Lts as lts
 
 abbrev Inv-loop : tie.InvT-loop
 Inv-loop starts n i₀ i = (i ≤ n) × (some-below (λ k. ltb (getD starts (k + 1) 0) (getD starts k 0)) i ≡ false)

@@ -1,11 +1,8 @@
-use mathlib.Core.Path.{sym, refl, _∙_}
+use mathlib.Core.Path.{refl}
 use Rattle.merge_state.specs.Pairs.{pairs-length}
 use borrow.Author.Needs.{needs}
 use Rattle.merge_rows.proofs.checks.is_full.Statement.{statement}
 use Rattle.merge_rows.proofs.checks.is_full.Tie as tie
-use Rattle.merge_rows.proofs.checks.is_full.Reads as reads
-use Rattle.merge_rows.proofs.checks.is_full.Lts as lts
-use Rattle.merge_area.proofs.header.Reads as header-reads
 
 -- src/tests.rt:24:22
 header-requires : tie.Need-header-requires

@@ -1,8 +1,6 @@
 use borrow.Author.Tests.{eq-eqb, ne-eqb}
 use Rattle.merge_rows.proofs.checks.is_other_length.Statement.{statement}
 use Rattle.merge_rows.proofs.checks.is_other_length.Tie as tie
-use Rattle.merge_rows.proofs.checks.is_other_length.Reads as reads
-use Rattle.merge_rows.proofs.checks.is_other_length.Lts as lts
 
 -- src/tests.rt:52:9
 returns : tie.Need-returns

@@ -1,10 +1,7 @@
-use mathlib.Core.Path.{sym, refl, _∙_}
+use mathlib.Core.Path.{refl}
 use borrow.Author.Needs.{needs}
 use Rattle.merge_rows.proofs.checks.is_unmade.Statement.{statement}
 use Rattle.merge_rows.proofs.checks.is_unmade.Tie as tie
-use Rattle.merge_rows.proofs.checks.is_unmade.Reads as reads
-use Rattle.merge_rows.proofs.checks.is_unmade.Lts as lts
-use Rattle.merge_area.proofs.header.Reads as header-reads
 
 -- src/tests.rt:16:5
 header-requires : tie.Need-header-requires

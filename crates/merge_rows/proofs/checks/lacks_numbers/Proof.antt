@@ -1,9 +1,6 @@
 use borrow.Author.Needs.{needs}
 use Rattle.merge_rows.proofs.checks.lacks_numbers.Statement.{statement}
 use Rattle.merge_rows.proofs.checks.lacks_numbers.Tie as tie
-use Rattle.merge_rows.proofs.checks.lacks_numbers.Reads as reads
-use Rattle.merge_rows.proofs.checks.lacks_numbers.Lts as lts
-use Rattle.merge_area.proofs.header.Reads as header-reads
 
 -- src/tests.rt:68:19
 header-requires : tie.Need-header-requires

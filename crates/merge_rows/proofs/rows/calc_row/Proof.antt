@@ -1,21 +1,11 @@
 use Rattle.merge_rows.proofs.Laws.{calc-stand}
-use Rattle.merge_laws.specs.Rows.{fits-here, fits-next, fits-none, early, late, stood}
-use Rattle.merge_area.specs.Read.{read}
-use Rattle.merge_state.specs.Table.{over-lists, bad-lists, later, unmade}
-use Rattle.graphs.specs.Bools.{or-left, or-right, or-false}
-use borrow.Author.Tests.{le-leb, lt-leb, eq-eqb, ne-eqb}
-use lib.Dec.{leb}
-use mathlib.Core.Bool.{not}
+use Rattle.merge_laws.specs.Rows.{fits-here, fits-next, fits-none, early, late}
+use Rattle.merge_state.specs.Table.{later}
 use mathlib.Core.List.{[]}
-use mathlib.Core.Path.{_≡_, sym, refl, ap, _∙_}
+use mathlib.Core.Path.{sym, _∙_}
 use borrow.Author.Needs.{needs}
 use Rattle.merge_rows.proofs.rows.calc_row.Statement.{statement}
 use Rattle.merge_rows.proofs.rows.calc_row.Tie as tie
-use Rattle.merge_rows.proofs.rows.calc_row.Reads as reads
-use Rattle.merge_rows.proofs.rows.calc_row.Lts as lts
-use Rattle.merge_rows.proofs.checks.are_bad_starts.Reads as are-bad-starts-reads
-use Rattle.merge_rows.proofs.checks.has_misfit.Reads as has-misfit-reads
-use Rattle.merge_area.proofs.standing_row.Reads as standing-row-reads
 
 -- src/rows.rt:100:9
 are-bad-starts-requires : tie.Need-are-bad-starts-requires

@@ -1,13 +1,7 @@
 use Rattle.merge_rows.proofs.Laws.{found-chunk}
-use mathlib.Core.Path.{_≡_, sym, refl, ap, _∙_}
 use borrow.Author.Needs.{needs}
 use Rattle.merge_rows.proofs.rows.find_chunk.Statement.{statement}
 use Rattle.merge_rows.proofs.rows.find_chunk.Tie as tie
-use Rattle.merge_rows.proofs.rows.find_chunk.Reads as reads
-use Rattle.merge_rows.proofs.rows.find_chunk.Lts as lts
-use Rattle.entry_set.proofs.from_list.Reads as from-list-reads
-use Rattle.merge_area.proofs.chunk_of_set.Reads as chunk-of-set-reads
-use Rattle.merge_area.proofs.header.Reads as header-reads
 
 -- src/rows.rt:24:16
 header-requires : tie.Need-header-requires

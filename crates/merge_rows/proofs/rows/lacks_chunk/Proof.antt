@@ -1,11 +1,8 @@
 use borrow.Author.Tests.{eq-eqb, ne-eqb}
-use mathlib.Core.Path.{_≡_, sym, refl, ap, _∙_}
+use mathlib.Core.Path.{refl}
 use borrow.Author.Needs.{needs}
 use Rattle.merge_rows.proofs.rows.lacks_chunk.Statement.{statement}
 use Rattle.merge_rows.proofs.rows.lacks_chunk.Tie as tie
-use Rattle.merge_rows.proofs.rows.lacks_chunk.Reads as reads
-use Rattle.merge_rows.proofs.rows.lacks_chunk.Lts as lts
-use Rattle.merge_area.proofs.header.Reads as header-reads
 
 -- src/rows.rt:34:9
 returns : tie.Need-returns

@@ -2,18 +2,12 @@ use Rattle.merge_laws.specs.Rows.{fits-here, fits-next, fits-none, early, late,
 use Rattle.merge_area.specs.Read.{read}
 use Rattle.merge_state.specs.Table.{over-lists, bad-lists, later, unmade}
 use Rattle.graphs.specs.Bools.{or-left, or-right, or-false}
-use borrow.Author.Tests.{le-leb, lt-leb, eq-eqb, ne-eqb}
-use lib.Dec.{leb}
-use mathlib.Core.Bool.{not}
+use borrow.Author.Tests.{eq-eqb, ne-eqb}
 use mathlib.Core.List.{[]}
-use mathlib.Core.Path.{_≡_, sym, refl, ap, _∙_}
+use mathlib.Core.Path.{sym, _∙_}
 use borrow.Author.Needs.{needs}
 use Rattle.merge_rows.proofs.rows.pair_row.Statement.{statement}
 use Rattle.merge_rows.proofs.rows.pair_row.Tie as tie
-use Rattle.merge_rows.proofs.rows.pair_row.Reads as reads
-use Rattle.merge_rows.proofs.rows.pair_row.Lts as lts
-use Rattle.merge_rows.proofs.checks.is_unmade.Reads as is-unmade-reads
-use Rattle.merge_area.proofs.standing_row.Reads as standing-row-reads
 
 -- src/rows.rt:114:9
 standing-row-requires : tie.Need-standing-row-requires

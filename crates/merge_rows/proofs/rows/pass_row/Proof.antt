@@ -5,14 +5,6 @@ use native.Mathlib.Omega.{arith}
 use borrow.Author.Needs.{needs}
 use Rattle.merge_rows.proofs.rows.pass_row.Statement.{statement}
 use Rattle.merge_rows.proofs.rows.pass_row.Tie as tie
-use Rattle.merge_rows.proofs.rows.pass_row.Reads as reads
-use Rattle.merge_rows.proofs.rows.pass_row.Lts as lts
-use Rattle.merge_area.proofs.header.Reads as header-reads
-use Rattle.merge_area.proofs.standing_row.Reads as standing-row-reads
-use Rattle.merge_rows.proofs.checks.count_candidates.Reads as count-candidates-reads
-use Rattle.merge_rows.proofs.checks.has_misfit.Reads as has-misfit-reads
-use Rattle.merge_rows.proofs.checks.is_other_length.Reads as is-other-length-reads
-use Rattle.merge_rows.proofs.checks.lacks_numbers.Reads as lacks-numbers-reads
 
 -- src/rows.rt:156:9
 standing-row-requires : tie.Need-standing-row-requires
