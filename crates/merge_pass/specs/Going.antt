@@ -7,6 +7,7 @@ use mathlib.Core.Bool.{Bool, true, cond}
 use mathlib.Core.List.{List}
 use lib.ListN.{getD, length, set}
 use Rattle.graphs.specs.Count.{ind, count, count-none, count-yes, count-mono, count-more}
+use Rattle.layout.specs.Patch.{patch}
 use Rattle.merge_state.specs.declared.Sizes.{Sizes}
 use Rattle.merge_state.specs.State.{None}
 use Rattle.merge_state.specs.Methods.{Passed, passed}
@@ -17,14 +18,14 @@ use Rattle.merge_area.specs.Writes.{candidate-area, pass-area}
 use Rattle.merge_laws.specs.Ordering.{ordered}
 use Rattle.merge_reads.specs.Pass.{Holds, stood-again, can-place, pass-holds}
 use Rattle.merge_pass.specs.Turns.{kind-of, number-of, CanTurn, TurnedIn, CanPass, PassedIn}
-use Rattle.merge_pass.specs.Lists.{over, kinds-listed, numbers-listed, list-none, list-more, list-same, list-done}
+use Rattle.merge_pass.specs.Lists.{kinds-listed, numbers-listed, list-none, list-more, list-same, list-done}
 
 pub record Going (z : Sizes) (a ps bs ks₀ ns₀ : List ℕ) (k j : ℕ) (r ks ns : List ℕ) : Type 0 where
   pub few : k ≤ cell a (head z 1)
   pub place : j ≡ count (needs-in z a) k
   pub area : r ≡ pass-area z a ps bs k
-  pub kinds : ks ≡ over (passed (read z a) ps bs k .kinds) ks₀
-  pub numbers : ns ≡ over (passed (read z a) ps bs k .numbers) ns₀
+  pub kinds : ks ≡ patch 0 (passed (read z a) ps bs k .kinds) ks₀
+  pub numbers : ns ≡ patch 0 (passed (read z a) ps bs k .numbers) ns₀
 
 pub going-none : (z : Sizes) (a ps bs ks ns : List ℕ) → Going z a ps bs ks ns 0 0 a ks ns
 unfolding pass-area
@@ -56,17 +57,14 @@ module _ {z : Sizes} {a ps bs ks₀ ns₀ : List ℕ} (c : CanPass z a ps bs ks�
   below : k < cell a (head z 1) → needs k ≡ true → count needs k < count needs (cell a (head z 1))
   below l n = omega (arith, count-yes needs k n, count-mono needs (k + 1) (cell a (head z 1)) (omega arith))
 
-  below-all : count needs k ≤ count needs (cell a (head z 1))
-  below-all = count-mono needs k (cell a (head z 1)) (v .few)
-
   pub going-length : length r ≡ length a
   going-length = holds .same
 
   pub going-kinds : length ks ≡ length ks₀
-  going-kinds = list-same (λ r. r .kinds) kind-of kinds-listed (read z a) ps bs ks₀ ks k (v .kinds) (omega (arith, below-all, c .kinds))
+  going-kinds = list-same (λ r. r .kinds) kind-of kinds-listed (read z a) ps bs ks₀ ks k (v .kinds)
 
   pub going-numbers : length ns ≡ length ns₀
-  going-numbers = list-same (λ r. r .numbers) number-of numbers-listed (read z a) ps bs ns₀ ns k (v .numbers) (omega (arith, below-all, c .numbers))
+  going-numbers = list-same (λ r. r .numbers) number-of numbers-listed (read z a) ps bs ns₀ ns k (v .numbers)
 
   pub going-can : k < cell a (head z 1) → CanTurn z r ps bs ks ns k j
   going-can l =

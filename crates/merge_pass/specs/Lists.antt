@@ -1,34 +1,24 @@
 -- The two answer lists of the pass, as far as it has come. Assumes nothing.
-use Prim.Native.Nat.{ℕ, zero, suc, _+_, _<_, _≤_}
+use Prim.Native.Nat.{ℕ, zero, suc, _+_, _<_}
 use native.Mathlib.Omega.{arith}
+use native.Mathlib.Nat.{zero-add}
 use native.Mathlib.Numerals.{add-one}
 use mathlib.Core.Path.{_≡_, refl, sym, ap, ap₂, subst, _∙_}
 use mathlib.Core.Bool.{Bool, true, false, cond}
-use mathlib.Core.List.{List, [], _∷_, _++_, append-nil}
-use lib.ListN.{getD, length, set, drop, length-append, length-drop}
-use lib.Seq.{drop-cons, drop-length, set-append-seam, append-snoc}
+use mathlib.Core.List.{List, [], _∷_, _++_}
+use lib.ListN.{getD, length, set, length-append}
+use Rattle.layout.specs.Patch.{patch, is-part, patch-long, patch-in, patch-none, patch-over, patch-append, patch-one, patch-all}
 use Rattle.graphs.specs.Count.{count, count-none, count-yes, count-no}
 use Rattle.merge_state.specs.State.{None, Graph}
 use Rattle.merge_state.specs.Methods.{Passed, merges, candidate, passed}
 use Rattle.merge_pass.specs.Turns.{kind-of, number-of}
 
--- r written over the start of l
-unfoldable pub over : List ℕ → List ℕ → List ℕ
-over r l = r ++ drop (length r) l
-
-over-more : (r l : List ℕ) (v : ℕ) → length r < length l → set (over r l) (length r) v ≡ over (r ++ (v ∷ [])) l
-unfolding over
-over-more r l v h =
-    ap (λ t. set (r ++ t) (length r) v) (drop-cons l (length r) 0 h) ∙ set-append-seam r (getD l (length r) 0) (drop (suc (length r)) l) v ∙ sym (append-snoc r v (drop (suc (length r)) l))
-    ∙ ap (λ n. (r ++ (v ∷ [])) ++ drop n l) (sym (length-append r (v ∷ []) ∙ add-one (length r)))
-
-over-length : (r l : List ℕ) → length r ≤ length l → length (over r l) ≡ length l
-unfolding over
-over-length r l h = omega (arith, length-append r (drop (length r) l), length-drop (length r) l)
-
-over-done : (r l : List ℕ) → length r ≡ length l → over r l ≡ r
-unfolding over
-over-done r l h = ap (λ n. r ++ drop n l) h ∙ ap (λ t. r ++ t) (drop-length l) ∙ append-nil r
+-- one more number behind those that are written
+patch-next : (r l : List ℕ) (v : ℕ) → length r < length l → set (patch 0 r l) (length r) v ≡ patch 0 (r ++ (v ∷ [])) l
+patch-next r l v h =
+    patch-one (length r) v (patch 0 r l) (omega (arith, patch-long 0 r l)) ∙ ap (λ n. patch n (v ∷ []) (patch 0 r l)) (sym (zero-add (length r)))
+    ∙ patch-append 0 r (v ∷ []) (patch 0 r l) (is-part 0 (patch 0 r l) r (λ i b. patch-in 0 r l i b (omega arith)))
+    ∙ patch-over 0 (r ++ (v ∷ [])) r l (omega (arith, length-append r (v ∷ [])))
 
 -- f is one of the two answer lists, v what a candidate adds to it
 pub record Answers (f : Passed → List ℕ) (v : Graph → ℕ → ℕ → ℕ → ℕ) : Type 0 where
@@ -78,21 +68,20 @@ module _ (f : Passed → List ℕ) (v : Graph → ℕ → ℕ → ℕ → ℕ) (
       go true q e = omega (arith, length-append (f (so-far k)) (v (so-far k .graph) k (p k) (b k) ∷ []), count-yes (g .needs) k q)
       go false q e = omega (arith, count-no (g .needs) k q)
 
-  pub list-none : (l : List ℕ) → l ≡ over (f (so-far 0)) l
-  unfolding over
-  list-none l = rw list-begin
+  pub list-none : (l : List ℕ) → l ≡ patch 0 (f (so-far 0)) l
+  list-none l = sym (ap (λ r. patch 0 r l) list-begin ∙ patch-none 0 l)
 
-  pub list-more : (l m m′ : List ℕ) (k : ℕ) → m ≡ over (f (so-far k)) l → (g .needs k ≡ true → count (g .needs) k < length l)
-      → m′ ≡ cond (g .needs k) (set m (count (g .needs) k) (v (so-far k .graph) k (p k) (b k))) m → m′ ≡ over (f (so-far (k + 1))) l
-  list-more l m m′ k e h d = d ∙ go (g .needs k) refl ∙ ap (λ r. over r l) (sym (list-next k))
+  pub list-more : (l m m′ : List ℕ) (k : ℕ) → m ≡ patch 0 (f (so-far k)) l → (g .needs k ≡ true → count (g .needs) k < length l)
+      → m′ ≡ cond (g .needs k) (set m (count (g .needs) k) (v (so-far k .graph) k (p k) (b k))) m → m′ ≡ patch 0 (f (so-far (k + 1))) l
+  list-more l m m′ k e h d = d ∙ go (g .needs k) refl ∙ ap (λ r. patch 0 r l) (sym (list-next k))
     where
-      go : (t : Bool) → g .needs k ≡ t → cond t (set m (count (g .needs) k) (v (so-far k .graph) k (p k) (b k))) m ≡ over (cond t (f (so-far k) ++ (v (so-far k .graph) k (p k) (b k) ∷ [])) (f (so-far k))) l
+      go : (t : Bool) → g .needs k ≡ t → cond t (set m (count (g .needs) k) (v (so-far k .graph) k (p k) (b k))) m ≡ patch 0 (cond t (f (so-far k) ++ (v (so-far k .graph) k (p k) (b k) ∷ [])) (f (so-far k))) l
       go true q =
-          ap₂ (λ x n. set x n (v (so-far k .graph) k (p k) (b k))) e (sym (list-length k)) ∙ over-more (f (so-far k)) l (v (so-far k .graph) k (p k) (b k)) (omega (arith, list-length k, h q))
+          ap₂ (λ x n. set x n (v (so-far k .graph) k (p k) (b k))) e (sym (list-length k)) ∙ patch-next (f (so-far k)) l (v (so-far k .graph) k (p k) (b k)) (omega (arith, list-length k, h q))
       go false q = e
 
-  pub list-same : (l m : List ℕ) (k : ℕ) → m ≡ over (f (so-far k)) l → count (g .needs) k ≤ length l → length m ≡ length l
-  list-same l m k e h = ap length e ∙ over-length (f (so-far k)) l (omega (arith, list-length k))
+  pub list-same : (l m : List ℕ) (k : ℕ) → m ≡ patch 0 (f (so-far k)) l → length m ≡ length l
+  list-same l m k e = ap length e ∙ patch-long 0 (f (so-far k)) l
 
-  pub list-done : (l m : List ℕ) (k : ℕ) → m ≡ over (f (so-far k)) l → count (g .needs) k ≡ length l → m ≡ f (so-far k)
-  list-done l m k e h = e ∙ over-done (f (so-far k)) l (list-length k ∙ h)
+  pub list-done : (l m : List ℕ) (k : ℕ) → m ≡ patch 0 (f (so-far k)) l → count (g .needs) k ≡ length l → m ≡ f (so-far k)
+  list-done l m k e h = e ∙ patch-all (f (so-far k)) l (list-length k ∙ h)
