@@ -7,12 +7,12 @@ use mathlib.Core.Bool.{Bool, true, false, not, _&&_, _||_}
 use mathlib.Core.List.{List, [], _∷_}
 use lib.ListN.{length, getD}
 use lib.Dec.{ltb, leb, eqb}
-use borrow.Author.Tests.{eq-eqb, ne-eqb, eqb-true, le-leb, lt-ltb, ltb-true, not-false}
-use Rattle.graphs.specs.Bools.{alike, and-left, or-false}
+use borrow.Author.Tests.{eq-eqb, ne-eqb, le-leb, lt-ltb, ltb-true}
+use Rattle.graphs.specs.Bools.{alike, or-false}
 use Rattle.graphs.specs.Count.{count, count-pos, count-found, count-ext, count-le}
 use Rattle.graphs.specs.Lists.{some-give, some-take}
 use Rattle.entry_set.specs.declared.EntrySet.{EntrySet}
-use Rattle.entry_set.specs.Sets.{value, number, Holds, legal, width}
+use Rattle.entry_set.specs.Sets.{value, number, Holds, legal}
 use Rattle.merge_state.specs.declared.Sizes.{Sizes}
 use Rattle.merge_state.specs.State.{None, chunk-of, misfit, pairs}
 use Rattle.merge_state.specs.State as state
@@ -59,12 +59,6 @@ pub calc-stand : (z : Sizes) (starts deps a : List ℕ) {b : Bool} {q : ℕ} →
     → q ≡ standing z (over-lists (calc-chunk-dependencies starts deps)) (bad-lists z (calc-chunk-dependencies starts deps)) a
 unfolding over-lists bad-lists
 calc-stand z starts deps a e h = h ∙ ap (λ b. standing z (ltb 8192 (length deps)) b a) e
-
--- a legal set has four numbers at most
-pub legal-short : (e : ℕ) (l : List ℕ) {r : Bool} → e ≤ 256 → r ≡ legal e l → not r ≡ false → length l ≤ 4
-legal-short e l b h k =
-    let w = eqb-true (length l) (width e) (and-left (eqb (length l) (width e)) _ (sym h ∙ not-false _ k)) in
-    omega (arith, w)
 
 pub found-chunk : (z : Sizes) (a : List ℕ) {n v r : ℕ} {s : EntrySet} → n ≡ cell a (head z 3) → Holds v s → r ≡ chunk-of (number s) (pairs (named-set z a) n) → r ≡ chunk-of v (sets-in z a)
 found-chunk z a e h q = rw (← e, ← h .value) q

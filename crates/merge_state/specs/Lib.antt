@@ -5,7 +5,6 @@ pub mod Loading
 pub mod Warning
 pub mod Absorbed
 pub mod Ordered
-pub mod Search
 pub mod Pairs
 pub mod Kept
 pub mod LoadKept

@@ -1,11 +1,11 @@
 -- The warning over marks: which marked chunks depend on the source. Assumes nothing.
-use Prim.Native.Nat.{ℕ, zero, suc, _+_, _*_, _<_, _≤_}
+use Prim.Native.Nat.{ℕ, _+_, _*_, _<_, _≤_}
 use native.Mathlib.Omega.{arith}
 use mathlib.Core.Path.{_≡_, refl, sym, ap, _∙_}
 use mathlib.Core.Logic.{⊎-elim}
 use mathlib.Core.Bool.{Bool, true, false, not, cond, _&&_, _||_}
 use mathlib.Core.List.{List}
-use lib.ListN.{getD, length, replicate}
+use lib.ListN.{getD, length}
 use lib.Dec.{eqb}
 use borrow.Author.Tests.{eqb-true, eq-eqb, ne-eqb}
 use Rattle.graphs.specs.Bools.{alike, and-left, and-right, and-both, or-cases, or-left, or-right}
@@ -88,11 +88,6 @@ closed-reach l c n x y = alike _ _ there back
 
     back : via (flagEdge l c n) (below n) x y ≡ true → some-below (λ w. (flagEdge l c n x w || flagEdge l c n x w) && (eqb w y || via (flagEdge l c n) (below n) w y)) n ≡ true
     back h = from (sound (flagEdge l c n) (below n) x y h)
-
-pub zeros : (k x : ℕ) → _≡_ {A = ℕ} (getD (replicate k 0) x 0) 0
-zeros zero x = refl
-zeros (suc k) zero = refl
-zeros (suc k) (suc x) = zeros k x
 
 -- a hit, by the two numbers
 module _ (l : List ℕ) (c n s : ℕ) (marks : List ℕ) (x : ℕ) where

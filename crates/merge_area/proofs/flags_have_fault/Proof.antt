@@ -1,9 +1,8 @@
-use Rattle.merge_state.specs.Search.{none-first, none-more, some-found}
+use Rattle.graphs.specs.Lists.{some-zero, none-more, some-found, some-below}
 use Rattle.merge_area.specs.FlagRows.{rows-rest}
 use Rattle.merge_area.proofs.Laws.{flags-last}
 use Rattle.merge_area.specs.Consistent.{row-fault, flags-fault}
 use Rattle.graphs.specs.Bools.{or-left}
-use Rattle.graphs.specs.Lists.{some-below}
 use mathlib.Core.Bool.{false}
 use mathlib.Core.Path.{_≡_, sym, _∙_}
 use native.Mathlib.Omega.{arith}
@@ -19,7 +18,7 @@ abbrev μ-loop : tie.MeasureT-loop
 
 -- src/lib.rt:94:5
 loop-holds : tie.Need-loop-holds Inv-loop μ-loop
-loop-holds c = (omega arith, none-first _)
+loop-holds c = (omega arith, some-zero _)
 
 -- src/lib.rt:95:12
 row-has-fault-requires : tie.Need-row-has-fault-requires Inv-loop μ-loop

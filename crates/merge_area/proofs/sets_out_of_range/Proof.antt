@@ -1,9 +1,8 @@
-use Rattle.merge_state.specs.Search.{none-first, none-more, some-found}
+use Rattle.graphs.specs.Lists.{some-zero, none-more, some-found, some-below}
 use borrow.Author.Needs.{needs}
 use native.Mathlib.Omega.{arith}
 use Rattle.merge_area.proofs.Laws.{range-eq}
 use Rattle.merge_area.specs.Consistent.{out-of-range}
-use Rattle.graphs.specs.Lists.{some-below}
 use mathlib.Core.Bool.{false}
 use mathlib.Core.Path.{_≡_, sym, ap, _∙_}
 use Prim.Native.Nat.{_-_, _≤_}
@@ -18,7 +17,7 @@ abbrev μ-loop : tie.MeasureT-loop
 
 -- src/lib.rt:164:5
 loop-holds : tie.Need-loop-holds Inv-loop μ-loop
-loop-holds c = (omega arith, none-first _)
+loop-holds c = (omega arith, some-zero _)
 
 -- src/lib.rt:165:33
 set-of-requires : tie.Need-set-of-requires Inv-loop μ-loop

@@ -1,5 +1,6 @@
 use native.Mathlib.Omega.{arith}
-use Rattle.merge_warning.specs.Hits.{marked-yes, closed-reach, zeros}
+use Rattle.merge_warning.specs.Hits.{marked-yes, closed-reach}
+use Rattle.graphs.specs.Tab.{zeros}
 use mathlib.Core.Path.{_∙_}
 use borrow.Author.Needs.{needs}
 use Rattle.merge_warning.proofs.reaches.Statement.{statement}

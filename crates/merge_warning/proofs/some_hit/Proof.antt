@@ -1,8 +1,7 @@
 use Rattle.entry_set.specs.SetLaws.{sets-room}
-use Rattle.merge_state.specs.Search.{none-left, none-more, some-found}
+use Rattle.graphs.specs.Lists.{none-left, none-more, some-found, some-below, some-zero}
 use native.Mathlib.Omega.{arith}
 use Rattle.merge_warning.specs.Hits.{hit-at}
-use Rattle.graphs.specs.Lists.{some-below, some-zero}
 use mathlib.Core.Bool.{false}
 use mathlib.Core.Path.{_≡_, sym, _∙_}
 use Prim.Native.Nat.{_-_, _≤_}

@@ -1,4 +1,5 @@
-use Rattle.merge_warning.specs.Hits.{warns-target, warns-member, zeros}
+use Rattle.merge_warning.specs.Hits.{warns-target, warns-member}
+use Rattle.graphs.specs.Tab.{zeros}
 use native.Mathlib.Omega.{arith}
 use borrow.Author.Needs.{needs}
 use Rattle.merge_warning.proofs.warn.Statement.{statement}

@@ -1,6 +1,5 @@
-use Prim.Native.Nat.{_+_}
+use Prim.Native.Nat.{_+_, _-_}
 -- `merge_loading::entries::lister_from` meets its contract. Assumes nothing.
-use Prim.Native.Nat.{_-_}
 use native.Mathlib.Omega.{arith}
 use Rattle.merge_loading.specs.Listing.{CanSeek, seek-in, seek-more, seek-done}
 use Rattle.merge_loading.proofs.entries.lister_from.Statement.{statement}

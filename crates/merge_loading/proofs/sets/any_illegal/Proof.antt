@@ -1,10 +1,9 @@
 -- `merge_loading::sets::any_illegal` meets its contract. Assumes nothing.
-use Rattle.merge_state.specs.Search.{none-left, none-more, some-found}
+use Rattle.graphs.specs.Lists.{none-left, none-more, some-found, some-below, some-zero}
 use Prim.Native.Nat.{_-_, _≤_}
 use native.Mathlib.Omega.{arith}
 use mathlib.Core.Path.{_≡_, sym, _∙_}
 use mathlib.Core.Bool.{not, false}
-use Rattle.graphs.specs.Lists.{some-below, some-zero}
 use Rattle.entry_set.specs.Sets.{legal}
 use Rattle.merge_state.specs.Loading.{set-at}
 use Rattle.merge_loading.specs.Sets.{test-narrow, test-room, illegal-is}

@@ -1,7 +1,6 @@
-use Rattle.merge_state.specs.Search.{none-left, none-more, some-found}
+use Rattle.graphs.specs.Lists.{none-left, none-more, some-found, some-below, some-zero}
 use native.Mathlib.Omega.{arith}
 use Rattle.merge_state.specs.Table.{falling}
-use Rattle.graphs.specs.Lists.{some-below, some-zero}
 use borrow.Author.Tests.{lt-ltb, le-ltb}
 use lib.Dec.{ltb}
 use lib.ListN.{getD}

@@ -6,7 +6,8 @@ use borrow.Author.Tests.{le-leb, lt-leb}
 use Rattle.graphs.specs.Bools.{or-left, or-right}
 use Rattle.merge_state.specs.Table.{over-lists, bad-lists, later}
 use Rattle.merge_laws.specs.Rows.{fits-here, early, late, stood}
-use Rattle.merge_rows.proofs.Laws.{legal-short, init-room}
+use Rattle.entry_set.specs.SetLaws.{legal-short}
+use Rattle.merge_rows.proofs.Laws.{init-room}
 use borrow.Author.Needs.{needs}
 use Rattle.merge_rows.proofs.rows.init_row.Statement.{statement}
 use Rattle.merge_rows.proofs.rows.init_row.Tie as tie
