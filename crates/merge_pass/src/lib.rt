@@ -58,7 +58,8 @@ fn turn(
     requires { ⌜ CanTurn sizes (now area) (now proposals) (now bars) (now kinds) (now numbers) k j ⌝ }
     ensures { λ r. ⌜ TurnedIn sizes (now (area .entry)) (now (proposals .entry)) (now (bars .entry)) (now (kinds .entry)) (now (numbers .entry)) k j r (now (area .exit)) (now (kinds .exit)) (now (numbers .exit)) ⌝ }
 {
-    if area[need_place(sizes, k)] == 0 {
+    let need = need_place(sizes, k);
+    if area[need] == 0 {
         return j;
     }
     let placed = place(sizes, area, ChunkIdx(k as u32), proposals[j], bars[j]);
