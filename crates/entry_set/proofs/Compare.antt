@@ -1,4 +1,4 @@
--- Tests on numbers that are made of four: equal, less and in range, number by number. Assumes nothing.
+-- Tests on numbers that are made of several: equal, less and in range, number by number. Assumes nothing.
 use Prim.Native.Nat.{ℕ, suc, _+_, _-_, _*_, _/_, _%_, _^_, _<_, _≤_}
 use mathlib.Core.Path.{_≡_, refl, sym, ap, ap₂, _∙_, subst}
 use mathlib.Core.Bool.{Bool, true, false, cond, _&&_}
@@ -57,17 +57,6 @@ Known s = Fits w64 (s .0) × (Fits w64 (s .1) × (Fits w64 (s .2) × (Fits w64 (
 pub known : (s : EntrySet) → Known s → (i : ℕ) → getD (numbers s) i 0 < 2 ^ 64
 known s (a, (b, (c, (d, _)))) = small (a .fits) (b .fits) (c .fits) (d .fits)
 
--- the last that differs decides
-last-first : (e f g p q r s : Bool) → cond (e && (f && g)) p (cond (f && g) q (cond g r s)) ≡ cond g (cond f (cond e p q) r) s
-last-first true true true p q r s = refl
-last-first true true false p q r s = refl
-last-first true false true p q r s = refl
-last-first true false false p q r s = refl
-last-first false true true p q r s = refl
-last-first false true false p q r s = refl
-last-first false false true p q r s = refl
-last-first false false false p q r s = refl
-
 last : (d : ℕ) → d + 2 ^ 64 * 0 ≡ d
 last d = omega arith
 
@@ -76,13 +65,6 @@ module _ (a b : EntrySet) (ha : (i : ℕ) → getD (numbers a) i 0 < 2 ^ 64) (hb
   pub equal-four : {p q r s : Bool} → eqb (a .0) (b .0) ≡ p → eqb (a .1) (b .1) ≡ q → eqb (a .2) (b .2) ≡ r → eqb (a .3) (b .3) ≡ s → eqb (number a) (number b) ≡ p && (q && (r && s))
   unfolding joined
   equal-four p q r s = rw (last (a .3), last (b .3), equal-step 64 _ _ (ha 0) (hb 0), equal-step 64 _ _ (ha 1) (hb 1), equal-step 64 _ _ (ha 2) (hb 2), p, q, r, s)
-
-  pub less-four : {q r s : Bool} → eqb (a .1) (b .1) ≡ q → eqb (a .2) (b .2) ≡ r → eqb (a .3) (b .3) ≡ s
-      → ltb (number a) (number b) ≡ cond s (cond r (cond q (ltb (a .0) (b .0)) (ltb (a .1) (b .1))) (ltb (a .2) (b .2))) (ltb (a .3) (b .3))
-  unfolding joined
-  less-four {q} {r} {s} e f g =
-      rw (last (a .3), last (b .3), less-step 64 _ _ (ha 0) (hb 0), less-step 64 _ _ (ha 1) (hb 1), less-step 64 _ _ (ha 2) (hb 2), equal-step 64 _ _ (ha 1) (hb 1), equal-step 64 _ _ (ha 2) (hb 2), e, f, g)
-      (last-first q r s (ltb (a .0) (b .0)) (ltb (a .1) (b .1)) (ltb (a .2) (b .2)) (ltb (a .3) (b .3)))
 
 -- four numbers in range: each of them, the limit falling
 pub range-four : {a b c : ℕ} (d e : ℕ) → a < 2 ^ 64 → b < 2 ^ 64 → c < 2 ^ 64

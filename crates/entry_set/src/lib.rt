@@ -34,22 +34,6 @@ pub fn equal(a: EntrySet, b: EntrySet) -> bool
     a.3 == b.3
 }
 
-// As numbers, so the last ones decide first.
-pub fn less(a: EntrySet, b: EntrySet) -> bool
-    ensures { λ r. ⌜ r ≡ ltb (number a) (number b) ⌝ }
-{
-    if a.3 != b.3 {
-        return a.3 < b.3;
-    }
-    if a.2 != b.2 {
-        return a.2 < b.2;
-    }
-    if a.1 != b.1 {
-        return a.1 < b.1;
-    }
-    a.0 < b.0
-}
-
 // No bit of x at or above `limit`.
 fn below(x: u64, limit: usize) -> bool
     ensures { λ r. ⌜ r ≡ ltb x (2 ^ limit) ⌝ }
