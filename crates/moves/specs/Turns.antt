@@ -1,6 +1,6 @@
 -- What the turns of the program's loop do. Assumes nothing.
 use mathlib.Core.Path.{_≡_, sym, ap, _∙_}
-use mathlib.Core.Bool.{Bool, true, cond}
+use mathlib.Core.Bool.{Bool, true, false, cond}
 use mathlib.Core.List.{List}
 use Prim.Native.Nat.{ℕ, _+_, _-_, _≤_, _<_}
 use native.Mathlib.Omega.{arith}
@@ -9,7 +9,7 @@ use lib.Seq.{length-take-le, take-add, take-take, getD-take, ext-getD}
 use Rattle.layout.specs.Patch.{patch, patch-in}
 use Rattle.replies.specs.Room.{Put}
 use Rattle.load_commands.specs.Machine.{halt}
-use Rattle.moves_commands.specs.Program.{State, with-machine}
+use Rattle.moves_commands.specs.Program.{State, with-machine, finish}
 use Rattle.moves.specs.Bytes.{after, said, after-append}
 
 -- the state, stopped where the program doesn't go on: at the end of the input, or because its replies can't be written
@@ -29,26 +29,35 @@ put-starts {text} {l} {l′} {n} p =
     cell : (i : ℕ) → i < length text → getD (patch 0 text l) i 0 ≡ getD text i 0
     cell i h = let e : 0 + i ≡ i = omega arith in rw e at (patch-in 0 text l i h (omega (arith, p .end, p .inside)))
 
+-- and is what is written from there
+pub put-taken : {text l l′ : List ℕ} {n : ℕ} → Put text l 0 l′ n → take n l′ ≡ text
+put-taken {text} {l} {l′} {n} p = let e : n ≡ length text = omega (arith, p .end) in rw e (put-starts p)
+
 -- the first `used` bytes of the input are taken, each once and in order
 pub record Took (st : State (List ℕ)) (input : List ℕ) (st′ : State (List ℕ)) (used : ℕ) (going : Bool) : Type 0 where
   pub inside : used ≤ length input
   pub state : st′ ≡ stopping going (after st (take used input))
 
--- at least one, and the replies to them stand at the start of what is lent for replies, from where they are written
-pub record Answered (st : State (List ℕ)) (input : List ℕ) (st′ : State (List ℕ)) (used : ℕ) (going : Bool) (out : List ℕ) : Type 0 where
+-- a turn: at least one byte is taken, and the first `written` bytes of what is lent for replies are the replies to those taken
+pub record Answered (st : State (List ℕ)) (input : List ℕ) (st′ : State (List ℕ)) (used : ℕ) (going : Bool) (out : List ℕ) (written : ℕ) : Type 0 where
   pub took : Took st input st′ used going
   pub some : 0 < used
-  pub text : StartsWith (said st (take used input)) out
+  pub text : take written out ≡ said st (take used input)
 
--- all of them, unless the replies can't be written
+-- a block: all of its bytes are taken, unless replies can't be written
 pub record TookAll (st : State (List ℕ)) (input : List ℕ) (st′ : State (List ℕ)) (used : ℕ) (going : Bool) : Type 0 where
   pub took : Took st input st′ used going
+  pub some : 0 < length input → 0 < used
   pub all : going ≡ true → used ≡ length input
 
--- the program ran on bytes that it read, each taken once and in order
-pub record Ran (st st′ : State (List ℕ)) : Type 0 where
+-- a read: its bytes are taken as a block; where there are none the program ends, with the last reply
+pub record TookRead (st : State (List ℕ)) (input : List ℕ) (st′ : State (List ℕ)) (used : ℕ) (going : Bool) (out : List ℕ) : Type 0 where
+  pub block : TookAll st input st′ used going
+  pub last : length input ≡ 0 → (going ≡ false) × StartsWith (finish (st .reading .machine)) out
+
+-- the state after some bytes, each taken once and in order: which bytes they are is for the system's `read` to say
+pub record Ran (st st′ : State (List ℕ)) (going : Bool) : Type 0 where
   pub bytes : List ℕ
-  pub going : Bool
   pub state : st′ ≡ stopping going (after st bytes)
 
 -- a turn after others: the bytes used of the rest are the next ones of the whole

@@ -1,23 +1,29 @@
-// The program `moves`: reads commands from standard input to its end, and writes the replies to standard output. What `read` and `write` of
-// the system do with the bytes that they are lent is the one thing that isn't proved.
+// The program `moves`: reads commands from standard input to its end, and writes the replies to standard output. Which bytes the system's `read` and `write`
+// move no contract can say: that they are called with the right lists is to be read in `read_block`, `feed_once` and `end`.
 ghost use mathlib.Core.Path.{_≡_};
-ghost use mathlib.Core.Bool.{true, false};
+ghost use mathlib.Core.Bool.{Bool};
 ghost use Prim.Native.Nat.{_≤_, _<_};
 ghost use lib.ListN.{length, take};
-ghost use Rattle.replies.specs.Room.{Put};
-ghost use Rattle.load_commands.specs.Machine as def;
 ghost use Rattle.load_commands.specs.Machine.{new-machine};
 ghost use Rattle.moves_commands.specs.Program.{finish, fresh};
 ghost use Rattle.moves_commands.specs.Fits.{Ready};
 ghost use Rattle.moves_commands.specs.Feed.{reserve};
 ghost use Rattle.moves_commands.specs.Steps.{held};
-ghost use Rattle.moves.specs.Turns.{Took, Answered, TookAll, Ran, StartsWith};
+ghost use Rattle.moves.specs.Turns.{Took, Answered, TookAll, TookRead, Ran, StartsWith};
 use libc::STDIN_FILENO;
 use libc::STDOUT_FILENO;
 use load_commands::Machine;
 
-// The machine after the bytes that were used; where the program doesn't go on, it has stopped.
+// The machine after the bytes that were used, and how many bytes of replies were written; where the program doesn't go on, the machine has stopped.
 struct Step {
+    machine: Machine,
+    used: usize,
+    written: usize,
+    going: bool,
+}
+
+// The same of a block, whose replies are written turn by turn.
+struct Block {
     machine: Machine,
     used: usize,
     going: bool,
@@ -37,7 +43,7 @@ fn feed_once(
 ) -> Step
     requires { ⌜ Ready (held m (now sets) (now sources) (now dependencies) (now hosts) (now starts) (now area)) ⌝ }
     requires { ⌜ (0 < length (now input)) × (reserve ≤ length (now out)) ⌝ }
-    ensures { λ r. ⌜ Answered (held m (now (sets .entry)) (now (sources .entry)) (now (dependencies .entry)) (now (hosts .entry)) (now (starts .entry)) (now (area .entry))) (now (input .entry)) (held (r .machine) (now (sets .exit)) (now (sources .exit)) (now (dependencies .exit)) (now (hosts .exit)) (now (starts .exit)) (now (area .exit))) (r .used) (r .going) (now (out .exit)) ⌝ }
+    ensures { λ r. ⌜ Answered (held m (now (sets .entry)) (now (sources .entry)) (now (dependencies .entry)) (now (hosts .entry)) (now (starts .entry)) (now (area .entry))) (now (input .entry)) (held (r .machine) (now (sets .exit)) (now (sources .exit)) (now (dependencies .exit)) (now (hosts .exit)) (now (starts .exit)) (now (area .exit))) (r .used) (r .going) (now (out .exit)) (r .written) ⌝ }
 {
     let f = moves_commands::feed(
         m,
@@ -57,12 +63,14 @@ fn feed_once(
         return Step {
             machine: load_commands::halt(machine),
             used,
+            written: n,
             going: false,
         };
     }
     Step {
         machine,
         used,
+        written: n,
         going: true,
     }
 }
@@ -78,7 +86,7 @@ fn feed_block(
     area: &mut [u32],
     input: &[u8],
     out: &mut [u8],
-) -> Step
+) -> Block
     requires { ⌜ Ready (held m (now sets) (now sources) (now dependencies) (now hosts) (now starts) (now area)) ⌝ }
     requires { ⌜ reserve ≤ length (now out) ⌝ }
     ensures { λ r. ⌜ TookAll (held m (now (sets .entry)) (now (sources .entry)) (now (dependencies .entry)) (now (hosts .entry)) (now (starts .entry)) (now (area .entry))) (now (input .entry)) (held (r .machine) (now (sets .exit)) (now (sources .exit)) (now (dependencies .exit)) (now (hosts .exit)) (now (starts .exit)) (now (area .exit))) (r .used) (r .going) ⌝ }
@@ -100,37 +108,32 @@ fn feed_block(
         machine = s.machine;
         at += s.used;
         if !s.going {
-            return Step {
+            return Block {
                 machine,
                 used: at,
                 going: false,
             };
         }
     }
-    Step {
+    Block {
         machine,
         used: at,
         going: true,
     }
 }
 
-// At the end of the input.
-fn end(m: Machine, out: &mut [u8]) -> Step
+// At the end of the input: writes the last reply, and answers how many bytes it has.
+fn end(m: Machine, out: &mut [u8]) -> usize
     requires { ⌜ 64 ≤ length (now out) ⌝ }
-    ensures { λ r. ⌜ (r .machine ≡ def.halt m) × (r .used ≡ 0) × (r .going ≡ false) ⌝ }
-    ensures { λ r. ⌜ StartsWith (finish m) (now (out .exit)) ⌝ }
+    ensures { λ r. ⌜ (r ≡ length (finish m)) × StartsWith (finish m) (now (out .exit)) ⌝ }
 {
     let n = moves_commands::finish(m, out);
     io::write_all(STDOUT_FILENO, &out[..n]);
-    Step {
-        machine: load_commands::halt(m),
-        used: 0,
-        going: false,
-    }
+    n
 }
 
-// Reads a block and feeds it. At the end of the input, or where a read fails, the program doesn't go on.
-fn read_block(
+// Feeds the n bytes that a read gave. Where it gave none the program ends.
+fn feed_read(
     m: Machine,
     sets: &mut [u64],
     sources: &mut [u32],
@@ -138,17 +141,21 @@ fn read_block(
     starts: &mut [u32],
     hosts: &mut [u32],
     area: &mut [u32],
-    input: &mut [u8],
+    input: &[u8],
+    n: usize,
     out: &mut [u8],
-) -> Step
+) -> Block
     requires { ⌜ Ready (held m (now sets) (now sources) (now dependencies) (now hosts) (now starts) (now area)) ⌝ }
-    requires { ⌜ reserve ≤ length (now out) ⌝ }
-    ensures { λ r. ⌜ Took (held m (now (sets .entry)) (now (sources .entry)) (now (dependencies .entry)) (now (hosts .entry)) (now (starts .entry)) (now (area .entry))) (now (input .exit)) (held (r .machine) (now (sets .exit)) (now (sources .exit)) (now (dependencies .exit)) (now (hosts .exit)) (now (starts .exit)) (now (area .exit))) (r .used) (r .going) ⌝ }
+    requires { ⌜ (n ≤ length (now input)) × (reserve ≤ length (now out)) ⌝ }
+    ensures { λ r. ⌜ TookRead (held m (now (sets .entry)) (now (sources .entry)) (now (dependencies .entry)) (now (hosts .entry)) (now (starts .entry)) (now (area .entry))) (take n (now (input .entry))) (held (r .machine) (now (sets .exit)) (now (sources .exit)) (now (dependencies .exit)) (now (hosts .exit)) (now (starts .exit)) (now (area .exit))) (r .used) (r .going) (now (out .exit)) ⌝ }
 {
-    let got = libc::read(STDIN_FILENO, input);
-    let n = io::count(got, input);
     if n == 0 {
-        return end(m, out);
+        end(m, out);
+        return Block {
+            machine: load_commands::halt(m),
+            used: 0,
+            going: false,
+        };
     }
     feed_block(
         m,
@@ -159,6 +166,38 @@ fn read_block(
         hosts,
         area,
         &input[..n],
+        out,
+    )
+}
+
+// Reads a block and feeds it. A read that fails is the end of the input.
+fn read_block(
+    m: Machine,
+    sets: &mut [u64],
+    sources: &mut [u32],
+    dependencies: &mut [u32],
+    starts: &mut [u32],
+    hosts: &mut [u32],
+    area: &mut [u32],
+    input: &mut [u8],
+    out: &mut [u8],
+) -> Block
+    requires { ⌜ Ready (held m (now sets) (now sources) (now dependencies) (now hosts) (now starts) (now area)) ⌝ }
+    requires { ⌜ reserve ≤ length (now out) ⌝ }
+    ensures { λ r. ⌜ Took (held m (now (sets .entry)) (now (sources .entry)) (now (dependencies .entry)) (now (hosts .entry)) (now (starts .entry)) (now (area .entry))) (now (input .exit)) (held (r .machine) (now (sets .exit)) (now (sources .exit)) (now (dependencies .exit)) (now (hosts .exit)) (now (starts .exit)) (now (area .exit))) (r .used) (r .going) ⌝ }
+{
+    let got = libc::read(STDIN_FILENO, input);
+    let n = io::count(got, input);
+    feed_read(
+        m,
+        sets,
+        sources,
+        dependencies,
+        starts,
+        hosts,
+        area,
+        input,
+        n,
         out,
     )
 }
@@ -176,7 +215,7 @@ fn run(
 ) -> Machine
     requires { ⌜ held new-machine (now sets) (now sources) (now dependencies) (now hosts) (now starts) (now area) ≡ fresh (now area) ⌝ }
     requires { ⌜ reserve ≤ length (now out) ⌝ }
-    ensures { λ r. ⌜ Ran (fresh (now (area .entry))) (held r (now (sets .exit)) (now (sources .exit)) (now (dependencies .exit)) (now (hosts .exit)) (now (starts .exit)) (now (area .exit))) ⌝ }
+    ensures { λ r. ⌜ ((going : Bool) × Ran (fresh (now (area .entry))) (held r (now (sets .exit)) (now (sources .exit)) (now (dependencies .exit)) (now (hosts .exit)) (now (starts .exit)) (now (area .exit))) going) ⌝ }
 {
     let mut machine = load_commands::fresh();
     let mut turns: u64 = 9223372036854775808;

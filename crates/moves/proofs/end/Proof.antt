@@ -1,10 +1,10 @@
 -- `moves::end` meets its contract. Assumes nothing.
-use borrow.Author.Needs.{needs}
-use mathlib.Core.Path.{sym, refl}
+use mathlib.Core.Path.{sym}
 use native.Mathlib.Omega.{arith}
 use lib.Seq.{length-take-le}
 use Rattle.moves.specs.Turns.{put-starts}
 use Rattle.moves.proofs.Turning.{finished-put}
+use borrow.Author.Needs.{needs}
 use Rattle.moves.proofs.end.Statement.{statement}
 use Rattle.moves.proofs.end.Tie as tie
 
@@ -20,14 +20,11 @@ slice-aggregate-write-all c = let f = c .before .before .before .finish .ensures
 write-all-requires : tie.Need-write-all-requires
 write-all-requires c κs = search needs
 
-halt-requires : tie.Need-halt-requires
-halt-requires c κs = search needs
-
 same-length : tie.Need-same-length
 same-length c = search needs
 
 returns : tie.Need-returns
-returns c = ((c .halt .ensures, refl, refl), put-starts (finished-put _ (c .before .before .before .before .before .before .before .before .pre) (c .before .before .before .before .before .finish .ensures)))
+returns c = let p = finished-put _ (c .before .before .before .before .before .before .before .pre) (c .before .before .before .before .finish .ensures) in (omega (arith, p .end), put-starts p)
 
 pub end-spec : {M : Type 1} → statement M
 end-spec =
@@ -37,6 +34,5 @@ end-spec =
     slice-reshare-prefix-write-all
     slice-aggregate-write-all
     write-all-requires
-    halt-requires
     same-length
     returns)

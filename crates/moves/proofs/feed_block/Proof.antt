@@ -4,14 +4,16 @@ use native.Mathlib.Omega.{arith}
 use lib.ListN.{length}
 use borrow.Author.Tests.{not-true, not-false}
 use Rattle.moves_commands.specs.Steps.{held}
+use mathlib.Core.Bool.{true}
+use Rattle.moves.specs.Turns.{Took}
 use Rattle.moves.proofs.Lengths.{Kept, kept-first}
-use Rattle.moves.proofs.Turning.{TookTo, took-none, still-ready, part-left, then-took, goes-on, stops, ends}
+use Rattle.moves.proofs.Turning.{took-none, still-ready, part-left, then-took, goes-on, stops, ends}
 use Rattle.moves.proofs.feed_block.Statement.{statement}
 use Rattle.moves.proofs.feed_block.Tie as tie
 
 abbrev Inv-loop : tie.InvT-loop
 Inv-loop sets₀ sources₀ dependencies₀ starts₀ hosts₀ area₀ input out₀ machine₀ at₀ sets sources dependencies starts hosts area out machine at =
-    TookTo (held machine₀ sets₀ sources₀ dependencies₀ hosts₀ starts₀ area₀) input (held machine sets sources dependencies hosts starts area) at
+    Took (held machine₀ sets₀ sources₀ dependencies₀ hosts₀ starts₀ area₀) input (held machine sets sources dependencies hosts starts area) at true
     × Kept (held machine₀ sets₀ sources₀ dependencies₀ hosts₀ starts₀ area₀) (held machine sets sources dependencies hosts starts area) out₀ out
 
 abbrev μ-loop : tie.MeasureT-loop

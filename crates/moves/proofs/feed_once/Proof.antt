@@ -1,10 +1,10 @@
 -- `moves::feed_once` meets its contract. Assumes nothing.
-use borrow.Author.Needs.{needs}
 use mathlib.Core.Path.{sym}
 use mathlib.Core.Bool.{true, false}
 use native.Mathlib.Omega.{arith}
 use lib.Seq.{length-take-le}
 use Rattle.moves.proofs.Turning.{answered}
+use borrow.Author.Needs.{needs}
 use Rattle.moves.proofs.feed_once.Statement.{statement}
 use Rattle.moves.proofs.feed_once.Tie as tie
 

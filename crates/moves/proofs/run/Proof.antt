@@ -4,14 +4,16 @@ use native.Mathlib.Omega.{arith}
 use lib.ListN.{length}
 use Rattle.moves_commands.specs.Program.{fresh}
 use Rattle.moves_commands.specs.Steps.{held}
+use mathlib.Core.Bool.{true}
+use Rattle.moves.specs.Turns.{Ran}
 use Rattle.moves.proofs.Lengths.{Kept, kept-first}
-use Rattle.moves.proofs.Turning.{Went, went-none, went-ready, went-ran, then-ran, then-went, fresh-ready}
+use Rattle.moves.proofs.Turning.{ran-none, ran-ready, then-ran, ran-on, fresh-ready}
 use Rattle.moves.proofs.run.Statement.{statement}
 use Rattle.moves.proofs.run.Tie as tie
 
 abbrev Inv-loop : tie.InvT-loop
 Inv-loop sets₀ sources₀ dependencies₀ starts₀ hosts₀ area₀ input₀ out₀ machine₀ turns₀ sets sources dependencies starts hosts area input out machine turns =
-    Went (fresh area₀) (held machine sets sources dependencies hosts starts area)
+    Ran (fresh area₀) (held machine sets sources dependencies hosts starts area) true
     × Kept (held machine₀ sets₀ sources₀ dependencies₀ hosts₀ starts₀ area₀) (held machine sets sources dependencies hosts starts area) out₀ out
     × (length input ≡ length input₀)
 
@@ -23,10 +25,10 @@ fresh-requires : tie.Need-fresh-requires Inv-loop μ-loop
 fresh-requires c κs = tt
 
 loop-holds : tie.Need-loop-holds Inv-loop μ-loop
-loop-holds c = (went-none (rw (c .fresh .ensures) (c .before .before .before .before .before .before .before .before .before .pre .0)), kept-first, refl)
+loop-holds c = (ran-none (rw (c .fresh .ensures) (c .before .before .before .before .before .before .before .before .before .pre .0)), kept-first, refl)
 
 read-block-requires : tie.Need-read-block-requires Inv-loop μ-loop
-read-block-requires c κs = let i = c .before .before .before .before .before .before .before .before .before .loop .inv in (went-ready (i .0) (fresh-ready (c .before .before .before .before .before .before .before .before .before .before .before .before .before .before .before .before .before .before .before .args .area .now)), omega (arith, i .1 .out-long, c .before .before .before .before .before .before .before .before .before .before .before .before .before .before .before .before .before .before .before .pre .1))
+read-block-requires c κs = let i = c .before .before .before .before .before .before .before .before .before .loop .inv in (ran-ready (i .0) (fresh-ready (c .before .before .before .before .before .before .before .before .before .before .before .before .before .before .before .before .before .before .before .args .area .now)), omega (arith, i .1 .out-long, c .before .before .before .before .before .before .before .before .before .before .before .before .before .before .before .before .before .before .before .pre .1))
 
 same-length : tie.Need-same-length Inv-loop μ-loop
 same-length c = let k = c .before .before .before .before .before .before .before .before .before .before .before .before .before .before .before .before .before .before .before .before .before .before .before .before .before .before .before .before .loop .inv in omega (arith, k .1, k .2)
@@ -53,7 +55,7 @@ same-length-8 : tie.Need-same-length-8 Inv-loop μ-loop
 same-length-8 c = let k = c .before .before .before .before .before .before .before .before .before .before .before .before .before .before .before .before .before .before .before .before .before .before .before .before .before .before .before .before .loop .inv in omega (arith, k .1, k .2)
 
 returns : tie.Need-returns Inv-loop μ-loop
-returns c = then-ran (c .before .before .before .before .before .before .before .before .before .before .before .before .before .before .before .before .before .before .before .before .before .before .before .before .before .before .before .before .loop .inv .0) (c .before .before .before .before .before .before .before .before .before .before .before .before .before .before .before .before .before .before .read-block .ensures)
+returns c = (_, then-ran (c .before .before .before .before .before .before .before .before .before .before .before .before .before .before .before .before .before .before .before .before .before .before .before .before .before .before .before .before .loop .inv .0) (c .before .before .before .before .before .before .before .before .before .before .before .before .before .before .before .before .before .before .read-block .ensures))
 
 sub-turns : tie.Need-sub-turns Inv-loop μ-loop
 sub-turns c = omega arith
@@ -62,7 +64,7 @@ loop-less : tie.Need-loop-less Inv-loop μ-loop
 loop-less c = omega arith
 
 loop-again : tie.Need-loop-again Inv-loop μ-loop
-loop-again c = let k = c .before .before .before .before .before .before .before .before .before .before .before .before .before .before .before .before .before .before .before .before .before .before .before .before .before .before .before .before .loop .inv in let l = k .1 in (then-went (k .0) (c .before .before .before .before .before .before .before .before .before .before .before .before .before .before .before .before .before .before .read-block .ensures) (c .if1 .left), record { sets-long = omega arith; sources-long = omega arith; dependencies-long = omega arith; hosts-long = omega arith; starts-long = omega arith; area-long = omega arith; out-long = omega arith }, omega (arith, k .2))
+loop-again c = let k = c .before .before .before .before .before .before .before .before .before .before .before .before .before .before .before .before .before .before .before .before .before .before .before .before .before .before .before .before .loop .inv in let l = k .1 in (ran-on (k .0) (c .before .before .before .before .before .before .before .before .before .before .before .before .before .before .before .before .before .before .read-block .ensures) (c .if1 .left), record { sets-long = omega arith; sources-long = omega arith; dependencies-long = omega arith; hosts-long = omega arith; starts-long = omega arith; area-long = omega arith; out-long = omega arith }, omega (arith, k .2))
 
 same-length-9 : tie.Need-same-length-9 Inv-loop μ-loop
 same-length-9 c = c .before .loop .inv .1 .sets-long
@@ -89,7 +91,7 @@ same-length-16 : tie.Need-same-length-16 Inv-loop μ-loop
 same-length-16 c = c .before .loop .inv .1 .out-long
 
 returns-2 : tie.Need-returns-2 Inv-loop μ-loop
-returns-2 c = went-ran (c .before .loop .inv .0)
+returns-2 c = (true, c .before .loop .inv .0)
 
 pub run-spec : {M : Type 1} → statement M
 run-spec =
