@@ -1,14 +1,14 @@
 -- The program's input block by block: as many bytes are taken as there is room for their replies. Assumes nothing.
-use mathlib.Core.Path.{_≡_, refl, ap, _∙_}
-use mathlib.Core.Bool.{Bool, true, false, cond}
-use mathlib.Core.List.{List, [], _∷_, _++_, append-assoc}
+use mathlib.Core.Path.{_≡_, refl}
+use mathlib.Core.Bool.{cond}
+use mathlib.Core.List.{List, [], _∷_, _++_}
 use Prim.Native.Nat.{ℕ, suc, _+_, _-_, _≤_, _<_}
 use native.Mathlib.Omega.{arith}
 use lib.Dec.{leb}
-use lib.ListN.{length, drop}
+use lib.ListN.{length}
 use borrow.Author.Tests.{le-leb, lt-leb}
 use Rattle.load_commands.specs.declared.Machine.{Machine}
-use Rattle.moves_commands.specs.Program.{Graphs, State, Turn, step, finish, replies}
+use Rattle.moves_commands.specs.Program.{Graphs, State, step, finish}
 use Rattle.moves_commands.specs.Fits.{fits, either}
 
 -- room for the longest reply, a listing of 144 edges
@@ -43,32 +43,6 @@ module _ {G : Type 0} (graphs : Graphs G) where
   -- lists without room for the program's limits take nothing
   unfoldable pub feed : State G → List ℕ → ℕ → Fed G
   feed st input room = cond (fits (st .reading) (st .starts)) (feeding st input room) (stay st)
-
-  -- what is written and the replies to the rest are the replies to all
-  feeding-replies : (input : List ℕ) (st : State G) (room : ℕ)
-      → feeding st input room .written ++ replies graphs (feeding st input room .after) (drop (feeding st input room .used) input) ≡ replies graphs st input
-  unfolding feeding replies
-  feeding-replies [] st room = refl
-  feeding-replies (b ∷ bs) st room = go (leb reserve room) (feeding-replies bs (step graphs st b .after) (room - length (step graphs st b .reply)))
-    where
-      t : Turn G
-      t = step graphs st b
-
-      r : Fed G
-      r = feeding (step graphs st b .after) bs (room - length (step graphs st b .reply))
-
-      go : (c : Bool) → r .written ++ replies graphs (r .after) (drop (r .used) bs) ≡ replies graphs (t .after) bs
-          → cond c (ahead 1 (t .reply) r) (stay st) .written ++ replies graphs (cond c (ahead 1 (t .reply) r) (stay st) .after) (drop (cond c (ahead 1 (t .reply) r) (stay st) .used) (b ∷ bs))
-          ≡ t .reply ++ replies graphs (t .after) bs
-      go true h = let e : 1 + r .used ≡ suc (r .used) = omega arith in rw e (append-assoc (t .reply) (r .written) _ ∙ ap (λ u. t .reply ++ u) h)
-      go false h = refl
-
-  pub feed-replies : (st : State G) (input : List ℕ) (room : ℕ)
-      → feed st input room .written ++ replies graphs (feed st input room .after) (drop (feed st input room .used) input) ≡ replies graphs st input
-  unfolding feed
-  feed-replies st input room =
-      either (λ (f : Fed G). f .written ++ replies graphs (f .after) (drop (f .used) input) ≡ replies graphs st input) (fits (st .reading) (st .starts)) _ _
-      (λ e. feeding-replies input st room) (λ e. refl)
 
   -- without room nothing is taken, and at the end nothing is left
   pub feeding-full : (st : State G) (input : List ℕ) (room : ℕ) → room < reserve → feeding st input room ≡ stay st
