@@ -291,6 +291,18 @@ impl MoveState {
         }
     }
 
+    /// What an area's numbers show, of its first `count` sets, with nothing checked.
+    pub fn shown(load: &Load, area: &[u32], count: usize) -> Self {
+        let at = load.layout();
+        let set = |node| Set::from_halves(std::array::from_fn(|lane| area[at.node_lane(lane, node)]));
+        Self {
+            registered: (0..count).map(set).collect(),
+            node: (0..at.a).map(|atom| area[at.atom_lane(MoveLayout::NODE, atom)]).collect(),
+            counter: area[at.header(MoveLayout::COUNTER)],
+            marks: (0..at.n).map(|node| area[at.node_lane(MoveLayout::MARK, node)]).collect(),
+        }
+    }
+
     /// The state that a consistent area holds.
     pub fn decode(load: &Load, area: &[u32]) -> Option<Self> {
         let at = load.layout();
@@ -298,13 +310,7 @@ impl MoveState {
         if count > at.n {
             return None;
         }
-        let set = |node| Set::from_halves(std::array::from_fn(|lane| area[at.node_lane(lane, node)]));
-        let state = Self {
-            registered: (0..count).map(set).collect(),
-            node: (0..at.a).map(|atom| area[at.atom_lane(MoveLayout::NODE, atom)]).collect(),
-            counter: area[at.header(MoveLayout::COUNTER)],
-            marks: (0..at.n).map(|node| area[at.node_lane(MoveLayout::MARK, node)]).collect(),
-        };
+        let state = Self::shown(load, area, count);
         let distinct: BTreeSet<Set> = state.registered.iter().copied().collect();
         let sound = distinct.len() == count
             && distinct.iter().all(|set| set.below(load.e))

@@ -183,13 +183,7 @@ impl StandIn {
 fn placed(load: &Load, area: &[u32]) -> Option<MoveState> {
     let at = load.layout();
     let count = (area[at.header(MoveLayout::REGISTERED)] as usize).min(at.n);
-    let set = |node| Set::from_halves(std::array::from_fn(|lane| area[at.node_lane(lane, node)]));
-    let state = MoveState {
-        registered: (0..count).map(set).collect(),
-        node: (0..at.a).map(|atom| area[at.atom_lane(MoveLayout::NODE, atom)]).collect(),
-        counter: area[at.header(MoveLayout::COUNTER)],
-        marks: (0..at.n).map(|node| area[at.node_lane(MoveLayout::MARK, node)]).collect(),
-    };
+    let state = MoveState::shown(load, area, count);
     state.node.iter().all(|&node| (node as usize) < count).then_some(state)
 }
 
