@@ -2,9 +2,10 @@
 use Prim.Native.Nat.{ℕ, _+_, _-_, _<_, _≤_}
 use native.Mathlib.Omega.{arith}
 use native.Mathlib.Decide.{ℕ-discrete}
-use mathlib.Core.Path.{_≡_, sym, ap, _∙_}
+use mathlib.Core.Path.{_≡_, refl, sym, ap, _∙_}
+use mathlib.Core.Logic.{_⊎_, inr}
 use mathlib.Core.Bool.{Bool, true, false, true≢false}
-use mathlib.Core.List.{List}
+use mathlib.Core.List.{List, []}
 use lib.ListN.{getD, length, set, length-set}
 use lib.Seq.{getD-set-same, getD-set-other}
 use Rattle.graphs.specs.Lists.{below}
@@ -14,6 +15,8 @@ use Rattle.neighbours.specs.Lists.{deg, nb, edge, listed}
 use Rattle.depth_first.specs.Search.{Falls, size}
 use Rattle.depth_first.specs.Steps.{at, CanDiscover, Discovered, Finished, CanVisit, Visited, Ready, Top, Kept, Stepped}
 use Rattle.depth_first.proofs.Whites.{room-for}
+use Rattle.depth_first.specs.Colours.{view, held, Next, Step, opens, passes, closes}
+use Rattle.depth_first.proofs.Views.{next-top, view-opens, view-passes, view-closes}
 use Rattle.depth_first.proofs.Moves as moves
 use Rattle.depth_first.proofs.Falling as falling
 
@@ -33,11 +36,11 @@ module _ {g l : List ℕ} {n : ℕ} {colour cursor stack low order : List ℕ} {
   abbrev e : ℕ → ℕ → Bool
   e = edge g l n
 
-  pub top-of : 0 < sp → Top g n cursor stack sp fin
+  pub top-of : 0 < sp → Top g n colour cursor stack sp fin
   top-of b =
       let t : at stack (sp - 1) < n = r .state .node (sp - 1) (omega arith) in
       let k = r .state .reach (at stack (sp - 1)) t in
-      record { some = b; node = t; reach = k; short = omega (arith, r .graph .inside _ t, r .graph .short); full = omega (arith, r .state .count) }
+      record { some = b; gray = r .state .gray (sp - 1) (omega arith); node = t; reach = k; short = omega (arith, r .graph .inside _ t, r .graph .short); full = omega (arith, r .state .count) }
 
   -- a white node is discovered
   module _ (j : ℕ) (jn : j < n) (new : at colour j ≡ 0) where
@@ -45,9 +48,9 @@ module _ {g l : List ℕ} {n : ℕ} {colour cursor stack low order : List ℕ} {
     push-fits = room-for n (at colour) sp fin j (r .state .count) jn new
 
     pub discover-can : CanDiscover colour stack low sp j fin
-    discover-can = record { cell = omega (arith, r .colours); room = omega (arith, r .places, push-fits); mark = omega (arith, r .lows); few = omega (arith, push-fits, r .small) }
+    discover-can = record { cell = omega (arith, r .colours); white = new; room = omega (arith, r .places, push-fits); mark = omega (arith, r .lows); few = omega (arith, push-fits, r .small) }
 
-    module _ (after : (p : ℕ) → p + 1 ≡ sp → e (at stack p) j ≡ true) where
+    module _ (after : (p : ℕ) → p + 1 ≡ sp → e (at stack p) j ≡ true) (from : (held (at stack) sp ≡ []) ⊎ ((x : ℕ) × Next (deg g) (nb g l) (view colour cursor stack sp) x j)) where
       abbrev colour′ : List ℕ
       colour′ = set colour j 1
 
@@ -105,11 +108,14 @@ module _ {g l : List ℕ} {n : ℕ} {colour cursor stack low order : List ℕ} {
         pub push-known : at colour″ j ≡ 0 → ⊥
         push-known z = omega (arith, ap (λ (k : List ℕ). at k j) (w .turned), cj)
 
-        pub push-step : Stepped g l n colour cursor sp colour″ cursor stack″ low″ order (sp + 1) fin met
-        push-step = record { kept = push-kept; ready = push-ready; less = rw (w .turned) less-new }
+        pub push-moved : Step n (deg g) (nb g l) (view colour cursor stack sp) (view colour″ cursor stack″ (sp + 1))
+        push-moved = rw (w .turned, w .pushed) (opens j (view-opens n (deg g) (nb g l) colour cursor stack sp (r .colours) j jn (omega (arith, r .places, push-fits)) new from))
+
+        pub push-step : Stepped g l n colour cursor stack sp colour″ cursor stack″ low″ order (sp + 1) fin met
+        push-step = record { kept = push-kept; ready = push-ready; moved = push-moved; less = rw (w .turned) less-new }
 
   -- the node t on top of the stack, and j, the place of its next neighbour
-  module _ (k : Top g n cursor stack sp fin) where
+  module _ (k : Top g n colour cursor stack sp fin) where
     abbrev t : ℕ
     t = at stack (sp - 1)
 
@@ -136,7 +142,7 @@ module _ {g l : List ℕ} {n : ℕ} {colour cursor stack low order : List ℕ} {
       oo : (i : ℕ) → i < n → (i ≡ fin → ⊥) → at order′ i ≡ at order i
       oo i b h = other order fin t i h
 
-      pop-new : Stepped g l n colour cursor sp black cursor stack low order′ (sp - 1) (fin + 1) met
+      pop-new : Stepped g l n colour cursor stack sp black cursor stack low order′ (sp - 1) (fin + 1) met
       pop-new = record {
         kept = record { known = λ x b h z. elim (ℕ-discrete x t) [ yes i ↦ omega (arith, ct, ap (at black) i) | no i ↦ h (sym (co₁ x b i) ∙ z) ] };
         ready = record {
@@ -151,10 +157,11 @@ module _ {g l : List ℕ} {n : ℕ} {colour cursor stack low order : List ℕ} {
           falls = λ h. falling.falls-pop (r .state) (listed (r .graph)) (r .falls h) (at black) (k .some) all ct co₁;
           closes = r .closes;
         };
+        moved = closes t (view-closes n (deg g) (nb g l) colour cursor stack sp (r .colours) t fin (k .node) refl (k .some) (k .gray) all);
         less = moves.pop-size (r .state) (listed (r .graph)) (at black) (at order′) (k .some) all ct co₁ of oo;
       }
 
-      pub pop-step : {colour″ order″ : List ℕ} → Finished colour order t fin colour″ order″ → Stepped g l n colour cursor sp colour″ cursor stack low order″ (sp - 1) (fin + 1) met
+      pub pop-step : {colour″ order″ : List ℕ} → Finished colour order t fin colour″ order″ → Stepped g l n colour cursor stack sp colour″ cursor stack low order″ (sp - 1) (fin + 1) met
       pop-step w = rw (w .turned, w .listed) pop-new
 
     -- t's next neighbour
@@ -188,10 +195,13 @@ module _ {g l : List ℕ} {n : ℕ} {colour cursor stack low order : List ℕ} {
           few = omega (arith, k .full, r .small);
         }
 
+        next : Next (deg g) (nb g l) (view colour cursor stack sp) t y
+        next = next-top n (deg g) (nb g l) colour cursor stack sp (r .colours) t y refl (k .some) next-in (sym is)
+
         -- it is passed by
         passed : (at colour y ≡ 0 → ⊥) → {met′ : Bool} → (met′ ≡ false → Falls e n (nb g l) (at colour) (at cursor′)) → (met′ ≡ true → cyclic e (below n) ≡ true)
-            → Stepped g l n colour cursor sp colour cursor′ stack low order sp fin met′
-        passed known falls closes = record {
+            → Stepped g l n colour cursor stack sp colour cursor′ stack low order sp fin met′
+        passed known falls shut = record {
           kept = kept-refl n colour;
           ready = record {
             graph = r .graph;
@@ -203,8 +213,9 @@ module _ {g l : List ℕ} {n : ℕ} {colour cursor stack low order : List ℕ} {
             small = r .small;
             state = moves.next (r .state) (listed (r .graph)) (at cursor′) t (k .node) next-in (rw is at known) ut uo;
             falls = falls;
-            closes = closes;
+            closes = shut;
           };
+          moved = passes t y (view-passes n (deg g) (nb g l) colour cursor stack sp (r .colours) t y (k .node) (r .cursors) next known);
           less = moves.next-size (r .state) (listed (r .graph)) (at cursor′) t (k .node) next-in (rw is at known) ut uo;
         }
 
@@ -212,13 +223,13 @@ module _ {g l : List ℕ} {n : ℕ} {colour cursor stack low order : List ℕ} {
         cycle h = cyclic-walk e (below n) (sources-below (listed (r .graph) .from)) .1 (t, falling.closed (r .state) (listed (r .graph)) y (k .some) next-node to-y h)
 
         pub visit-step : {colour″ cursor″ stack″ low″ : List ℕ} {sp″ fin″ : ℕ} {met″ : Bool} → Visited colour cursor stack low sp fin t y met colour″ cursor″ stack″ low″ sp″ fin″ met″
-            → Stepped g l n colour cursor sp colour″ cursor″ stack″ low″ order sp″ fin″ met″
+            → Stepped g l n colour cursor stack sp colour″ cursor″ stack″ low″ order sp″ fin″ met″
         visit-step {colour″} {cursor″} {stack″} {low″} {sp″} {fin″} {met″} w = go (ℕ-discrete (at colour y) 0) (ℕ-discrete (at colour y) 1)
           where
-            go : Dec (at colour y ≡ 0) → Dec (at colour y ≡ 1) → Stepped g l n colour cursor sp colour″ cursor″ stack″ low″ order sp″ fin″ met″
+            go : Dec (at colour y ≡ 0) → Dec (at colour y ≡ 1) → Stepped g l n colour cursor stack sp colour″ cursor″ stack″ low″ order sp″ fin″ met″
             go (yes h) b =
                 let q = w .white h in
-                rw (q .1, q .2, q .3, w .same) (push-step y next-node h (λ p i. let z : p ≡ sp - 1 = omega arith in rw z to-y) (q .0))
+                rw (q .1, q .2, q .3, w .same) (push-step y next-node h (λ p i. let z : p ≡ sp - 1 = omega arith in rw z to-y) (inr (t, next)) (q .0))
             go (no h) (yes b) =
                 let q = w .gray b in
                 rw (q .0, q .1, q .2, q .3, q .4, q .5, w .same) (passed h (λ z. absurd (true≢false z)) (λ z. cycle b))

@@ -4,3 +4,4 @@ pub mod Moves
 pub mod Falling
 pub mod Layer
 pub mod Rounds
+mod Views

@@ -52,13 +52,16 @@ round-first {g} {l} {n} {stack} {low} {order} {colour′} {cursor′} can a b zc
     }
 
 module _ {g l : List ℕ} {n i : ℕ} {colour cursor stack low order : List ℕ} {fin : ℕ} {met : Bool} (r : Round g l n i colour cursor stack low order fin met) where
-  pub round-more : {colour′ cursor′ stack′ low′ order′ : List ℕ} {fin′ : ℕ} {met′ : Bool} → i < n → Searched g l n i colour colour′ cursor′ stack′ low′ order′ fin′ met′
+  pub round-more : {colour′ cursor′ stack′ low′ order′ : List ℕ} {fin′ : ℕ} {met′ : Bool} → i < n → Searched g l n i colour cursor stack colour′ cursor′ stack′ low′ order′ fin′ met′
       → Round g l n (i + 1) colour′ cursor′ stack′ low′ order′ fin′ met′
   round-more {colour′} b v = record {
     ready = v .ready;
     known = below-more (λ x. at colour′ x ≡ 0 → ⊥) i (λ x k. v .kept .known x (omega arith) (r .known x k)) (v .known);
     within = omega arith;
   }
+
+  pub round-black : n ≤ i → (x : ℕ) → x < n → 2 ≤ at colour x
+  round-black b = moves.black (r .ready .state) (λ x k. r .known x (omega arith))
 
   pub round-done : n ≤ i → Walked (edge g l n) n order met
   round-done b = record { answer = go met refl; ordered = moves.ordered (r .ready .state) all }

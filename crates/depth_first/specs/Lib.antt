@@ -2,3 +2,5 @@
 pub mod Order
 pub mod Search
 pub mod Steps
+pub mod Colours
+pub mod Life

@@ -8,6 +8,7 @@ use Rattle.graphs.specs.Lists.{below}
 use Rattle.graphs.specs.Walk.{cyclic}
 use Rattle.neighbours.specs.Lists.{deg, nb, edge, Graph}
 use Rattle.depth_first.specs.Order.{Ordered}
+use Rattle.depth_first.specs.Colours.{view, Step, Run}
 use Rattle.depth_first.specs.Search.{Search, Falls, size}
 
 abbrev pub at : List ℕ → ℕ → ℕ
@@ -15,9 +16,10 @@ at l x = getD l x 0
 
 pub record CanDiscover (colour stack low : List ℕ) (sp y fin : ℕ) : Type 0 where
   pub cell : y < length colour
+  pub white : getD colour y 0 ≡ 0
   pub room : sp < length stack
   pub mark : y < length low
-  pub few : fin < 2 ^ 32
+  pub few : fin < 2 ^ 31
 
 -- y turns gray and goes on the stack
 pub record Discovered (colour stack low : List ℕ) (sp y fin : ℕ) (colour′ stack′ low′ : List ℕ) : Type 0 where
@@ -27,6 +29,7 @@ pub record Discovered (colour stack low : List ℕ) (sp y fin : ℕ) (colour′ 
 
 pub record CanFinish (colour order : List ℕ) (t fin : ℕ) : Type 0 where
   pub cell : t < length colour
+  pub gray : getD colour t 0 ≡ 1
   pub room : fin < length order
   pub few : fin < 2 ^ 31
   pub small : t < 2 ^ 31
@@ -42,7 +45,7 @@ pub record CanVisit (colour cursor stack low : List ℕ) (sp fin t y : ℕ) : Ty
   pub short : getD cursor t 0 < 2 ^ 31
   pub room : getD colour y 0 ≡ 0 → sp < length stack
   pub mark : y < length low
-  pub few : fin < 2 ^ 32
+  pub few : fin < 2 ^ 31
 
 -- t's next neighbour y, by its colour
 pub record Visited (colour cursor stack low : List ℕ) (sp fin t y : ℕ) (met : Bool) (colour′ cursor′ stack′ low′ : List ℕ) (sp′ fin′ : ℕ) (met′ : Bool) : Type 0 where
@@ -68,8 +71,9 @@ pub record Ready (starts list : List ℕ) (n : ℕ) (colour cursor stack low ord
   pub closes : met ≡ true → cyclic (edge starts list n) (below n) ≡ true
 
 -- the stack is not empty: the node on top of it is in range, and so is its cursor
-pub record Top (starts : List ℕ) (n : ℕ) (cursor stack : List ℕ) (sp fin : ℕ) : Type 0 where
+pub record Top (starts : List ℕ) (n : ℕ) (colour cursor stack : List ℕ) (sp fin : ℕ) : Type 0 where
   pub some : 0 < sp
+  pub gray : at colour (at stack (sp - 1)) ≡ 1
   pub node : at stack (sp - 1) < n
   pub reach : at cursor (at stack (sp - 1)) ≤ deg starts (at stack (sp - 1))
   pub short : at cursor (at stack (sp - 1)) < 2 ^ 31
@@ -79,15 +83,17 @@ pub record Top (starts : List ℕ) (n : ℕ) (cursor stack : List ℕ) (sp fin :
 pub record Kept (n : ℕ) (colour colour′ : List ℕ) : Type 0 where
   pub known : (x : ℕ) → x < n → (at colour x ≡ 0 → ⊥) → at colour′ x ≡ 0 → ⊥
 
-pub record Stepped (starts list : List ℕ) (n : ℕ) (colour cursor : List ℕ) (sp : ℕ) (colour′ cursor′ stack′ low′ order′ : List ℕ) (sp′ fin′ : ℕ) (met′ : Bool) : Type 0 where
+pub record Stepped (starts list : List ℕ) (n : ℕ) (colour cursor stack : List ℕ) (sp : ℕ) (colour′ cursor′ stack′ low′ order′ : List ℕ) (sp′ fin′ : ℕ) (met′ : Bool) : Type 0 where
   pub kept : Kept n colour colour′
   pub ready : Ready starts list n colour′ cursor′ stack′ low′ order′ sp′ fin′ met′
+  pub moved : Step n (deg starts) (nb starts list) (view colour cursor stack sp) (view colour′ cursor′ stack′ sp′)
   pub less : size n (deg starts) (at colour′) (at cursor′) sp′ < size n (deg starts) (at colour) (at cursor) sp
 
 -- the whole search from one node
-pub record Searched (starts list : List ℕ) (n root : ℕ) (colour colour′ cursor′ stack′ low′ order′ : List ℕ) (fin′ : ℕ) (met′ : Bool) : Type 0 where
+pub record Searched (starts list : List ℕ) (n root : ℕ) (colour cursor stack colour′ cursor′ stack′ low′ order′ : List ℕ) (fin′ : ℕ) (met′ : Bool) : Type 0 where
   pub kept : Kept n colour colour′
   pub known : at colour′ root ≡ 0 → ⊥
+  pub ran : Run n (deg starts) (nb starts list) (view colour cursor stack 0) (view colour′ cursor′ stack′ 0)
   pub ready : Ready starts list n colour′ cursor′ stack′ low′ order′ 0 fin′ met′
 
 pub record CanWalk (starts list : List ℕ) (n : ℕ) (colour cursor stack low order : List ℕ) : Type 0 where

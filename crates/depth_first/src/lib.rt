@@ -1,13 +1,58 @@
 // Depth-first search with a stack of its own. A node is white (0) till it is discovered, gray (1) while its edges are gone through, and
 // black (2 and up, by the order of the finishing) from then on.
 ghost use mathlib.Core.Path.{_≡_};
-ghost use Prim.Native.Nat.{ℕ, _<_};
+ghost use Prim.Native.Nat.{ℕ, _<_, _^_};
 ghost use lib.ListN.{getD};
 ghost use Rattle.graphs.specs.Lists.{below};
 ghost use Rattle.graphs.specs.Walk.{cyclic};
 ghost use Rattle.neighbours.specs.Direction.{along};
-ghost use Rattle.neighbours.specs.Lists.{edge};
+ghost use Rattle.neighbours.specs.Lists.{deg, nb, edge};
+ghost use Rattle.depth_first.specs.Colours.{next-state, state-of, number-of, view, Ran};
 ghost use Rattle.depth_first.specs.Steps.{CanDiscover, Discovered, CanFinish, Finished, CanVisit, Visited, Ready, Top, Stepped, Searched, CanWalk, Walked};
+
+// A node's state, as in the book: white till it is discovered, gray while its edges are gone through, black from then on.
+pub enum State {
+    White,
+    Gray,
+    Black,
+}
+
+// The state that a number of the list of colours stands for.
+fn state_of(c: u32) -> State
+    ensures { λ r. ⌜ r ≡ state-of c ⌝ }
+{
+    match c {
+        0 => State::White,
+        1 => State::Gray,
+        _ => State::Black,
+    }
+}
+
+// The next state of a node.
+fn next_state(s: State) -> State
+    ensures { λ r. ⌜ r ≡ next-state s ⌝ }
+{
+    match s {
+        // it is discovered
+        State::White => State::Gray,
+        // all its edges are gone through
+        State::Gray => State::Black,
+        // to the end
+        State::Black => State::Black,
+    }
+}
+
+// The number of a state, once fin nodes have finished.
+fn number_of(s: State, fin: usize) -> u32
+    requires { ⌜ fin < 2 ^ 31 ⌝ }
+    ensures { λ r. ⌜ r ≡ number-of s fin ⌝ }
+{
+    match s {
+        State::White => 0,
+        State::Gray => 1,
+        State::Black => fin as u32 + 2,
+    }
+}
 
 // Where a search stands: the stack's height, how many nodes have finished, and whether a gray neighbour was met.
 struct At {
@@ -22,7 +67,8 @@ fn discover(colour: &mut [u32], stack: &mut [u32], low: &mut [u32], sp: usize, y
     ensures { λ _. ⌜ Discovered (now (colour .entry)) (now (stack .entry)) (now (low .entry)) sp y fin (now (colour .exit)) (now (stack .exit)) (now (low .exit)) ⌝ }
 {
     let i = y as usize;
-    colour[i] = 1;
+    let s = state_of(colour[i]);
+    colour[i] = number_of(next_state(s), fin);
     stack[sp] = y;
     low[i] = fin as u32;
 }
@@ -32,7 +78,8 @@ fn finish(colour: &mut [u32], order: &mut [u32], t: usize, fin: usize)
     requires { ⌜ CanFinish (now colour) (now order) t fin ⌝ }
     ensures { λ _. ⌜ Finished (now (colour .entry)) (now (order .entry)) t fin (now (colour .exit)) (now (order .exit)) ⌝ }
 {
-    colour[t] = fin as u32 + 2;
+    let s = state_of(colour[t]);
+    colour[t] = number_of(next_state(s), fin);
     order[fin] = t as u32;
 }
 
@@ -95,8 +142,8 @@ fn step<'a>(
     fin: usize,
     met: bool,
 ) -> At
-    requires { ⌜ Ready (now starts) (along dir (now dependencies) (now dependents)) n (now colour) (now cursor) (now stack) (now low) (now order) sp fin met × Top (now starts) n (now cursor) (now stack) sp fin ⌝ }
-    ensures { λ r. ⌜ Stepped (now (starts .entry)) (along dir (now (dependencies .entry)) (now (dependents .entry))) n (now (colour .entry)) (now (cursor .entry)) sp (now (colour .exit)) (now (cursor .exit)) (now (stack .exit)) (now (low .exit)) (now (order .exit)) (r .sp) (r .fin) (r .met) ⌝ }
+    requires { ⌜ Ready (now starts) (along dir (now dependencies) (now dependents)) n (now colour) (now cursor) (now stack) (now low) (now order) sp fin met × Top (now starts) n (now colour) (now cursor) (now stack) sp fin ⌝ }
+    ensures { λ r. ⌜ Stepped (now (starts .entry)) (along dir (now (dependencies .entry)) (now (dependents .entry))) n (now (colour .entry)) (now (cursor .entry)) (now (stack .entry)) sp (now (colour .exit)) (now (cursor .exit)) (now (stack .exit)) (now (low .exit)) (now (order .exit)) (r .sp) (r .fin) (r .met) ⌝ }
 {
     let t = stack[sp - 1] as usize;
     let j = cursor[t] as usize;
@@ -129,7 +176,7 @@ fn search<'a>(
     before: bool,
 ) -> At
     requires { ⌜ Ready (now starts) (along dir (now dependencies) (now dependents)) n (now colour) (now cursor) (now stack) (now low) (now order) 0 from before × (root < n) ⌝ }
-    ensures { λ r. ⌜ Searched (now (starts .entry)) (along dir (now (dependencies .entry)) (now (dependents .entry))) n root (now (colour .entry)) (now (colour .exit)) (now (cursor .exit)) (now (stack .exit)) (now (low .exit)) (now (order .exit)) (r .fin) (r .met) ⌝ }
+    ensures { λ r. ⌜ Searched (now (starts .entry)) (along dir (now (dependencies .entry)) (now (dependents .entry))) n root (now (colour .entry)) (now (cursor .entry)) (now (stack .entry)) (now (colour .exit)) (now (cursor .exit)) (now (stack .exit)) (now (low .exit)) (now (order .exit)) (r .fin) (r .met) ⌝ }
 {
     if colour[root] != 0 {
         return At {
@@ -184,6 +231,7 @@ pub fn first_walk<'a>(
 ) -> bool
     requires { ⌜ CanWalk (now starts) (along dir (now dependencies) (now dependents)) n (now colour) (now cursor) (now stack) (now low) (now order) ⌝ }
     ensures { λ r. ⌜ Walked (edge (now (starts .entry)) (along dir (now (dependencies .entry)) (now (dependents .entry))) n) n (now (order .exit)) r ⌝ }
+    ensures { λ _. ⌜ Ran n (deg (now (starts .entry))) (nb (now (starts .entry)) (along dir (now (dependencies .entry)) (now (dependents .entry)))) (view (now (colour .exit)) (now (cursor .exit)) (now (stack .exit)) 0) ⌝ }
 {
     neighbours::clear(colour, n);
     neighbours::clear(cursor, n);

@@ -11,7 +11,7 @@ first-walk-requires c κs = search needs
 
 second-walk-requires : tie.Need-second-walk-requires
 second-walk-requires c κs =
-    let k = c .before .before .before .before .before .before .before .before .before .before .before .before .before .first-walk .kept .1 .1 .1 .1 .1 in back-can (c .before .before .before .before .before .before .before .before .before .before .before .before .before .before .before .before .before .before .before .before .before .before .before .before .before .before .before .before .before .pre) (c .before .before .before .before .before .before .before .before .before .before .before .before .before .first-walk .ensures) (k .0) (k .1 .1 .0) (k .1 .1 .1 .1 .0)
+    let k = c .before .before .before .before .before .before .before .before .before .before .before .before .before .first-walk .kept .1 .1 .1 .1 .1 in back-can (c .before .before .before .before .before .before .before .before .before .before .before .before .before .before .before .before .before .before .before .before .before .before .before .before .before .before .before .before .before .pre) (c .before .before .before .before .before .before .before .before .before .before .before .before .before .first-walk .ensures .0) (k .0) (k .1 .1 .0) (k .1 .1 .1 .1 .0)
 
 within-requires : tie.Need-within-requires
 within-requires c κs =

@@ -1,10 +1,13 @@
 -- `depth_first::first_walk` meets its contract. Assumes nothing.
 use Prim.Native.Nat.{_-_}
 use native.Mathlib.Omega.{arith}
-use mathlib.Core.Path.{_≡_, refl, _∙_}
+use mathlib.Core.Path.{_≡_, refl, ap, _∙_}
+use Rattle.neighbours.specs.Lists.{deg, nb}
+use Rattle.depth_first.specs.Colours.{view, Run, none, state-of}
+use Rattle.depth_first.proofs.Views.{held-none, run-join, state-black}
 use lib.ListN.{length}
 use Rattle.neighbours.specs.Direction.{along}
-use Rattle.depth_first.proofs.Rounds.{Round, cleared, round-first, round-more, round-done}
+use Rattle.depth_first.proofs.Rounds.{Round, cleared, round-first, round-more, round-done, round-black}
 use Rattle.depth_first.proofs.first_walk.Statement.{statement}
 use Rattle.depth_first.proofs.first_walk.Tie as tie
 
@@ -12,6 +15,7 @@ abbrev Inv-loop : tie.InvT-loop
 Inv-loop dir starts dependencies dependents n colour₀ cursor₀ stack₀ low₀ order₀ fin₀ met₀ i₀ colour cursor stack low order fin met i =
     Round starts (along dir dependencies dependents) n i colour cursor stack low order fin met
     × (length colour ≡ length colour₀) × (length cursor ≡ length cursor₀) × (length stack ≡ length stack₀) × (length low ≡ length low₀) × (length order ≡ length order₀)
+    × Run n (deg starts) (nb starts (along dir dependencies dependents)) (view colour₀ cursor₀ stack₀ 0) (view colour cursor stack 0)
 
 abbrev μ-loop : tie.MeasureT-loop
 μ-loop dir starts dependencies dependents n colour₀ cursor₀ stack₀ low₀ order₀ fin₀ met₀ i₀ colour cursor stack low order fin met i =
@@ -27,7 +31,7 @@ clear-requires-2 c κs =
 
 loop-holds : tie.Need-loop-holds Inv-loop μ-loop
 loop-holds c =
-    (round-first (c .before .before .before .before .before .before .before .before .before .before .before .before .before .before .before .before .pre) (c .before .before .before .before .before .before .clear .kept .0) (c .before .before .clear2 .kept .0) (cleared _ _ (c .before .before .before .before .before .before .clear .ensures)) (cleared _ _ (c .before .before .clear2 .ensures)), refl, refl, refl, refl, refl)
+    (round-first (c .before .before .before .before .before .before .before .before .before .before .before .before .before .before .before .before .pre) (c .before .before .before .before .before .before .clear .kept .0) (c .before .before .clear2 .kept .0) (cleared _ _ (c .before .before .before .before .before .before .clear .ensures)) (cleared _ _ (c .before .before .clear2 .ensures)), refl, refl, refl, refl, refl, none)
 
 search-requires : tie.Need-search-requires Inv-loop μ-loop
 search-requires c κs =
@@ -45,7 +49,7 @@ loop-again : tie.Need-loop-again Inv-loop μ-loop
 loop-again c =
     let v = c .before .before .before .before .before .before .before .before .before .before .before .before .before .before .before .before .before .loop .inv in
     let k = c .before .before .before .before .before .before .before .before .before .before .search .kept .1 .1 .1 .1 .1 in
-    (round-more (v .0) (c .before .before .before .before .before .before .before .before .before .before .before .before .before .before .before .before .loop-test .taken) (c .before .before .before .before .before .before .before .before .before .before .search .ensures), k .0 ∙ v .1, k .1 .0 ∙ v .2, k .1 .1 .0 ∙ v .3, k .1 .1 .1 .0 ∙ v .4, k .1 .1 .1 .1 .0 ∙ v .5)
+    (round-more (v .0) (c .before .before .before .before .before .before .before .before .before .before .before .before .before .before .before .before .loop-test .taken) (c .before .before .before .before .before .before .before .before .before .before .search .ensures), k .0 ∙ v .1, k .1 .0 ∙ v .2, k .1 .1 .0 ∙ v .3, k .1 .1 .1 .0 ∙ v .4, k .1 .1 .1 .1 .0 ∙ v .5, run-join (v .6) (c .before .before .before .before .before .before .before .before .before .before .search .ensures .ran))
 
 same-length : tie.Need-same-length Inv-loop μ-loop
 same-length c =
@@ -69,7 +73,19 @@ same-length-5 c =
 
 returns : tie.Need-returns Inv-loop μ-loop
 returns c =
-    round-done (c .before .loop .inv .0) (c .loop-test .left)
+    let v = c .before .loop .inv in (
+      round-done (v .0) (c .loop-test .left),
+      record {
+        first = view (c .before .before .before .before .before .before .before .before .clear .last .0) (c .before .before .before .before .clear2 .last .0) (c .before .before .before .before .before .before .before .before .before .before .before .before .before .before .before .before .before .before .args .stack .now) 0;
+        starts = record {
+          white = λ x b. ap state-of (cleared _ _ (c .before .before .before .before .before .before .before .before .clear .ensures) x b);
+          none = cleared _ _ (c .before .before .before .before .clear2 .ensures);
+          empty = held-none _;
+        };
+        run = v .6;
+        black = λ x b. state-black _ (round-black (v .0) (c .loop-test .left) x b);
+      },
+    )
 
 pub first-walk-spec : {M : Type 1} → statement M
 first-walk-spec =

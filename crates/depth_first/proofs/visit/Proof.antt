@@ -13,7 +13,7 @@ slice-read-c c = search needs
 
 discover-requires : tie.Need-discover-requires
 discover-requires c κs =
-    record { cell = c .before .before .before .before .before .before .before .before .before .pre .cell; room = c .before .before .before .before .before .before .before .before .before .pre .room (c .before .before .before .if1 .taken); mark = c .before .before .before .before .before .before .before .before .before .pre .mark; few = c .before .before .before .before .before .before .before .before .before .pre .few }
+    record { white = c .before .before .before .if1 .taken; cell = c .before .before .before .before .before .before .before .before .before .pre .cell; room = c .before .before .before .before .before .before .before .before .before .pre .room (c .before .before .before .if1 .taken); mark = c .before .before .before .before .before .before .before .before .before .pre .mark; few = c .before .before .before .before .before .before .before .before .before .pre .few }
 
 add-t23 : tie.Need-add-t23
 add-t23 c =
