@@ -68,10 +68,10 @@ fn main() {
     if env::var_os("CARGO_FEATURE_OURS").is_some() {
         let library =
             env::var_os("NIDSKALM_LIB_DIR").map_or_else(|| repository.join("target/staticlib"), PathBuf::from);
-        let archive = library.join("libexports.a");
+        let archive = library.join("libnidskalm.a");
         println!("cargo:rerun-if-changed={}", archive.display());
-        assert!(archive.exists(), "{} is missing: build it with `rt staticlib exports`", archive.display());
+        assert!(archive.exists(), "{} is missing: build it with `rt staticlib nidskalm`", archive.display());
         println!("cargo:rustc-link-search=native={}", fs::canonicalize(&library).unwrap().display());
-        println!("cargo:rustc-link-lib=static=exports");
+        println!("cargo:rustc-link-lib=static=nidskalm");
     }
 }

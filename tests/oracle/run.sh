@@ -14,7 +14,7 @@ if [ -z "${NIDSKALM_LIB_DIR:-}" ]; then
     bash tests/build.sh
 fi
 features=()
-if [ -f "${NIDSKALM_LIB_DIR:-target/staticlib}/libexports.a" ]; then
+if [ -f "${NIDSKALM_LIB_DIR:-target/staticlib}/libnidskalm.a" ]; then
     NIDSKALM_LIB_DIR="$(realpath "${NIDSKALM_LIB_DIR:-target/staticlib}")"
     export NIDSKALM_LIB_DIR
     features=(--features ours)

@@ -7,8 +7,8 @@ use native.Mathlib.Omega.{arith}
 use lib.ListN.{length, take, drop, length-drop}
 use lib.Seq.{length-take-le}
 use borrow.Author.Tests.{le-leb}
-use Rattle.replies.specs.Room.{Put, put-as}
-use Rattle.load_commands.specs.declared.Machine.{Machine}
+use Rattle.moves_replies.specs.Room.{Put, put-as}
+use Rattle.moves_load_commands.specs.declared.Machine.{Machine}
 use Rattle.moves_commands.specs.Program.{areas, State, finish, fresh}
 use Rattle.moves_commands.specs.Fits.{Ready}
 use Rattle.moves_commands.specs.Feed.{reserve, feed, finished}

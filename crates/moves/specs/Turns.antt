@@ -7,8 +7,8 @@ use native.Mathlib.Omega.{arith}
 use lib.ListN.{length, take, drop, getD, length-drop}
 use lib.Seq.{length-take-le, take-add, take-take, getD-take, ext-getD}
 use Rattle.layout.specs.Patch.{patch, patch-in}
-use Rattle.replies.specs.Room.{Put}
-use Rattle.load_commands.specs.Machine.{halt}
+use Rattle.moves_replies.specs.Room.{Put}
+use Rattle.moves_load_commands.specs.Machine.{halt}
 use Rattle.moves_commands.specs.Program.{State, with-machine, finish}
 use Rattle.moves.specs.Bytes.{after, said, after-append}
 

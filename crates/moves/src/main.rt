@@ -4,7 +4,7 @@ ghost use mathlib.Core.Path.{_≡_};
 ghost use mathlib.Core.Bool.{Bool};
 ghost use Prim.Native.Nat.{_≤_, _<_};
 ghost use lib.ListN.{length, take};
-ghost use Rattle.load_commands.specs.Machine.{new-machine};
+ghost use Rattle.moves_load_commands.specs.Machine.{new-machine};
 ghost use Rattle.moves_commands.specs.Program.{finish, fresh};
 ghost use Rattle.moves_commands.specs.Fits.{Ready};
 ghost use Rattle.moves_commands.specs.Feed.{reserve};
@@ -12,7 +12,7 @@ ghost use Rattle.moves_commands.specs.Steps.{held};
 ghost use Rattle.moves.specs.Turns.{Took, Answered, TookAll, TookRead, Ran, StartsWith};
 use libc::STDIN_FILENO;
 use libc::STDOUT_FILENO;
-use load_commands::Machine;
+use moves_load_commands::Machine;
 
 // The machine after the bytes that were used, and how many bytes of replies were written; where the program doesn't go on, the machine has stopped.
 struct Step {
@@ -61,7 +61,7 @@ fn feed_once(
     let machine = f.machine;
     if !io::write_all(STDOUT_FILENO, &out[..n]) {
         return Step {
-            machine: load_commands::halt(machine),
+            machine: moves_load_commands::halt(machine),
             used,
             written: n,
             going: false,
@@ -152,7 +152,7 @@ fn feed_read(
     if n == 0 {
         end(m, out);
         return Block {
-            machine: load_commands::halt(m),
+            machine: moves_load_commands::halt(m),
             used: 0,
             going: false,
         };
@@ -217,7 +217,7 @@ fn run(
     requires { ⌜ reserve ≤ length (now out) ⌝ }
     ensures { λ r. ⌜ ((going : Bool) × Ran (fresh (now (area .entry))) (held r (now (sets .exit)) (now (sources .exit)) (now (dependencies .exit)) (now (hosts .exit)) (now (starts .exit)) (now (area .exit))) going) ⌝ }
 {
-    let mut machine = load_commands::fresh();
+    let mut machine = moves_load_commands::fresh();
     let mut turns: u64 = 9223372036854775808;
     while turns > 0 {
         let s = read_block(

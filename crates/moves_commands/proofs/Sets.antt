@@ -6,9 +6,9 @@ use Rattle.entry_set.specs.Joined.{joined, parts}
 use Rattle.entry_set.specs.JoinedLaws.{low-part}
 use Rattle.entry_set.specs.Sets.{number, words}
 use Rattle.entry_set.specs.declared.EntrySet.{EntrySet}
-use Rattle.ledger.specs.Graph.{at}
-use Rattle.replies.specs.Decimal.{decimal}
-use Rattle.replies.specs.Words.{line, space, printed-set}
+use Rattle.move_ledger.specs.Graph.{at}
+use Rattle.moves_replies.specs.Decimal.{decimal}
+use Rattle.moves_replies.specs.Words.{line, space, printed-set}
 
 pub first-number : (s : EntrySet) → s .0 < 2 ^ 64 → at (words 4 (number s)) 0 ≡ s .0
 unfolding joined parts

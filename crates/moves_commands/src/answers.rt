@@ -2,19 +2,19 @@
 ghost use mathlib.Core.Path.{_≡_};
 ghost use Prim.Native.Nat.{_+_, _≤_};
 ghost use lib.ListN.{length};
-ghost use Rattle.ledger.specs.Answer.{is-refused};
-ghost use Rattle.replies.specs.Words.{reply, load-reply};
-ghost use Rattle.replies.specs.Room.{Put};
+ghost use Rattle.move_ledger.specs.Answer.{is-refused};
+ghost use Rattle.moves_replies.specs.Words.{reply, load-reply};
+ghost use Rattle.moves_replies.specs.Room.{Put};
 ghost use Rattle.reduced_chunk_graph.specs.Answers.{ofLoad, ofMove, ofSet};
-ghost use Rattle.listing.specs.Answers.{ofListed};
-use listing::Listed;
+ghost use Rattle.move_questions.specs.Answers.{ofListed};
+use move_questions::Listed;
+use moves_replies::put;
+use moves_replies::put_edge;
+use moves_replies::put_refused;
+use moves_replies::put_set;
 use reduced_chunk_graph::LoadAnswer;
 use reduced_chunk_graph::MoveAnswer;
 use reduced_chunk_graph::SetAnswer;
-use replies::put;
-use replies::put_edge;
-use replies::put_refused;
-use replies::put_set;
 
 pub(crate) fn is_refused(r: LoadAnswer) -> bool
     ensures { λ b. ⌜ b ≡ is-refused (ofLoad r) ⌝ }

@@ -4,9 +4,9 @@ ghost use mathlib.Core.List.{List, []};
 ghost use mathlib.Core.Bool.{cond};
 ghost use Prim.Native.Nat.{ℕ, _+_, _≤_};
 ghost use lib.ListN.{length};
-ghost use Rattle.ledger.specs.Answer.{refused};
-ghost use Rattle.replies.specs.Words.{reply};
-ghost use Rattle.replies.specs.Room.{Put};
+ghost use Rattle.move_ledger.specs.Answer.{refused};
+ghost use Rattle.moves_replies.specs.Words.{reply};
+ghost use Rattle.moves_replies.specs.Room.{Put};
 ghost use Rattle.moves_commands.specs.Program as def;
 ghost use Rattle.moves_commands.specs.Program.{areas};
 ghost use Rattle.moves_commands.specs.Steps.{CanLend, CanLoad, CanStep, Stepped, held};
@@ -16,11 +16,11 @@ use crate::answers::put_move;
 use crate::answers::put_set_answer;
 use crate::calls;
 use crate::edge_lines::list_edges;
-use load_commands::Machine;
-use load_commands::done;
-use load_commands::fill_starts;
-use load_commands::read;
-use replies::put_refused;
+use moves_load_commands::Machine;
+use moves_load_commands::done;
+use moves_load_commands::fill_starts;
+use moves_load_commands::read;
+use moves_replies::put_refused;
 
 // The machine, and the place behind the reply.
 pub struct Turn {

@@ -12,19 +12,19 @@ use Rattle.layout.specs.Patch.{part-at}
 use Rattle.entry_set.specs.Sets.{value, legal}
 use Rattle.entry_set.specs.SetLaws.{legal-below}
 use Rattle.entry_set.specs.Lanes.{lanes}
-use Rattle.ledger.specs.Graph.{Load, at, edge}
-use Rattle.ledger.specs.Answer.{Answer, refused, is-refused}
-use Rattle.ledger.specs.Ledger.{step1, step2, step3, full, move}
-use Rattle.ledger.specs.MoveLaws.{steps}
-use Rattle.ledger.specs.Loading.{refusal}
-use Rattle.ledger.specs.NodeLaws.{placed-at}
+use Rattle.move_ledger.specs.Graph.{Load, at, edge}
+use Rattle.move_ledger.specs.Answer.{Answer, refused, is-refused}
+use Rattle.move_ledger.specs.Ledger.{step1, step2, step3, full, move}
+use Rattle.move_ledger.specs.MoveLaws.{steps}
+use Rattle.move_ledger.specs.Loading.{refusal}
+use Rattle.move_ledger.specs.NodeLaws.{placed-at}
 use Rattle.move_area.specs.Bodies.{laneAt, atomAt}
 use Rattle.move_area.specs.Area.{State, encode, decode, consistent, setsIn}
 use Rattle.move_area.specs.Held.{consistent-whole}
 use Rattle.move_area.specs.Checked.{nodesIn, Ranged, consistent-ranged, ranged-placing, sets-at}
 use Rattle.move_area.specs.Calls.{tried, after, checked}
 use Rattle.move_area.specs.Calls as calls
-use Rattle.moving.specs.Tried.{CanTry, Answers}
+use Rattle.move_try.specs.Tried.{CanTry, Answers}
 use Rattle.reduced_chunk_graph.specs.Moves.{CanGoOn, GoesOn, FromNine}
 
 -- a refused move isn't tried

@@ -4,11 +4,11 @@ use mathlib.Core.Path.{_≡_}
 use mathlib.Core.Bool.{true, cond}
 use mathlib.Core.List.{List}
 use lib.ListN.{length}
-use Rattle.ledger.specs.Graph.{Load}
-use Rattle.ledger.specs.Answer.{Answer, refused, is-refused}
-use Rattle.ledger.specs.Ledger.{move}
-use Rattle.ledger.specs.LoadLaws.{Loadable}
-use Rattle.placement.specs.SlotLaws.{Slotted}
+use Rattle.move_ledger.specs.Graph.{Load}
+use Rattle.move_ledger.specs.Answer.{Answer, refused, is-refused}
+use Rattle.move_ledger.specs.Ledger.{move}
+use Rattle.move_ledger.specs.LoadLaws.{Loadable}
+use Rattle.move_slots.specs.SlotLaws.{Slotted}
 use Rattle.move_area.specs.Area.{encode, decode, consistent, setsIn}
 use Rattle.move_area.specs.Checked.{nodesIn}
 use Rattle.move_area.specs.Calls.{after}

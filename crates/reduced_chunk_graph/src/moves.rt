@@ -3,8 +3,8 @@ use super::MoveAnswer;
 ghost use mathlib.Core.Path.{_≡_};
 ghost use Prim.Native.Nat.{_≤_};
 ghost use lib.ListN.{length};
-ghost use Rattle.ledger.specs.Loading.{refusal};
-ghost use Rattle.ledger.specs.Graph.{lent};
+ghost use Rattle.move_ledger.specs.Loading.{refusal};
+ghost use Rattle.move_ledger.specs.Graph.{lent};
 ghost use Rattle.move_area.specs.Calls as calls;
 ghost use Rattle.reduced_chunk_graph.specs.Answers.{ofMove};
 ghost use Rattle.reduced_chunk_graph.specs.Moves.{CanGoOn, GoesOn, FromNine};
@@ -39,7 +39,7 @@ fn go_on(
     if entry_set::equal(entry_set::read_lanes(area, lanes + node, n), target) {
         return MoveAnswer::Refused(12);
     }
-    let tried = moving::try_checked(
+    let tried = move_try::try_checked(
         a,
         d,
         e,
@@ -54,9 +54,9 @@ fn go_on(
         targets,
     );
     match tried {
-        moving::Tried::Accepted => MoveAnswer::Accepted,
-        moving::Tried::Rejected => MoveAnswer::Rejected,
-        moving::Tried::Full => MoveAnswer::Refused(13),
+        move_try::Tried::Accepted => MoveAnswer::Accepted,
+        move_try::Tried::Rejected => MoveAnswer::Rejected,
+        move_try::Tried::Full => MoveAnswer::Refused(13),
     }
 }
 
@@ -80,7 +80,7 @@ fn try_large(
     let mut targets = [0u32; 8448];
     let mut degrees = [0u32; 1024];
     let mut order = [0u32; 1024];
-    if !later_rows::check::check_large(
+    if !move_rows::check::check_large(
         a,
         d,
         e,
@@ -132,7 +132,7 @@ fn try_small(
     let mut targets = [0u32; 1024];
     let mut degrees = [0u32; 128];
     let mut order = [0u32; 128];
-    if !later_rows::check::check_small(
+    if !move_rows::check::check_small(
         a,
         d,
         e,
@@ -180,7 +180,7 @@ pub fn try_move(
     ensures { λ r. ⌜ ofMove r ≡ calls.try-move (lent a d e (now (starts .entry)) (now (dependencies .entry)) (now (hosts .entry))) n (now (area .entry)) atom (now (bits .entry)) .answer ⌝ }
     ensures { λ _. ⌜ now (area .exit) ≡ calls.try-move (lent a d e (now (starts .entry)) (now (dependencies .entry)) (now (hosts .entry))) n (now (area .entry)) atom (now (bits .entry)) .area ⌝ }
 {
-    let q = load_checks::refusal(a, d, e, n, starts, dependencies, hosts, true, area.len());
+    let q = move_load_rows::refusal(a, d, e, n, starts, dependencies, hosts, true, area.len());
     if q != 0 {
         return MoveAnswer::Refused(q);
     }

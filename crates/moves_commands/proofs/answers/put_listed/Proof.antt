@@ -1,7 +1,7 @@
 -- `moves_commands::answers::put_listed` meets its contract. Assumes nothing.
 use native.Mathlib.Omega.{arith}
-use Rattle.replies.specs.Words.{reply}
-use Rattle.replies.specs.Room.{put-none, put-as}
+use Rattle.moves_replies.specs.Words.{reply}
+use Rattle.moves_replies.specs.Room.{put-none, put-as}
 use Rattle.moves_commands.proofs.Sets.{edge-line}
 use borrow.Author.Needs.{needs}
 use Rattle.moves_commands.proofs.answers.put_listed.Statement.{statement}

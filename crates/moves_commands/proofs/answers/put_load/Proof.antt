@@ -1,7 +1,7 @@
 -- `moves_commands::answers::put_load` meets its contract. Assumes nothing.
-use Rattle.replies.specs.Room.{put-then}
-use Rattle.replies.specs.Words.{reply}
-use Rattle.replies.specs.Room.{put-then}
+use Rattle.moves_replies.specs.Room.{put-then}
+use Rattle.moves_replies.specs.Words.{reply}
+use Rattle.moves_replies.specs.Room.{put-then}
 use borrow.Author.Needs.{needs}
 use Rattle.moves_commands.proofs.answers.put_load.Statement.{statement}
 use Rattle.moves_commands.proofs.answers.put_load.Tie as tie

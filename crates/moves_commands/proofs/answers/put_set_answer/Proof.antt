@@ -1,5 +1,5 @@
 -- `moves_commands::answers::put_set_answer` meets its contract. Assumes nothing.
-use Rattle.replies.specs.Words.{reply}
+use Rattle.moves_replies.specs.Words.{reply}
 use borrow.Author.Needs.{needs}
 use Rattle.moves_commands.proofs.answers.put_set_answer.Statement.{statement}
 use Rattle.moves_commands.proofs.answers.put_set_answer.Tie as tie

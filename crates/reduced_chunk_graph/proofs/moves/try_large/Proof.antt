@@ -3,7 +3,7 @@ use native.Mathlib.Omega.{arith}
 use mathlib.Core.Path.{sym, _∙_}
 use mathlib.Core.Bool.{true}
 use borrow.Author.Tests.{not-true, not-false}
-use Rattle.ledger.specs.LoadLaws.{first-row-none}
+use Rattle.move_ledger.specs.LoadLaws.{first-row-none}
 use Rattle.reduced_chunk_graph.specs.MoveLaws.{nine-refused, nine-passed}
 use borrow.Author.Needs.{needs}
 use Rattle.reduced_chunk_graph.proofs.moves.try_large.Statement.{statement}

@@ -1,0 +1,37 @@
+-- `move_consistency::worked::edges_hold` meets its contract. Assumes nothing.
+use Rattle.move_consistency.proofs.Matching.{match-group, match-check, match-done}
+use Rattle.move_consistency.proofs.worked.edges_hold.Statement.{statement}
+use Rattle.move_consistency.proofs.worked.edges_hold.Tie as tie
+
+group-requires : tie.Need-group-requires
+group-requires c κs = match-group (c .before .before .before .before .before .before .before .before .before .pre)
+
+check-requires : tie.Need-check-requires
+check-requires c κs = match-check (c .before .before .before .before .before .before .before .before .before .before .before .before .before .before .before .before .before .before .pre) (c .before .before .before .before .before .before .before .before .group .ensures)
+
+same-length : tie.Need-same-length
+same-length c = c .before .before .before .before .before .before .before .before .before .before .before .before .before .group .kept .1 .1 .1 .1 .0
+
+same-length-2 : tie.Need-same-length-2
+same-length-2 c = c .before .before .before .before .before .before .before .before .before .before .before .before .before .group .kept .1 .1 .1 .1 .1 .0
+
+same-length-3 : tie.Need-same-length-3
+same-length-3 c = c .before .before .before .before .check .kept .1 .1 .1 .1 .0
+
+same-length-4 : tie.Need-same-length-4
+same-length-4 c = c .before .before .before .before .check .kept .1 .1 .1 .1 .1 .0
+
+returns : tie.Need-returns
+returns c = match-done (c .before .before .before .before .before .before .before .before .before .before .before .before .before .before .before .before .before .before .before .before .before .before .before .pre) (c .before .before .before .before .before .before .before .before .before .before .before .before .before .group .ensures) (c .before .before .before .before .check .ensures)
+
+pub edges-hold-spec : {M : Type 1} → statement M
+edges-hold-spec =
+    tie.close
+    (tie.spec
+    group-requires
+    check-requires
+    same-length
+    same-length-2
+    same-length-3
+    same-length-4
+    returns)

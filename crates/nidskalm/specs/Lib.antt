@@ -1,0 +1,3 @@
+-- The definitions that the contracts of `nidskalm` cite, and their laws. Assumes nothing.
+pub mod Replies
+pub mod ReplyLaws
