@@ -179,4 +179,4 @@ begin-spec 𝓤 H 𝓜 𝓖 𝓡 =
     entered 𝓤 H (tripleOf 𝓤 H (𝓖 .A) begin.signature (begin.spec 𝓤 H (𝓖 .A) (𝓜 .mem) (𝓡 .run)))
     (tables 𝓤 H 𝓜 𝓡 code.env .C) (tables 𝓤 H 𝓜 𝓡 code.env .Λ) #walk-counter·begin code.function (code.unfolded 𝓤 H 𝓜 𝓡)
     (begin-meets 𝓤 H (𝓖 .A) (givenOf 𝓤 H 𝓜 𝓖) (𝓜 .mem) (𝓡 .run) (tablesOf 𝓤 H 𝓜 (tables 𝓤 H 𝓜 𝓡 code.env))
-    (cited 𝓤 H (Start 𝓤 H (𝓖 .A) (𝓜 .mem) (𝓡 .run)) 𝓜 𝓡 code.env #walk-counter·start start-def.routine code.calls-walk-counter·start (start-thm.met 𝓤 H 𝓜 𝓖 𝓡)))
+    (cited 𝓤 H (Start 𝓤 H (𝓖 .A) (𝓜 .mem) (𝓡 .run)) 𝓜 𝓡 code.env #walk-counter·start start-def.routine code.calls-move-counter·start (start-thm.met 𝓤 H 𝓜 𝓖 𝓡)))

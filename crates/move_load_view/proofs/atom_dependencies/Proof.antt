@@ -160,4 +160,4 @@ atom-dependencies-spec 𝓤 H 𝓜 𝓖 𝓡 =
     entered 𝓤 H (tripleOf 𝓤 H (𝓖 .A) plainly.signature (plainly.spec 𝓤 H (𝓖 .A) (𝓜 .mem) (𝓡 .run)))
     (tables 𝓤 H 𝓜 𝓡 code.env .C) (tables 𝓤 H 𝓜 𝓡 code.env .Λ) #load-view·atom-dependencies code.function (code.unfolded 𝓤 H 𝓜 𝓡)
     (atom-dependencies-meets 𝓤 H (𝓖 .A) (givenOf 𝓤 H 𝓜 𝓖) (𝓜 .mem) (𝓡 .run) (tablesOf 𝓤 H 𝓜 (tables 𝓤 H 𝓜 𝓡 code.env))
-    (cited 𝓤 H (Deps 𝓤 H (𝓖 .A) (𝓜 .mem) (𝓡 .run)) 𝓜 𝓡 code.env #load-view·dependencies-of deps-def.routine code.calls-load-view·dependencies-of (deps-thm.met 𝓤 H 𝓜 𝓖 𝓡)))
+    (cited 𝓤 H (Deps 𝓤 H (𝓖 .A) (𝓜 .mem) (𝓡 .run)) 𝓜 𝓡 code.env #load-view·dependencies-of deps-def.routine code.calls-move-load-view·dependencies-of (deps-thm.met 𝓤 H 𝓜 𝓖 𝓡)))

@@ -156,4 +156,4 @@ bit-host-spec 𝓤 H 𝓜 𝓖 𝓡 =
     entered 𝓤 H (tripleOf 𝓤 H (𝓖 .A) plainly.signature (plainly.spec 𝓤 H (𝓖 .A) (𝓜 .mem) (𝓡 .run)))
     (tables 𝓤 H 𝓜 𝓡 code.env .C) (tables 𝓤 H 𝓜 𝓡 code.env .Λ) #load-view·bit-host code.function (code.unfolded 𝓤 H 𝓜 𝓡)
     (bit-host-meets 𝓤 H (𝓖 .A) (givenOf 𝓤 H 𝓜 𝓖) (𝓜 .mem) (𝓡 .run) (tablesOf 𝓤 H 𝓜 (tables 𝓤 H 𝓜 𝓡 code.env))
-    (cited 𝓤 H (Host 𝓤 H (𝓖 .A) (𝓜 .mem) (𝓡 .run)) 𝓜 𝓡 code.env #load-view·host-of host-def.routine code.calls-load-view·host-of (host-thm.met 𝓤 H 𝓜 𝓖 𝓡)))
+    (cited 𝓤 H (Host 𝓤 H (𝓖 .A) (𝓜 .mem) (𝓡 .run)) 𝓜 𝓡 code.env #load-view·host-of host-def.routine code.calls-move-load-view·host-of (host-thm.met 𝓤 H 𝓜 𝓖 𝓡)))

@@ -166,4 +166,4 @@ dependencies-of-spec 𝓤 H 𝓜 𝓖 𝓡 =
     entered 𝓤 H (tripleOf 𝓤 H (𝓖 .A) deps.signature (deps.spec 𝓤 H (𝓖 .A) (𝓜 .mem) (𝓡 .run)))
     (tables 𝓤 H 𝓜 𝓡 code.env .C) (tables 𝓤 H 𝓜 𝓡 code.env .Λ) #load-view·dependencies-of code.function (code.unfolded 𝓤 H 𝓜 𝓡)
     (dependencies-of-meets 𝓤 H (𝓖 .A) (givenOf 𝓤 H 𝓜 𝓖) (𝓜 .mem) (𝓡 .run) (tablesOf 𝓤 H 𝓜 (tables 𝓤 H 𝓜 𝓡 code.env))
-    (cited 𝓤 H (PartAt 𝓤 H (𝓖 .A) (𝓜 .mem) (𝓡 .run)) 𝓜 𝓡 code.env #load-view·part-at part-at-def.routine code.calls-load-view·part-at (part-at-thm.met 𝓤 H 𝓜 𝓖 𝓡)))
+    (cited 𝓤 H (PartAt 𝓤 H (𝓖 .A) (𝓜 .mem) (𝓡 .run)) 𝓜 𝓡 code.env #load-view·part-at part-at-def.routine code.calls-move-load-view·part-at (part-at-thm.met 𝓤 H 𝓜 𝓖 𝓡)))
