@@ -1,12 +1,12 @@
 -- `graph_depth_first::state_of` meets its contract. Assumes nothing.
 use native.Mathlib.Omega.{arith}
 use mathlib.Core.Path.{sym}
-use Rattle.graph_depth_first.proofs.Views.{state-black}
+use Rattle.graph_colours.specs.States.{state-black}
 use borrow.Author.Needs.{needs}
-use Rattle.graph_depth_first.proofs.state_of.Statement.{statement}
-use Rattle.graph_depth_first.proofs.state_of.Tie as tie
-use Rattle.graph_depth_first.proofs.state_of.Reads as reads
-use Rattle.graph_depth_first.proofs.state_of.Lts as lts
+use Rattle.graph_colours.proofs.state_of.Statement.{statement}
+use Rattle.graph_colours.proofs.state_of.Tie as tie
+use Rattle.graph_colours.proofs.state_of.Reads as reads
+use Rattle.graph_colours.proofs.state_of.Lts as lts
 
 -- src/lib.rt:21:1
 returns : tie.Need-returns

@@ -4,8 +4,8 @@ use mathlib.Core.Path.{_≡_}
 use mathlib.Core.Logic.{_⊎_}
 use mathlib.Core.List.{List, [], _∷_}
 use lib.ListN.{getD}
-use Rattle.graph_depth_first.specs.declared.State.{State}
-use Rattle.graph_depth_first.specs.declared.State.the-variants.{White, Gray, Black}
+use Rattle.graph_colours.specs.declared.State.{State}
+use Rattle.graph_colours.specs.declared.State.the-variants.{White, Gray, Black}
 
 -- the state that comes next: a white node is discovered, a gray one's edges are all gone through, a black one stays black
 abbrev pub next-state : State → State

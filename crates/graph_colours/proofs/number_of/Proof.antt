@@ -1,12 +1,12 @@
 -- `graph_depth_first::number_of` meets its contract. Assumes nothing.
 use mathlib.Core.Path.{sym, ap}
-use Rattle.graph_depth_first.specs.declared.State.{State}
-use Rattle.graph_depth_first.specs.Colours.{number-of}
+use Rattle.graph_colours.specs.declared.State.{State}
+use Rattle.graph_colours.specs.Colours.{number-of}
 use borrow.Author.Needs.{needs}
-use Rattle.graph_depth_first.proofs.number_of.Statement.{statement}
-use Rattle.graph_depth_first.proofs.number_of.Tie as tie
-use Rattle.graph_depth_first.proofs.number_of.Reads as reads
-use Rattle.graph_depth_first.proofs.number_of.Lts as lts
+use Rattle.graph_colours.proofs.number_of.Statement.{statement}
+use Rattle.graph_colours.proofs.number_of.Tie as tie
+use Rattle.graph_colours.proofs.number_of.Reads as reads
+use Rattle.graph_colours.proofs.number_of.Lts as lts
 
 -- src/lib.rt:51:25
 enum-told : tie.Need-enum-told

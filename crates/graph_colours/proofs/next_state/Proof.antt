@@ -1,7 +1,7 @@
 -- `graph_depth_first::next_state` meets its contract: a case for each state. Assumes nothing.
 use borrow.Author.Needs.{needs}
-use Rattle.graph_depth_first.proofs.next_state.Statement.{statement}
-use Rattle.graph_depth_first.proofs.next_state.Tie as tie
+use Rattle.graph_colours.proofs.next_state.Statement.{statement}
+use Rattle.graph_colours.proofs.next_state.Tie as tie
 
 enum-told : tie.Need-enum-told
 enum-told c = search needs

@@ -10,15 +10,10 @@ use lib.Dec.{eqb}
 use borrow.Author.Tests.{eqb-true, eq-eqb, ne-eqb}
 use Rattle.graphs.specs.Bools.{or-cases, or-left, or-right, fails}
 use Rattle.graphs.specs.Lists.{any, has}
-use Rattle.graph_depth_first.specs.declared.State.{State}
-use Rattle.graph_depth_first.specs.declared.State.the-variants.{White, Gray, Black}
-use Rattle.graph_depth_first.specs.Colours.{next-state, View, Turns, Next, Opens, Passes, Closes, Step, opens, passes, closes, Run, none, more, Starts}
-
--- the three states differ
-abbrev code : State → ℕ
-code White = 0
-code Gray = 1
-code Black = 2
+use Rattle.graph_colours.specs.declared.State.{State}
+use Rattle.graph_colours.specs.declared.State.the-variants.{White, Gray, Black}
+use Rattle.graph_colours.specs.States.{code}
+use Rattle.graph_colours.specs.Colours.{next-state, View, Turns, Next, Opens, Passes, Closes, Step, opens, passes, closes, Run, none, more, Starts}
 
 has-here : (x : ℕ) (l : List ℕ) → has x (x ∷ l) ≡ true
 unfolding has any
