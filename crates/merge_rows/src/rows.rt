@@ -171,9 +171,9 @@ pub fn pass_row(
 ) -> u32
     ensures { λ r. ⌜ r ≡ refusal sizes (now (area .entry)) (pass (now (proposals .entry)) (now (bars .entry)) (now (kinds .entry)) (now (numbers .entry))) ⌝ }
 {
-    let row = merge_area::standing_row(sizes, false, false, area);
-    if row != 0 {
-        return row;
+    let standing = merge_area::standing_row(sizes, false, false, area);
+    if standing != 0 {
+        return standing;
     }
     let n = crate::checks::count_candidates(sizes, area);
     if crate::checks::is_other_length(n, proposals.len(), bars.len(), kinds.len(), numbers.len()) {
