@@ -13,7 +13,7 @@ ghost use lib.ListN.{length};
 ghost use lib.Dec.{eqb, leb};
 ghost use Rattle.entry_set.specs.Sets.{value};
 ghost use Rattle.merge_state.specs.State.{None, chunk-of};
-ghost use Rattle.merge_state.specs.Table.{first-fitting, init-module-assignment, add-module-to-chunk, register-chunk-graph-index, calc-chunk-dependencies, would-create-circular-dependency, is-reachable, pass};
+ghost use Rattle.merge_state.specs.Table.{first-fitting, init-module-assignment, add-module-to-chunk, calc-chunk-dependencies, would-create-circular-dependency, is-reachable, pass};
 ghost use Rattle.merge_area.specs.Layout.{cell, head};
 ghost use Rattle.merge_area.specs.Read.{sets-in};
 ghost use Rattle.merge_area.specs.Within.{Headed};
@@ -86,23 +86,6 @@ pub fn add_row(sizes: Sizes, area: &[u32], m: ModuleIdx, x: ChunkIdx, effects: &
     }
     if is_full(sizes, area) {
         return 19;
-    }
-    0
-}
-
-// The row of `register_chunk_graph_index`.
-pub fn register_row(sizes: Sizes, area: &[u32], key: ChunkIdx, chunk: ChunkIdx) -> u32
-    ensures { λ r. ⌜ r ≡ refusal sizes (now (area .entry)) (register-chunk-graph-index (key .0) (chunk .0)) ⌝ }
-{
-    let row = merge_area::standing_row(sizes, false, false, area);
-    if row != 0 {
-        return row;
-    }
-    if sizes.chunks <= key.0 as usize {
-        return 16;
-    }
-    if is_unmade(sizes, area, chunk) {
-        return 16;
     }
     0
 }
