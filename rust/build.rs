@@ -8,14 +8,14 @@ fn main() {
     let here = env::var("CARGO_MANIFEST_DIR").expect("cargo sets CARGO_MANIFEST_DIR");
     let directory =
         env::var_os("NIDSKALM_LIB_DIR").map_or_else(|| Path::new(&here).join("../target/staticlib"), PathBuf::from);
-    let archive = directory.join("libexports.a");
+    let archive = directory.join("libnidskalm.a");
     println!("cargo:rerun-if-changed={}", archive.display());
     if !archive.exists() {
         eprintln!("nidskalm: {} is missing.", archive.display());
-        eprintln!("Build it with `rt staticlib exports` at the repository's root, or set NIDSKALM_LIB_DIR to the");
-        eprintln!("directory that holds libexports.a.");
+        eprintln!("Build it with `rt staticlib nidskalm` at the repository's root, or set NIDSKALM_LIB_DIR to the");
+        eprintln!("directory that holds libnidskalm.a.");
         exit(1);
     }
     println!("cargo:rustc-link-search=native={}", directory.display());
-    println!("cargo:rustc-link-lib=static=exports");
+    println!("cargo:rustc-link-lib=static=nidskalm");
 }

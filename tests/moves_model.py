@@ -2,7 +2,7 @@
 """The program `moves` worked out plainly from document 01: counts, edges, cycles and component afresh at each command.
 
     tests/moves_model.py < INPUT      what the program prints to INPUT, raw bytes
-    tests/moves_model.py --write      writes crates/moves_cases/stdin and stdout from tests/moves_inputs.txt
+    tests/moves_model.py --write      writes crates/test_moves/stdin and stdout from tests/moves_inputs.txt
     tests/moves_model.py --check      compares both files with what --write would write, and P1 with crates/moves
     tests/moves_model.py --large MOVES
                                       runs the program MOVES on an input of many blocks, and compares what it prints
@@ -143,7 +143,7 @@ def inputs(text):
 
 
 def cases(root):
-    """Standard input and output of crates/moves_cases."""
+    """Standard input and output of crates/test_moves."""
     data, text = b"", ""
     for number, case in enumerate(inputs((root / "tests/moves_inputs.txt").read_text()), 1):
         data += len(case).to_bytes(2, "little") + case
@@ -166,7 +166,7 @@ def large(example):
 
 def main():
     root = pathlib.Path(__file__).resolve().parent.parent
-    folder, example = root / "crates/moves_cases", root / "crates/moves"
+    folder, example = root / "crates/test_moves", root / "crates/moves"
     if sys.argv[1:] == ["--write"]:
         data, text = cases(root)
         (folder / "stdin").write_bytes(data)

@@ -6,12 +6,12 @@ use Rattle.graphs.specs.Count.{count}
 use Rattle.graphs.specs.Tab.{tab}
 use Rattle.graphs.specs.Walk.{via, cyclic, only}
 use Rattle.entry_set.specs.Joined.{joined, parts}
-use Rattle.ledger.specs.Graph.{owner, lies, members, entry, facade, mult, edge, insert, rising, row, rows, edges}
-use Rattle.ledger.specs.Ledger.{register, move, kth, ask, call, answers, ledger}
-use Rattle.ledger.specs.Loading.{row4, row5, row6, first-row, entry-sets, row7, row8, loading-row, loading}
+use Rattle.move_ledger.specs.Graph.{owner, lies, members, entry, facade, mult, edge, insert, rising, row, rows, edges}
+use Rattle.move_ledger.specs.Ledger.{register, move, kth, ask, call, answers, ledger}
+use Rattle.move_ledger.specs.Loading.{row4, row5, row6, first-row, entry-sets, row7, row8, loading-row, loading}
 use Rattle.cases.specs.Run.{MoveCase, MoveOutcome, move-outcome, tries, every, shut}
 use Rattle.cases.specs.Moves.{move-cases}
-use Rattle.walks.specs.Closed.{closed}
+use Rattle.graph_walks.specs.Closed.{closed}
 use Rattle.merge_state.specs.State.{put, misfit}
 use Rattle.merge_state.specs.Methods.{reachable, warns, absorbed, merged, created-chunk, candidate, passed}
 use Rattle.merge_state.specs.Methods as methods

@@ -2,10 +2,10 @@
 use Prim.Native.Nat.{ℕ}
 use mathlib.Core.List.{List, [], _∷_, _++_}
 use lib.ListN.{replicate}
-use Rattle.ledger.specs.Graph.{Load, none}
-use Rattle.ledger.specs.Answer.{Answer, refused, acyclic, cyclic, accepted, rejected, set, number, edge}
-use Rattle.ledger.specs.Answer as answer
-use Rattle.ledger.specs.Ledger.{Ledger, try-move, asks, atom-set, atom-count, multiplicity, edge-count, edge-at}
+use Rattle.move_ledger.specs.Graph.{Load, none}
+use Rattle.move_ledger.specs.Answer.{Answer, refused, acyclic, cyclic, accepted, rejected, set, number, edge}
+use Rattle.move_ledger.specs.Answer as answer
+use Rattle.move_ledger.specs.Ledger.{Ledger, try-move, asks, atom-set, atom-count, multiplicity, edge-count, edge-at}
 use Rattle.cases.specs.Run.{MoveCase, every, shut}
 
 abbrev nobody : ℕ → List ℕ

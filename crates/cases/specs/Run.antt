@@ -4,10 +4,10 @@ use mathlib.Core.Bool.{cond}
 use mathlib.Core.List.{List, [], _∷_, _++_}
 use lib.Dec.{eqb}
 use Rattle.entry_set.specs.Sets.{value}
-use Rattle.ledger.specs.Graph.{Load, at}
-use Rattle.ledger.specs.Answer.{Answer, refused, rejected}
-use Rattle.ledger.specs.Ledger.{Ledger, loaded, Call, try-move, asks, answers, ledger}
-use Rattle.ledger.specs.Loading.{entry-sets, loading}
+use Rattle.move_ledger.specs.Graph.{Load, at}
+use Rattle.move_ledger.specs.Answer.{Answer, refused, rejected}
+use Rattle.move_ledger.specs.Ledger.{Ledger, loaded, Call, try-move, asks, answers, ledger}
+use Rattle.move_ledger.specs.Loading.{entry-sets, loading}
 
 -- what came out: the answer to loading, the calls' answers, and the ledger at the end
 pub record MoveOutcome : Type 0 where

@@ -9,10 +9,10 @@ use borrow.Author.Tests.{lt-ltb}
 use Rattle.graphs.specs.Square.{index-lt, index-div, index-mod}
 use Rattle.graphs.specs.Tab.{tab-at}
 use Rattle.layout.specs.Patch.{part, part-at}
-use Rattle.ledger.specs.Graph.{Load, at, members, mult}
-use Rattle.ledger.specs.Ledger.{Ledger, move, try-move, call}
-use Rattle.ledger.specs.Loading.{refusal}
-use Rattle.ledger.specs.LoadLaws.{first-row-none}
+use Rattle.move_ledger.specs.Graph.{Load, at, members, mult}
+use Rattle.move_ledger.specs.Ledger.{Ledger, move, try-move, call}
+use Rattle.move_ledger.specs.Loading.{refusal}
+use Rattle.move_ledger.specs.LoadLaws.{first-row-none}
 use Rattle.move_area.specs.Bodies.{laneAt}
 use Rattle.move_area.specs.BodyLaws.{read-edges, read-counts}
 use Rattle.move_area.specs.Area.{State, bodies, encode, decode, consistent}

@@ -4,9 +4,9 @@ use mathlib.Core.Path.{_≡_}
 use mathlib.Core.Logic.{_↔_}
 use mathlib.Core.Bool.{true}
 use Rattle.graphs.specs.Lists.{has}
-use Rattle.depth_first.specs.declared.State.the-variants.{White, Gray, Black}
-use Rattle.depth_first.specs.Colours.{View, Passes, Run, Starts, Ran}
-use Rattle.depth_first.specs.Life.{life, passed-gray, black-stays}
+use Rattle.graph_colours.specs.declared.State.the-variants.{White, Gray, Black}
+use Rattle.graph_colours.specs.Colours.{View, Passes, Run, Starts, Ran}
+use Rattle.graph_colours.specs.Life.{life, passed-gray, black-stays}
 
 -- what holds of node x between two steps, `now`, of a walk that began at `first`; `later` is any moment from then on. Node x has d x neighbours, the i-th is f x i
 pub record ByTheBook (n : ℕ) (d : ℕ → ℕ) (f : ℕ → ℕ → ℕ) (first now later : View) (x : ℕ) : Type 0 where

@@ -3,9 +3,9 @@ use Prim.Native.Nat.{ℕ}
 use mathlib.Core.Path.{_≡_, refl}
 use mathlib.Core.Bool.{true}
 use mathlib.Core.List.{List}
-use Rattle.ledger.specs.Graph.{Load}
-use Rattle.ledger.specs.Answer.{is-refused}
-use Rattle.ledger.specs.Ledger.{Call, try-move, asks}
+use Rattle.move_ledger.specs.Graph.{Load}
+use Rattle.move_ledger.specs.Answer.{is-refused}
+use Rattle.move_ledger.specs.Ledger.{Call, try-move, asks}
 use Rattle.move_area.specs.Calls.{new}
 use Rattle.move_area.specs.Calls as calls
 use Rattle.move_area.specs.History.{call-area}

@@ -12,12 +12,12 @@ use Rattle.graphs.specs.Lists.{has}
 use Rattle.graphs.specs.Walk.{Walk, cyclic}
 use Rattle.graphs.specs.Walks.{acyclic-walk}
 use Rattle.entry_set.specs.Sets.{value, legal}
-use Rattle.ledger.specs.Graph.{Load, at, mult, edge}
-use Rattle.ledger.specs.GraphLaws.{edge-source, outside-stays}
-use Rattle.ledger.specs.Answer.{accepted, rejected, is-refused}
-use Rattle.ledger.specs.Ledger.{Ledger, Answered, gives, full, step1, step2, step3, move, Call}
-use Rattle.ledger.specs.MoveLaws.{move-steps, steps-exact}
-use Rattle.ledger.specs.Loading.{refusal}
+use Rattle.move_ledger.specs.Graph.{Load, at, mult, edge}
+use Rattle.move_ledger.specs.GraphLaws.{edge-source, outside-stays}
+use Rattle.move_ledger.specs.Answer.{accepted, rejected, is-refused}
+use Rattle.move_ledger.specs.Ledger.{Ledger, Answered, gives, full, step1, step2, step3, move, Call}
+use Rattle.move_ledger.specs.MoveLaws.{move-steps, steps-exact}
+use Rattle.move_ledger.specs.Loading.{refusal}
 use Rattle.move_area.specs.Area.{decode, consistent}
 use Rattle.move_area.specs.Calls as on-area
 use Rattle.demands.specs.History.{history, history-length}

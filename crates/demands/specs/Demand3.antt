@@ -9,11 +9,11 @@ use lib.ListN.{length, set}
 use lib.Seq.{ext-getD, getD-set-other, set-comm}
 use Rattle.graphs.specs.Walk.{cyclic, only}
 use Rattle.entry_set.specs.Sets.{value, legal}
-use Rattle.ledger.specs.Graph.{Load, at, edge}
-use Rattle.ledger.specs.Answer.{Answer, refused, accepted, rejected, is-refused}
-use Rattle.ledger.specs.Ledger.{Ledger, full, step1, step2, step3, move, Call, try-move, asks, call, loaded, answers}
-use Rattle.ledger.specs.MoveLaws.{steps, move-steps, accepted-passed, steps-late, steps-room, room}
-use Rattle.ledger.specs.Loading.{refusal, entry-sets}
+use Rattle.move_ledger.specs.Graph.{Load, at, edge}
+use Rattle.move_ledger.specs.Answer.{Answer, refused, accepted, rejected, is-refused}
+use Rattle.move_ledger.specs.Ledger.{Ledger, full, step1, step2, step3, move, Call, try-move, asks, call, loaded, answers}
+use Rattle.move_ledger.specs.MoveLaws.{steps, move-steps, accepted-passed, steps-late, steps-room, room}
+use Rattle.move_ledger.specs.Loading.{refusal, entry-sets}
 use Rattle.move_area.specs.Area.{decode, consistent}
 use Rattle.move_area.specs.Calls.{first, new}
 use Rattle.move_area.specs.Calls as on-area

@@ -3,11 +3,11 @@ use Prim.Native.Nat.{ℕ}
 use mathlib.Core.Path.{_≡_}
 use mathlib.Core.List.{List}
 use lib.ListN.{length}
-use Rattle.ledger.specs.Graph.{Load}
-use Rattle.ledger.specs.Ledger.{Ledger, loaded, Call, ledger}
-use Rattle.ledger.specs.Loading.{entry-sets}
-use Rattle.ledger.specs.LoadLaws.{entry-sets-length}
-use Rattle.ledger.specs.MoveLaws.{ledger-length}
+use Rattle.move_ledger.specs.Graph.{Load}
+use Rattle.move_ledger.specs.Ledger.{Ledger, loaded, Call, ledger}
+use Rattle.move_ledger.specs.Loading.{entry-sets}
+use Rattle.move_ledger.specs.LoadLaws.{entry-sets-length}
+use Rattle.move_ledger.specs.MoveLaws.{ledger-length}
 
 -- "Its ledger is fed the load, entry sets, N and the calls' arguments, nothing else": `sets` are the entry sets as they are lent
 abbrev pub history : Load → ℕ → List ℕ → List Call → Ledger

@@ -10,7 +10,7 @@ use borrow.Author.Tests.{eqb-true, eqb-false, eq-eqb, ne-eqb, leb-false, ltb-fal
 use Rattle.graphs.specs.Bools.{and-left, or-false-left, or-false-right}
 use Rattle.graphs.specs.Lists.{below, some-none}
 use Rattle.graphs.specs.Walk.{via}
-use Rattle.walks.specs.Closed.{flagEdge}
+use Rattle.graph_walks.specs.Closed.{flagEdge}
 use Rattle.entry_set.specs.Sets.{value, width}
 use Rattle.merge_state.specs.declared.Sizes.{Sizes}
 use Rattle.merge_state.specs.State.{None, chunk-of, pairs}

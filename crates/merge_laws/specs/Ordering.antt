@@ -12,8 +12,8 @@ use borrow.Author.Tests.{eqb-false, ne-eqb, leb-false, ltb-true, ltb-false, lt-l
 use Rattle.graphs.specs.Bools.{alike, fails, and-left, and-right, and-both, or-false-left, or-false-right}
 use Rattle.graphs.specs.Count.{count-pos}
 use Rattle.graphs.specs.Lists.{some-below, some-none}
-use Rattle.walks.specs.Closed.{flagEdge}
-use Rattle.walks.specs.ClosedLaws.{flag-from, flag-to, flag-is}
+use Rattle.graph_walks.specs.Closed.{flagEdge}
+use Rattle.graph_walks.specs.ClosedLaws.{flag-from, flag-to, flag-is}
 use Rattle.entry_set.specs.Lanes.{lanes}
 use Rattle.entry_set.specs.SetLaws.{sets-room}
 use Rattle.merge_state.specs.declared.Sizes.{Sizes}

@@ -7,7 +7,7 @@ use lib.Dec.{ltb, leb, eqb}
 use Rattle.graphs.specs.Count.{count}
 use Rattle.graphs.specs.Lists.{some-below, below}
 use Rattle.graphs.specs.Walk.{via}
-use Rattle.walks.specs.Closed.{closed}
+use Rattle.graph_walks.specs.Closed.{closed}
 use Rattle.merge_state.specs.State.{None, Graph, put, chunk-of, flag, at}
 
 -- Module m is listed with chunk x: "appends to the named chunk and or-s its side effects"; "assigned where it was put last".

@@ -11,8 +11,8 @@ use Rattle.graphs.specs.Lists.{some-below, some-give, some-take}
 use Rattle.graphs.specs.Walk.{Walk, one, more}
 use Rattle.graphs.specs.Walks.{join}
 use Rattle.merge_state.specs.State.{Graph}
-use Rattle.walks.specs.Closed.{closed}
-use Rattle.walks.specs.ClosedLaws.{closed-first, closed-next, closed-all}
+use Rattle.graph_walks.specs.Closed.{closed}
+use Rattle.graph_walks.specs.ClosedLaws.{closed-first, closed-next, closed-all}
 use Rattle.merge_state.specs.Methods.{warns, warn}
 
 -- The fused graph: the source's place is taken by the target. An edge between two different nodes, neither of them the source, where a

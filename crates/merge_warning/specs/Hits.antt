@@ -13,9 +13,9 @@ use Rattle.graphs.specs.Lists.{below, some-below, some-give, some-take}
 use Rattle.graphs.specs.Tab.{tab-at}
 use Rattle.graphs.specs.Walk.{Walk, one, more, via}
 use Rattle.graphs.specs.Walks.{sources-below, sound, complete}
-use Rattle.walks.specs.Closed.{flagEdge, closed}
-use Rattle.walks.specs.ClosedLaws.{flag-from, flag-to, flag-is}
-use Rattle.walks.specs.Marks.{marking}
+use Rattle.graph_walks.specs.Closed.{flagEdge, closed}
+use Rattle.graph_walks.specs.ClosedLaws.{flag-from, flag-to, flag-is}
+use Rattle.graph_walks.specs.Marks.{marking}
 use Rattle.merge_state.specs.State.{yes}
 use Rattle.merge_state.specs.Methods.{warns}
 

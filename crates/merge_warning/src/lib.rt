@@ -4,7 +4,7 @@ ghost use Prim.Native.Nat.{_+_, _*_, _<_, _≤_};
 ghost use lib.ListN.{length};
 ghost use Rattle.graphs.specs.Lists.{below, some-below};
 ghost use Rattle.graphs.specs.Walk.{via};
-ghost use Rattle.walks.specs.Closed.{flagEdge};
+ghost use Rattle.graph_walks.specs.Closed.{flagEdge};
 ghost use Rattle.merge_state.specs.Methods.{warns};
 ghost use Rattle.merge_warning.specs.Hits.{CanAsk, hit-at};
 
@@ -41,7 +41,7 @@ pub fn warn(flags: &[u32], c: usize, n: usize, source: usize, target: usize) -> 
 {
     let mut marks = [0u32; 1024];
     let mut stack = [0u32; 1024];
-    walks::closure(flags, c, n, source, target, 1, &mut marks, &mut stack);
+    graph_walks::closure(flags, c, n, source, target, 1, &mut marks, &mut stack);
     if marks[target] != 0 {
         return true;
     }
@@ -55,6 +55,6 @@ pub fn reaches(flags: &[u32], c: usize, n: usize, from: usize, to: usize) -> boo
 {
     let mut marks = [0u32; 1024];
     let mut stack = [0u32; 1024];
-    walks::closure(flags, c, n, from, from, 1, &mut marks, &mut stack);
+    graph_walks::closure(flags, c, n, from, from, 1, &mut marks, &mut stack);
     marks[to] != 0
 }

@@ -11,9 +11,9 @@ use Rattle.graphs.specs.Walk.{cyclic, only}
 use Rattle.layout.specs.Patch.{part}
 use Rattle.entry_set.specs.Joined.{parts}
 use Rattle.entry_set.specs.Lanes.{lanes}
-use Rattle.ledger.specs.Graph.{Load, at, members, mult, edge}
-use Rattle.ledger.specs.Ledger.{Ledger}
-use Rattle.ledger.specs.Nodes.{placed}
+use Rattle.move_ledger.specs.Graph.{Load, at, members, mult, edge}
+use Rattle.move_ledger.specs.Ledger.{Ledger}
+use Rattle.move_ledger.specs.Nodes.{placed}
 use Rattle.move_area.specs.Bodies.{laneAt, atomAt, Bodies, write}
 
 -- the state of a move graph

@@ -13,11 +13,11 @@ use Rattle.graphs.specs.Lists.{has}
 use Rattle.graphs.specs.Tab.{tab-length, tab-at}
 use Rattle.graphs.specs.Walk.{via, cyclic}
 use Rattle.entry_set.specs.Sets.{value, legal}
-use Rattle.ledger.specs.Graph.{Load, at, edge}
-use Rattle.ledger.specs.Answer.{is-refused}
-use Rattle.ledger.specs.Ledger.{Ledger, step1, step2, step3, full, move, try-move, call}
-use Rattle.ledger.specs.MoveLaws.{steps}
-use Rattle.ledger.specs.Sound.{call-sound}
+use Rattle.move_ledger.specs.Graph.{Load, at, edge}
+use Rattle.move_ledger.specs.Answer.{is-refused}
+use Rattle.move_ledger.specs.Ledger.{Ledger, step1, step2, step3, full, move, try-move, call}
+use Rattle.move_ledger.specs.MoveLaws.{steps}
+use Rattle.move_ledger.specs.Sound.{call-sound}
 use Rattle.move_area.specs.Area.{State}
 use Rattle.move_area.specs.Held.{Held}
 use Rattle.move_area.specs.Calls.{tried, last, next, marks-for, walked, after}

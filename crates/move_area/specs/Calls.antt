@@ -8,10 +8,10 @@ use Rattle.graphs.specs.Lists.{has}
 use Rattle.graphs.specs.Tab.{tab}
 use Rattle.graphs.specs.Walk.{via, cyclic}
 use Rattle.entry_set.specs.Sets.{value, legal}
-use Rattle.ledger.specs.Graph.{Load, at, edge}
-use Rattle.ledger.specs.Answer.{Answer, refused, is-refused}
-use Rattle.ledger.specs.Ledger.{Ledger, loaded, step1, step3, full, move, Question, ask}
-use Rattle.ledger.specs.Loading.{refusal, entry-sets, loading}
+use Rattle.move_ledger.specs.Graph.{Load, at, edge}
+use Rattle.move_ledger.specs.Answer.{Answer, refused, is-refused}
+use Rattle.move_ledger.specs.Ledger.{Ledger, loaded, step1, step3, full, move, Question, ask}
+use Rattle.move_ledger.specs.Loading.{refusal, entry-sets, loading}
 use Rattle.move_area.specs.Area.{State, encode, decode, consistent}
 
 -- an answer, and the area afterwards

@@ -16,10 +16,10 @@ use Rattle.layout.specs.Patch.{part, part-long, part-at}
 use Rattle.entry_set.specs.Joined.{parts}
 use Rattle.entry_set.specs.Lanes.{lanes}
 use Rattle.entry_set.specs.LaneLaws.{lanes-word}
-use Rattle.ledger.specs.Graph.{Load, at, members}
-use Rattle.ledger.specs.LoadLaws.{InOrder}
-use Rattle.ledger.specs.Nodes.{Placing, sources, targets, node-edge}
-use Rattle.ledger.specs.NodeLaws.{placed-length, placed-at}
+use Rattle.move_ledger.specs.Graph.{Load, at, members}
+use Rattle.move_ledger.specs.LoadLaws.{InOrder}
+use Rattle.move_ledger.specs.Nodes.{Placing, sources, targets, node-edge}
+use Rattle.move_ledger.specs.NodeLaws.{placed-length, placed-at}
 use Rattle.move_area.specs.Bodies.{laneAt, atomAt, write, Sized}
 use Rattle.move_area.specs.BodyLaws.{write-same, read-edges, read-acyclic, read-counts, read-component, read-nodes}
 use Rattle.move_area.specs.Area.{index, bodies, encode, setsIn, decode, in-order, consistent}

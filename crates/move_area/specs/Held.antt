@@ -15,10 +15,10 @@ use Rattle.layout.specs.Patch.{part, part-long, part-at}
 use Rattle.entry_set.specs.Joined.{parts}
 use Rattle.entry_set.specs.LaneLaws.{lanes-is}
 use Rattle.entry_set.specs.SetLaws.{below-256}
-use Rattle.ledger.specs.Graph.{Load, at}
-use Rattle.ledger.specs.Sound.{Sound}
-use Rattle.ledger.specs.Nodes.{placed}
-use Rattle.ledger.specs.NodeLaws.{placed-length, placed-at}
+use Rattle.move_ledger.specs.Graph.{Load, at}
+use Rattle.move_ledger.specs.Sound.{Sound}
+use Rattle.move_ledger.specs.Nodes.{placed}
+use Rattle.move_ledger.specs.NodeLaws.{placed-length, placed-at}
 use Rattle.move_area.specs.Bodies.{laneAt, atomAt, Sized}
 use Rattle.move_area.specs.BodyLaws.{write-long, read-registered, read-counter, read-words, read-marks, read-nodes, write-again}
 use Rattle.move_area.specs.Area.{State, index, bodies, encode, setsIn, decode, distinct, in-order, consistent}

@@ -8,12 +8,12 @@ use lib.Dec.{eqb}
 use lib.ListN.{length, length-replicate, getD-replicate}
 use borrow.Author.Tests.{eqb-true, eqb-false}
 use Rattle.entry_set.specs.Sets.{width}
-use Rattle.ledger.specs.Graph.{Load}
-use Rattle.ledger.specs.Answer.{Answer, is-refused}
-use Rattle.ledger.specs.Ledger.{Ledger, Call, try-move, asks, move, ask, call, answers, ledger}
-use Rattle.ledger.specs.Loading.{refusal, first-row, loading-row, row7, row8}
-use Rattle.ledger.specs.LoadLaws.{Loadable-sets, loading-row-none, loading-unrefused}
-use Rattle.ledger.specs.Sound.{loading-sound}
+use Rattle.move_ledger.specs.Graph.{Load}
+use Rattle.move_ledger.specs.Answer.{Answer, is-refused}
+use Rattle.move_ledger.specs.Ledger.{Ledger, Call, try-move, asks, move, ask, call, answers, ledger}
+use Rattle.move_ledger.specs.Loading.{refusal, first-row, loading-row, row7, row8}
+use Rattle.move_ledger.specs.LoadLaws.{Loadable-sets, loading-row-none, loading-unrefused}
+use Rattle.move_ledger.specs.Sound.{loading-sound}
 use Rattle.move_area.specs.Bodies.{atomAt}
 use Rattle.move_area.specs.Area.{State, encode, decode, consistent}
 use Rattle.move_area.specs.Held.{Held, decode-encode, encode-long, encode-again, encode-consistent}

@@ -11,7 +11,7 @@ use lib.Seq.{ext-getD}
 use borrow.Author.Tests.{eqb-true, eqb-false, eq-eqb, not-true, not-false}
 use Rattle.graphs.specs.Bools.{and-left, and-right, and-both, fails}
 use Rattle.graphs.specs.Lists.{any, has, some-below, some-take, some-none, has-at}
-use Rattle.ledger.specs.Graph.{at}
+use Rattle.move_ledger.specs.Graph.{at}
 use Rattle.move_area.specs.Area.{index, distinct, alike-lists}
 
 -- two lists that pass the test are one

@@ -11,7 +11,7 @@ use lib.Dec.{ltb, leb}
 use lib.ListN.{length, getD, drop, drop-of-length-le}
 use lib.Seq.{drop-cons}
 use borrow.Author.Tests.{leb-false, lt-ltb}
-use Rattle.replies.specs.Room.{Put, put-then, put-none, put-as}
+use Rattle.moves_replies.specs.Room.{Put, put-then, put-none, put-as}
 use Rattle.moves_commands.specs.Program.{State, areas, step}
 use Rattle.moves_commands.specs.Fits.{Ready, step-fits, fits}
 use Rattle.moves_commands.specs.Feed.{reserve, Fed, ahead, stay, feeding, feed, feeding-full, feeding-end, feeding-more}

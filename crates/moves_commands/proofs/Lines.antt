@@ -7,17 +7,17 @@ use native.Mathlib.Omega.{arith}
 use native.Mathlib.Numerals.{add-one}
 use lib.Dec.{eqb}
 use lib.ListN.{length, length-append, getD}
-use Rattle.ledger.specs.Graph.{Load, edges}
-use Rattle.ledger.specs.Answer.{Answer, refused, number}
-use Rattle.ledger.specs.Ledger.{Question, edge-count, edge-at, kth, ask}
-use Rattle.ledger.specs.Loading.{refusal}
+use Rattle.move_ledger.specs.Graph.{Load, edges}
+use Rattle.move_ledger.specs.Answer.{Answer, refused, number}
+use Rattle.move_ledger.specs.Ledger.{Question, edge-count, edge-at, kth, ask}
+use Rattle.move_ledger.specs.Loading.{refusal}
 use Rattle.move_area.specs.Area.{decode, consistent}
 use Rattle.move_area.specs.Calls.{asked, checked}
-use Rattle.listing.specs.Answers.{placeIn, Listable}
+use Rattle.move_questions.specs.Answers.{placeIn, Listable}
 use Rattle.reduced_chunk_graph.specs.Asked.{asked-back, head-inside, edges-told, edge-told}
-use Rattle.later_rows.specs.Listed.{RowTold, listable-known, listable-some}
-use Rattle.replies.specs.Words.{reply}
-use Rattle.replies.specs.Room.{Put, put-then, put-none, reply-long}
+use Rattle.move_rows.specs.Listed.{RowTold, listable-known, listable-some}
+use Rattle.moves_replies.specs.Words.{reply}
+use Rattle.moves_replies.specs.Room.{Put, put-then, put-none, reply-long}
 use Rattle.moves_commands.specs.Program.{N, areas, lines, lines-of, listing}
 use Rattle.moves_commands.specs.Steps.{CanList, CanListAll}
 use Rattle.moves_commands.specs.Few.{edges-few}

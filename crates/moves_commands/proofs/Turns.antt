@@ -9,12 +9,12 @@ use native.Mathlib.Omega.{arith}
 use borrow.Author.Tests.{le-leb, lt-leb, eq-eqb, ne-eqb}
 use Rattle.graphs.specs.Tab.{tab}
 use Rattle.layout.specs.Patch.{patch}
-use Rattle.ledger.specs.Answer.{Answer, refused, is-refused}
-use Rattle.ledger.specs.Ledger.{atom-set}
-use Rattle.replies.specs.Words.{reply, load-reply}
-use Rattle.replies.specs.Room.{Put, put-as, put-none}
-use Rattle.load_commands.specs.declared.Machine.{Machine}
-use Rattle.load_commands.specs.Machine.{done, start, Reading, reading, read, taken}
+use Rattle.move_ledger.specs.Answer.{Answer, refused, is-refused}
+use Rattle.move_ledger.specs.Ledger.{atom-set}
+use Rattle.moves_replies.specs.Words.{reply, load-reply}
+use Rattle.moves_replies.specs.Room.{Put, put-as, put-none}
+use Rattle.moves_load_commands.specs.declared.Machine.{Machine}
+use Rattle.moves_load_commands.specs.Machine.{done, start, Reading, reading, read, taken}
 use Rattle.moves_commands.specs.Program.{State, Turn, areas, lent, begun, listing, load, move, edges, set-of, with-machine, quiet, execute, step}
 use Rattle.moves_commands.specs.Steps.{Stepped, held}
 

@@ -8,16 +8,16 @@ use lib.Dec.{leb, eqb}
 use lib.ListN.{length, take}
 use borrow.Author.Tests.{leb-true, leb-false, lt-leb, le-leb, eq-eqb, eqb-true, eqb-false, not-true}
 use Rattle.graphs.specs.Bools.{or-false-left, or-left, or-right}
-use Rattle.ledger.specs.Graph.{Load, at, none}
-use Rattle.ledger.specs.Answer.{Answer, is-refused}
-use Rattle.ledger.specs.Ledger.{Ledger, atom-set, ask, try-move, asks, call}
-use Rattle.ledger.specs.Loading.{loading}
+use Rattle.move_ledger.specs.Graph.{Load, at, none}
+use Rattle.move_ledger.specs.Answer.{Answer, is-refused}
+use Rattle.move_ledger.specs.Ledger.{Ledger, atom-set, ask, try-move, asks, call}
+use Rattle.move_ledger.specs.Loading.{loading}
 use Rattle.move_area.specs.Area.{State}
 use Rattle.move_area.specs.Calls as calls
 use Rattle.move_area.specs.History.{Holding, call-area, call-step, loading-holds}
-use Rattle.replies.specs.Words.{reply, load-reply}
-use Rattle.load_commands.specs.declared.Machine.{Machine}
-use Rattle.load_commands.specs.Machine.{belongs, operand, taken, done, unnamed, Reading, reading, refuse, add-atom, depend, add-host, read}
+use Rattle.moves_replies.specs.Words.{reply, load-reply}
+use Rattle.moves_load_commands.specs.declared.Machine.{Machine}
+use Rattle.moves_load_commands.specs.Machine.{belongs, operand, taken, done, unnamed, Reading, reading, refuse, add-atom, depend, add-host, read}
 use Rattle.moves_commands.specs.Program.{N, ledgers, areas, Turn, lent, listing, load, move, edges, set-of, execute, step, finish, replies, fresh, printed, started, begun, load-of, with-graph, quiet}
 use Rattle.moves_commands.specs.Program as program
 use Rattle.moves_commands.specs.Fits.{taken-same, either}

@@ -7,7 +7,7 @@ use native.Mathlib.Omega.{arith}
 use lib.Dec.{leb}
 use lib.ListN.{length}
 use borrow.Author.Tests.{le-leb, lt-leb}
-use Rattle.load_commands.specs.declared.Machine.{Machine}
+use Rattle.moves_load_commands.specs.declared.Machine.{Machine}
 use Rattle.moves_commands.specs.Program.{Graphs, State, step, finish}
 use Rattle.moves_commands.specs.Fits.{fits, either}
 

@@ -11,10 +11,10 @@ use borrow.Author.Tests.{eqb-true, ltb-true}
 use Rattle.graphs.specs.Bools.{and-left, and-right}
 use Rattle.graphs.specs.Count.{ind, count, ind-le}
 use Rattle.graphs.specs.Total.{total, total-same, count-total}
-use Rattle.ledger.specs.Graph.{Load, at, none, owner, lies, occupied, entry, facade, mult, edge, rising, row, edges}
-use Rattle.ledger.specs.Listing.{Rising, next, rising-rising}
-use Rattle.ledger.specs.Listing as listing
-use Rattle.ledger.specs.Edges.{row-length, rows-length}
+use Rattle.move_ledger.specs.Graph.{Load, at, none, owner, lies, occupied, entry, facade, mult, edge, rising, row, edges}
+use Rattle.move_ledger.specs.Listing.{Rising, next, rising-rising}
+use Rattle.move_ledger.specs.Listing as listing
+use Rattle.move_ledger.specs.Edges.{row-length, rows-length}
 
 total-add : (f g : ℕ → ℕ) (n : ℕ) → total (λ i. f i + g i) n ≡ total f n + total g n
 unfolding total

@@ -9,10 +9,10 @@ use lib.ListN.{length, length-set}
 use borrow.Author.Tests.{leb-false, leb-true}
 use Rattle.graphs.specs.Bools.{or-false-right, and-left, and-right}
 use Rattle.layout.specs.Patch.{patch-long}
-use Rattle.ledger.specs.Graph.{at, none}
-use Rattle.load_commands.specs.declared.Machine.{Machine}
-use Rattle.load_commands.specs.Machine.{belongs, operand, taken, inserted, unnamed, Reading, add-atom, depend, add-host, read, reading}
-use Rattle.load_commands.specs.Lists.{Roomy}
+use Rattle.move_ledger.specs.Graph.{at, none}
+use Rattle.moves_load_commands.specs.declared.Machine.{Machine}
+use Rattle.moves_load_commands.specs.Machine.{belongs, operand, taken, inserted, unnamed, Reading, add-atom, depend, add-host, read, reading}
+use Rattle.moves_load_commands.specs.Lists.{Roomy}
 use Rattle.moves_commands.specs.Program.{Graphs, State, Turn, with-machine, load, move, edges, set-of, execute, step}
 
 -- room for 48 atoms and 128 dependencies, 16 hosts, and no more named

@@ -6,17 +6,17 @@ use lib.Dec.{leb, eqb}
 use lib.ListN.{take, replicate}
 use Rattle.graphs.specs.Tab.{tab}
 use Rattle.layout.specs.Patch.{patch}
-use Rattle.ledger.specs.Graph.{Load, none}
-use Rattle.ledger.specs.Answer.{Answer, refused, is-refused, number}
-use Rattle.ledger.specs.Answer as answer
-use Rattle.ledger.specs.Ledger.{Ledger, loaded, Question, atom-set, edge-count, edge-at, ask}
-use Rattle.ledger.specs.Ledger as ledger
-use Rattle.ledger.specs.Loading.{loading, entry-sets}
+use Rattle.move_ledger.specs.Graph.{Load, none}
+use Rattle.move_ledger.specs.Answer.{Answer, refused, is-refused, number}
+use Rattle.move_ledger.specs.Answer as answer
+use Rattle.move_ledger.specs.Ledger.{Ledger, loaded, Question, atom-set, edge-count, edge-at, ask}
+use Rattle.move_ledger.specs.Ledger as ledger
+use Rattle.move_ledger.specs.Loading.{loading, entry-sets}
 use Rattle.move_area.specs.Calls.{asked}
 use Rattle.move_area.specs.Calls as calls
-use Rattle.replies.specs.Words.{reply, load-reply}
-use Rattle.load_commands.specs.declared.Machine.{Machine}
-use Rattle.load_commands.specs.Machine.{new-machine, done, taken, start, Reading, read}
+use Rattle.moves_replies.specs.Words.{reply, load-reply}
+use Rattle.moves_load_commands.specs.declared.Machine.{Machine}
+use Rattle.moves_load_commands.specs.Machine.{new-machine, done, taken, start, Reading, read}
 
 -- "Every load has N = 96 and E = 16"
 abbrev pub N : ℕ

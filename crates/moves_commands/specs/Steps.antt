@@ -5,11 +5,11 @@ use mathlib.Core.List.{List}
 use Prim.Native.Nat.{ℕ, _+_, _*_, _-_, _≤_, _<_}
 use lib.Dec.{ltb, leb}
 use lib.ListN.{length, getD}
-use Rattle.ledger.specs.Graph.{Load}
-use Rattle.later_rows.specs.Listed.{RowTold}
-use Rattle.replies.specs.Room.{Put}
-use Rattle.load_commands.specs.declared.Machine.{Machine}
-use Rattle.load_commands.specs.Machine.{reading}
+use Rattle.move_ledger.specs.Graph.{Load}
+use Rattle.move_rows.specs.Listed.{RowTold}
+use Rattle.moves_replies.specs.Room.{Put}
+use Rattle.moves_load_commands.specs.declared.Machine.{Machine}
+use Rattle.moves_load_commands.specs.Machine.{reading}
 use Rattle.moves_commands.specs.Program.{N, State, Turn}
 use Rattle.moves_commands.specs.Fits.{Ready}
 use Rattle.moves_commands.specs.Feed.{reserve, Fed}

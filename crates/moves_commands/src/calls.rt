@@ -3,12 +3,12 @@ ghost use mathlib.Core.Path.{_≡_};
 ghost use mathlib.Core.List.{[], _∷_};
 ghost use Prim.Native.Nat.{_+_, _≤_};
 ghost use lib.ListN.{length, take};
-ghost use Rattle.ledger.specs.Ledger.{atom-set};
+ghost use Rattle.move_ledger.specs.Ledger.{atom-set};
 ghost use Rattle.reduced_chunk_graph.specs.Answers.{ofLoad, ofMove, ofSet};
-ghost use Rattle.later_rows.specs.Listed.{NodeLists, RowTold};
+ghost use Rattle.move_rows.specs.Listed.{NodeLists, RowTold};
 ghost use Rattle.moves_commands.specs.Program.{areas, lent};
 ghost use Rattle.moves_commands.specs.Steps.{CanLend};
-use load_commands::Machine;
+use moves_load_commands::Machine;
 use reduced_chunk_graph::LoadAnswer;
 use reduced_chunk_graph::MoveAnswer;
 use reduced_chunk_graph::SetAnswer;
@@ -114,7 +114,7 @@ pub(crate) fn listed_row(
     let a = m.atoms;
     let d = m.entries;
     let k = a + 1;
-    later_rows::listed::listed_row(
+    move_rows::listed::listed_row(
         a,
         d,
         16,

@@ -4,23 +4,23 @@ ghost use mathlib.Core.List.{List, []};
 ghost use mathlib.Core.Bool.{cond};
 ghost use Prim.Native.Nat.{ℕ, _+_, _≤_};
 ghost use lib.ListN.{length};
-ghost use Rattle.ledger.specs.Answer.{refused};
-ghost use Rattle.replies.specs.Words.{reply};
-ghost use Rattle.replies.specs.Room.{Put};
+ghost use Rattle.move_ledger.specs.Answer.{refused};
+ghost use Rattle.moves_replies.specs.Words.{reply};
+ghost use Rattle.moves_replies.specs.Room.{Put};
 ghost use Rattle.moves_commands.specs.Program as def;
 ghost use Rattle.moves_commands.specs.Program.{areas};
 ghost use Rattle.moves_commands.specs.Steps.{CanLend, CanLoad, CanStep, Stepped, held};
-use crate::answers::is_refused;
-use crate::answers::put_load;
-use crate::answers::put_move;
-use crate::answers::put_set_answer;
 use crate::calls;
 use crate::edge_lines::list_edges;
-use load_commands::Machine;
-use load_commands::done;
-use load_commands::fill_starts;
-use load_commands::read;
-use replies::put_refused;
+use moves_answers::is_refused;
+use moves_answers::put_load;
+use moves_answers::put_move;
+use moves_answers::put_set_answer;
+use moves_load_commands::Machine;
+use moves_load_commands::done;
+use moves_load_commands::fill_starts;
+use moves_load_commands::read;
+use moves_replies::put_refused;
 
 // The machine, and the place behind the reply.
 pub struct Turn {

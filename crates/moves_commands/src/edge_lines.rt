@@ -1,18 +1,18 @@
 // Command 21: the edges, a line for each, and their count. The area is checked once for all of them.
 ghost use Prim.Native.Nat.{_+_, _*_, _≤_};
 ghost use lib.ListN.{length};
-ghost use Rattle.ledger.specs.Graph.{Load};
-ghost use Rattle.ledger.specs.Ledger.{edge-at};
-ghost use Rattle.replies.specs.Words.{reply};
-ghost use Rattle.replies.specs.Room.{Put};
+ghost use Rattle.move_ledger.specs.Graph.{Load};
+ghost use Rattle.move_ledger.specs.Ledger.{edge-at};
+ghost use Rattle.moves_replies.specs.Words.{reply};
+ghost use Rattle.moves_replies.specs.Room.{Put};
 ghost use Rattle.moves_commands.specs.Program.{areas, lent, lines, listing};
 ghost use Rattle.moves_commands.specs.Steps.{CanLend, CanList, CanListAll};
-use crate::answers::put_listed;
 use crate::calls;
-use later_rows::registered;
-use load_commands::Machine;
-use replies::put_edges;
-use replies::put_refused;
+use move_rows::registered;
+use moves_answers::put_listed;
+use moves_load_commands::Machine;
+use moves_replies::put_edges;
+use moves_replies::put_refused;
 
 // The line of edge k.
 fn put_line(
@@ -28,7 +28,7 @@ fn put_line(
     requires { ⌜ at + 64 ≤ length (now out) ⌝ }
     ensures { λ r. ⌜ ((load : Load) → CanList load (now (area .entry)) known (now (order .entry)) (now (degrees .entry)) → Put (reply (areas .asks load (now (area .entry)) (edge-at k))) (now (out .entry)) at (now (out .exit)) r) ⌝ }
 {
-    let e = listing::edge_at(area, 96, known, order, degrees, k);
+    let e = move_questions::edge_at(area, 96, known, order, degrees, k);
     put_listed(out, at, e)
 }
 
@@ -62,7 +62,7 @@ fn put_all(area: &[u32], order: &[u32], degrees: &[u32], out: &mut [u8], at: usi
     ensures { λ r. ⌜ ((load : Load) → CanListAll load (now (area .entry)) (now (order .entry)) (now (degrees .entry)) → Put (listing (areas .asks load (now (area .entry)))) (now (out .entry)) at (now (out .exit)) r) ⌝ }
 {
     let known = registered(area, 96);
-    let n = listing::edge_count(degrees, 96);
+    let n = move_questions::edge_count(degrees, 96);
     let p = put_lines(area, known, order, degrees, n, out, at);
     put_edges(out, p, n)
 }

@@ -1,6 +1,5 @@
 // The command interpreter of the program `moves`: bytes of commands in, bytes of replies out. The caller lends the lists: 48 sets, 128 sources,
 // 128 dependencies, 49 starts, 16 hosts (4294967295 for none) and the move graph's work area.
-mod answers;
 mod calls;
 mod commands;
 mod edge_lines;
@@ -8,8 +7,8 @@ mod edge_lines;
 ghost use mathlib.Core.Path.{_≡_};
 ghost use Prim.Native.Nat.{_+_, _≤_};
 ghost use lib.ListN.{length};
-ghost use Rattle.replies.specs.Room.{Put};
-ghost use Rattle.load_commands.specs.Machine.{reading};
+ghost use Rattle.moves_replies.specs.Room.{Put};
+ghost use Rattle.moves_load_commands.specs.Machine.{reading};
 ghost use Rattle.moves_commands.specs.Program as def;
 ghost use Rattle.moves_commands.specs.Program.{areas};
 ghost use Rattle.moves_commands.specs.Feed.{feeding, feed, finished};
@@ -17,9 +16,9 @@ ghost use Rattle.moves_commands.specs.Fits as room;
 ghost use Rattle.moves_commands.specs.Steps.{CanStep, Stepped, Going, held, FedAs};
 use commands::Turn;
 use commands::execute;
-use load_commands::Machine;
-use load_commands::taken;
-use replies::put_refused;
+use moves_load_commands::Machine;
+use moves_load_commands::taken;
+use moves_replies::put_refused;
 
 // A byte of the input.
 fn step(

@@ -1,7 +1,7 @@
 -- What the answers of the calls say, in document 01's numbers and values. Assumes nothing.
 use Rattle.entry_set.specs.Sets.{value, numbers}
-use Rattle.ledger.specs.Answer.{Answer, refused, acyclic, accepted, rejected}
-use Rattle.ledger.specs.Answer as answer
+use Rattle.move_ledger.specs.Answer.{Answer, refused, acyclic, accepted, rejected}
+use Rattle.move_ledger.specs.Answer as answer
 use Rattle.reduced_chunk_graph.specs.declared.LoadAnswer.{LoadAnswer}
 use Rattle.reduced_chunk_graph.specs.declared.LoadAnswer.the-variants as load
 use Rattle.reduced_chunk_graph.specs.declared.MoveAnswer.{MoveAnswer}

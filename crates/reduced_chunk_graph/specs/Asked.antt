@@ -11,18 +11,18 @@ use Rattle.entry_set.specs.Sets.{value, words, legal, numbers, number, Holds}
 use Rattle.entry_set.specs.SetLaws.{holds-numbers}
 use Rattle.entry_set.specs.Lanes.{lanes}
 use Rattle.entry_set.specs.declared.EntrySet.{EntrySet}
-use Rattle.ledger.specs.Graph.{Load, at, members, mult, edges}
-use Rattle.ledger.specs.Answer.{Answer, refused}
-use Rattle.ledger.specs.Answer as answer
-use Rattle.ledger.specs.Ledger.{Question, atom-set, atom-count, multiplicity, edge-count, edge-at, kth, ask}
-use Rattle.ledger.specs.LoadLaws.{Loadable, first-row-none}
-use Rattle.ledger.specs.NodeLaws.{placed-at}
+use Rattle.move_ledger.specs.Graph.{Load, at, members, mult, edges}
+use Rattle.move_ledger.specs.Answer.{Answer, refused}
+use Rattle.move_ledger.specs.Answer as answer
+use Rattle.move_ledger.specs.Ledger.{Question, atom-set, atom-count, multiplicity, edge-count, edge-at, kth, ask}
+use Rattle.move_ledger.specs.LoadLaws.{Loadable, first-row-none}
+use Rattle.move_ledger.specs.NodeLaws.{placed-at}
 use Rattle.move_area.specs.Area.{setsIn, decode}
 use Rattle.move_area.specs.Bodies.{laneAt, atomAt}
 use Rattle.move_area.specs.Calls.{asked}
 use Rattle.move_area.specs.Checked.{nodesIn, sets-at, consistent-ranged, consistent-worked}
-use Rattle.listing.specs.Answers.{placeIn, Checked}
-use Rattle.later_rows.specs.Later.{later, turned-back, goes-on, later-legal, later-consistent}
+use Rattle.move_questions.specs.Answers.{placeIn, Checked}
+use Rattle.move_rows.specs.Later.{later, turned-back, goes-on, later-legal, later-consistent}
 
 -- what is read for the set of atom i
 pub record CanReadSet (area : List ℕ) (n i : ℕ) : Type 0 where

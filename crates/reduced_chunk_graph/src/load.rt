@@ -1,6 +1,6 @@
 // Loading a move graph.
 ghost use mathlib.Core.Path.{_≡_};
-ghost use Rattle.ledger.specs.Graph.{lent};
+ghost use Rattle.move_ledger.specs.Graph.{lent};
 ghost use Rattle.move_area.specs.Calls as calls;
 ghost use Rattle.reduced_chunk_graph.specs.Answers.{ofLoad};
 use super::LoadAnswer;
@@ -20,11 +20,21 @@ pub fn new(
     ensures { λ r. ⌜ ofLoad r ≡ calls.new (lent a d e (now (starts .entry)) (now (dependencies .entry)) (now (hosts .entry))) n (now (sets .entry)) (now (area .entry)) .answer ⌝ }
     ensures { λ _. ⌜ now (area .exit) ≡ calls.new (lent a d e (now (starts .entry)) (now (dependencies .entry)) (now (hosts .entry))) n (now (sets .entry)) (now (area .entry)) .area ⌝ }
 {
-    let q = load_checks::loading_refusal(a, d, e, n, starts, dependencies, hosts, sets, area.len());
+    let q = move_load_rows::loading_refusal(
+        a,
+        d,
+        e,
+        n,
+        starts,
+        dependencies,
+        hosts,
+        sets,
+        area.len(),
+    );
     if q != 0 {
         return LoadAnswer::Refused(q);
     }
-    let cyclic = loading::load(a, d, e, n, starts, dependencies, hosts, sets, area);
+    let cyclic = move_loading::load(a, d, e, n, starts, dependencies, hosts, sets, area);
     if cyclic {
         return LoadAnswer::Cyclic;
     }

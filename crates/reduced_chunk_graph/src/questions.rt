@@ -4,17 +4,17 @@ use super::EdgeAnswer;
 use super::NumberAnswer;
 use super::SetAnswer;
 use entry_set::EntrySet;
-use later_rows::check::later_row;
-use later_rows::listed::listed_row;
-use later_rows::registered;
-use listing::Listed;
+use move_questions::Listed;
+use move_rows::check::later_row;
+use move_rows::listed::listed_row;
+use move_rows::registered;
 ghost use mathlib.Core.Path.{_≡_};
 ghost use Prim.Native.Nat.{_*_, _<_};
 ghost use lib.ListN.{length, getD};
 ghost use Rattle.entry_set.specs.Sets.{Holds};
-ghost use Rattle.ledger.specs.Graph.{lent};
-ghost use Rattle.ledger.specs.Ledger as ledger;
-ghost use Rattle.listing.specs.Answers.{ofListed};
+ghost use Rattle.move_ledger.specs.Graph.{lent};
+ghost use Rattle.move_ledger.specs.Ledger as ledger;
+ghost use Rattle.move_questions.specs.Answers.{ofListed};
 ghost use Rattle.move_area.specs.Calls.{asked};
 ghost use Rattle.reduced_chunk_graph.specs.Answers.{ofSet, ofNumber, ofEdge};
 ghost use Rattle.reduced_chunk_graph.specs.Asked.{CanReadSet, setOf};
@@ -104,7 +104,7 @@ pub fn atom_count(
     }
     let known = registered(area, n);
     let set = entry_set::from_list(bits);
-    let count = listing::atom_count(area, n, known, set);
+    let count = move_questions::atom_count(area, n, known, set);
     NumberAnswer::Number(wide(count))
 }
 
@@ -136,7 +136,7 @@ pub fn multiplicity(
     let known = registered(area, n);
     let source = entry_set::from_list(from);
     let target = entry_set::from_list(to);
-    let count = listing::multiplicity(area, n, known, source, target);
+    let count = move_questions::multiplicity(area, n, known, source, target);
     NumberAnswer::Number(wide(count))
 }
 
@@ -170,7 +170,7 @@ pub fn edge_count(
     if q != 0 {
         return NumberAnswer::Refused(q);
     }
-    let count = listing::edge_count(&degrees, n);
+    let count = move_questions::edge_count(&degrees, n);
     NumberAnswer::Number(count)
 }
 
@@ -206,6 +206,6 @@ pub fn edge_at(
         return EdgeAnswer::Refused(q);
     }
     let known = registered(area, n);
-    let listed = listing::edge_at(area, n, known, &order, &degrees, k);
+    let listed = move_questions::edge_at(area, n, known, &order, &degrees, k);
     answered(listed)
 }

@@ -81,7 +81,7 @@ pub trait Library {
     ) -> Reply;
 }
 
-/// The proved library, linked from target/staticlib/libexports.a.
+/// The proved library, linked from target/staticlib/libnidskalm.a.
 #[cfg(feature = "ours")]
 pub struct Ours;
 

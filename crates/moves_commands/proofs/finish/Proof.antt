@@ -1,7 +1,7 @@
 -- `moves_commands::finish` meets its contract. Assumes nothing.
 use native.Mathlib.Omega.{arith}
 use borrow.Author.Tests.{le-leb, lt-leb, eq-eqb, ne-eqb}
-use Rattle.replies.specs.Room.{put-none}
+use Rattle.moves_replies.specs.Room.{put-none}
 use Rattle.moves_commands.specs.Program as def
 use borrow.Author.Needs.{needs}
 use Rattle.moves_commands.proofs.finish.Statement.{statement}

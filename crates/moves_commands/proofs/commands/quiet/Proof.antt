@@ -1,6 +1,6 @@
 -- `moves_commands::commands::quiet` meets its contract. Assumes nothing.
 use native.Mathlib.Omega.{arith}
-use Rattle.replies.specs.Room.{put-none}
+use Rattle.moves_replies.specs.Room.{put-none}
 use borrow.Author.Needs.{needs}
 use Rattle.moves_commands.proofs.commands.quiet.Statement.{statement}
 use Rattle.moves_commands.proofs.commands.quiet.Tie as tie

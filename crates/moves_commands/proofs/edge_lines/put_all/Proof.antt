@@ -2,7 +2,7 @@
 use mathlib.Core.Path.{refl}
 use native.Mathlib.Omega.{arith}
 use Rattle.moves_commands.specs.Program.{areas}
-use Rattle.later_rows.specs.Listed.{can-sum}
+use Rattle.move_rows.specs.Listed.{can-sum}
 use Rattle.moves_commands.proofs.Lines.{list-one, head-there, count-told, all-few, lines-long, listing-steps}
 use borrow.Author.Needs.{needs}
 use Rattle.moves_commands.proofs.edge_lines.put_all.Statement.{statement}

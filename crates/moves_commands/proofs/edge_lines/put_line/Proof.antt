@@ -1,5 +1,5 @@
 -- `moves_commands::edge_lines::put_line` meets its contract. Assumes nothing.
-use Rattle.replies.specs.Room.{put-as}
+use Rattle.moves_replies.specs.Room.{put-as}
 use Rattle.moves_commands.proofs.Lines.{list-some, line-told}
 use borrow.Author.Needs.{needs}
 use Rattle.moves_commands.proofs.edge_lines.put_line.Statement.{statement}

@@ -1,7 +1,7 @@
 -- `moves_commands::edge_lines::put_lines` meets its contract. Assumes nothing.
 use native.Mathlib.Omega.{arith}
 use Prim.Native.Nat.{_-_}
-use Rattle.ledger.specs.Graph.{Load}
+use Rattle.move_ledger.specs.Graph.{Load}
 use Rattle.moves_commands.specs.Program.{areas}
 use Rattle.moves_commands.specs.Steps.{CanList}
 use Rattle.moves_commands.proofs.Lines.{Listing, listing-none, listing-room, listing-more, listing-done}

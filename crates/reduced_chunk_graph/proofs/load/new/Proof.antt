@@ -2,9 +2,9 @@
 use mathlib.Core.Bool.{true, false}
 use mathlib.Core.Path.{sym, _∙_}
 use lib.ListN.{length}
-use Rattle.ledger.specs.LoadLaws.{loading-row-none}
-use Rattle.ledger.specs.Graph.{lent}
-use Rattle.loading.specs.New.{new-refused, new-answer, new-area}
+use Rattle.move_ledger.specs.LoadLaws.{loading-row-none}
+use Rattle.move_ledger.specs.Graph.{lent}
+use Rattle.move_loading.specs.New.{new-refused, new-answer, new-area}
 use borrow.Author.Needs.{needs}
 use Rattle.reduced_chunk_graph.proofs.load.new.Statement.{statement}
 use Rattle.reduced_chunk_graph.proofs.load.new.Tie as tie

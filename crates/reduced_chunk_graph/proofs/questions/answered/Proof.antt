@@ -1,6 +1,6 @@
 -- `questions::answered` meets its contract. Assumes nothing.
 use mathlib.Core.Path.{sym, ap}
-use Rattle.listing.specs.Answers.{ofListed}
+use Rattle.move_questions.specs.Answers.{ofListed}
 use borrow.Author.Needs.{needs}
 use Rattle.reduced_chunk_graph.proofs.questions.answered.Statement.{statement}
 use Rattle.reduced_chunk_graph.proofs.questions.answered.Tie as tie

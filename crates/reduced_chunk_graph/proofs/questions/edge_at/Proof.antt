@@ -2,7 +2,7 @@
 use mathlib.Core.Path.{_∙_}
 use native.Mathlib.Omega.{arith}
 use Rattle.reduced_chunk_graph.specs.Asked.{asked-back, head-inside, edge-told}
-use Rattle.later_rows.specs.Listed.{listable-known, listable-some}
+use Rattle.move_rows.specs.Listed.{listable-known, listable-some}
 use borrow.Author.Needs.{needs}
 use Rattle.reduced_chunk_graph.proofs.questions.edge_at.Statement.{statement}
 use Rattle.reduced_chunk_graph.proofs.questions.edge_at.Tie as tie

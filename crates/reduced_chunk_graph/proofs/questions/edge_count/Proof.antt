@@ -1,7 +1,7 @@
 -- `questions::edge_count` meets its contract. Assumes nothing.
 use native.Mathlib.Omega.{arith}
 use Rattle.reduced_chunk_graph.specs.Asked.{asked-back, edges-told}
-use Rattle.later_rows.specs.Listed.{can-sum}
+use Rattle.move_rows.specs.Listed.{can-sum}
 use borrow.Author.Needs.{needs}
 use Rattle.reduced_chunk_graph.proofs.questions.edge_count.Statement.{statement}
 use Rattle.reduced_chunk_graph.proofs.questions.edge_count.Tie as tie

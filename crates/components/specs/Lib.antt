@@ -1,3 +1,0 @@
--- The definitions that the contracts of `components` cite. Assumes nothing.
-pub mod Components
-pub mod Only

@@ -1,0 +1,2 @@
+-- The laws that the proofs of `graph_slots` cite. Assumes nothing.
+pub mod Turned

@@ -1,0 +1,3 @@
+-- The definitions that the contracts of `graph_slots` cite. Assumes nothing.
+pub mod Asked
+pub mod Listing

@@ -1,0 +1,114 @@
+// The multiplicities of a graph's edges, kept in a square of n rows.
+//
+// A slot k of two lists is the edge from what stands in the first to what stands in the second,
+// and no edge where the two are equal.
+ghost use mathlib.Core.Path.{_≡_};
+ghost use mathlib.Core.Bool.{cond};
+ghost use Prim.Native.Nat.{_*_};
+ghost use Rattle.graphs.specs.Slots.{added, removed};
+ghost use Rattle.layout.specs.Patch.{patch};
+ghost use Rattle.move_edges.specs.Matrix.{matrix};
+ghost use Rattle.move_edges.specs.Steps.{CanAdd, CanRemove, CanLose, CanGain, CanShed, CanUpdate, CanFill, another, gained, lost, Grown, Fallen};
+
+pub mod rows;
+
+// One edge more from x to y; nothing where the two are equal.
+pub fn add(edges: &mut [u32], n: usize, x: u32, y: u32)
+    requires { ⌜ CanAdd (now edges) n x y ⌝ }
+    ensures { λ _. ⌜ now (edges .exit) ≡ added (now (edges .entry)) n x y ⌝ }
+{
+    if x != y {
+        let i = x as usize * n + y as usize;
+        let more = edges[i] + 1;
+        edges[i] = more;
+    }
+}
+
+// One edge less from x to y; nothing where the two are equal.
+pub fn remove(edges: &mut [u32], n: usize, x: u32, y: u32)
+    requires { ⌜ CanRemove (now edges) n x y ⌝ }
+    ensures { λ _. ⌜ now (edges .exit) ≡ removed (now (edges .entry)) n x y ⌝ }
+{
+    if x != y {
+        let i = x as usize * n + y as usize;
+        let fewer = edges[i] - 1;
+        edges[i] = fewer;
+    }
+}
+
+// Whether the edge from a to b is another than that from c to d.
+fn is_another(a: u32, b: u32, c: u32, d: u32) -> bool
+    ensures { λ r. ⌜ r ≡ another a b c d ⌝ }
+{
+    if a == c {
+        return b != d;
+    }
+    true
+}
+
+// The new edge of a slot that goes from (a, b) to (c, d); nothing where it stays.
+fn gain(edges: &mut [u32], n: usize, a: u32, b: u32, c: u32, d: u32)
+    requires { ⌜ CanAdd (now edges) n c d ⌝ }
+    ensures { λ _. ⌜ now (edges .exit) ≡ cond (another a b c d) (added (now (edges .entry)) n c d) (now (edges .entry)) ⌝ }
+{
+    if is_another(a, b, c, d) {
+        add(edges, n, c, d);
+    }
+}
+
+// The old edge of such a slot.
+fn shed(edges: &mut [u32], n: usize, a: u32, b: u32, c: u32, d: u32)
+    requires { ⌜ CanLose (now edges) n a b c d ⌝ }
+    ensures { λ _. ⌜ now (edges .exit) ≡ cond (another a b c d) (removed (now (edges .entry)) n a b) (now (edges .entry)) ⌝ }
+{
+    if is_another(a, b, c, d) {
+        remove(edges, n, a, b);
+    }
+}
+
+// Every changed slot's new edge is added.
+fn gain_all(edges: &mut [u32], n: usize, s: &[u32], t: &[u32], u: &[u32], v: &[u32], m: usize)
+    requires { ⌜ CanGain (now edges) n (now s) (now t) (now u) (now v) m ⌝ }
+    ensures { λ _. ⌜ Grown (gained (now (s .entry)) (now (t .entry)) (now (u .entry)) (now (v .entry)) n) m (now (edges .entry)) (now (edges .exit)) ⌝ }
+{
+    let mut k = 0;
+    while k < m {
+        gain(edges, n, s[k], t[k], u[k], v[k]);
+        k += 1;
+    }
+}
+
+// Every changed slot's old edge is removed.
+fn shed_all(edges: &mut [u32], n: usize, s: &[u32], t: &[u32], u: &[u32], v: &[u32], m: usize)
+    requires { ⌜ CanShed (now edges) n (now s) (now t) (now u) (now v) m ⌝ }
+    ensures { λ _. ⌜ Fallen (lost (now (s .entry)) (now (t .entry)) (now (u .entry)) (now (v .entry)) n) m (now (edges .entry)) (now (edges .exit)) ⌝ }
+{
+    let mut k = 0;
+    while k < m {
+        shed(edges, n, s[k], t[k], u[k], v[k]);
+        k += 1;
+    }
+}
+
+// The matrix of the old slots (s, t) becomes that of the new ones (u, v). Edges come before edges go, so that one
+// that is in both graphs is there all the time.
+pub fn update(edges: &mut [u32], n: usize, s: &[u32], t: &[u32], u: &[u32], v: &[u32], m: usize)
+    requires { ⌜ CanUpdate (now edges) n (now s) (now t) (now u) (now v) m ⌝ }
+    ensures { λ _. ⌜ now (edges .exit) ≡ patch 0 (matrix (now (u .entry)) (now (v .entry)) n m) (now (edges .entry)) ⌝ }
+{
+    gain_all(edges, n, s, t, u, v, m);
+    shed_all(edges, n, s, t, u, v, m);
+}
+
+// The matrix of the slots, from nothing.
+pub fn fill(edges: &mut [u32], n: usize, s: &[u32], t: &[u32], m: usize)
+    requires { ⌜ CanFill (now edges) n (now s) (now t) m ⌝ }
+    ensures { λ _. ⌜ now (edges .exit) ≡ patch 0 (matrix (now (s .entry)) (now (t .entry)) n m) (now (edges .entry)) ⌝ }
+{
+    layout::fill_with(edges, 0, n * n, 0);
+    let mut k = 0;
+    while k < m {
+        add(edges, n, s[k], t[k]);
+        k += 1;
+    }
+}

@@ -1,0 +1,77 @@
+-- What each step of a move writes into the area. Assumes nothing.
+use mathlib.Core.Path.{_≡_, ap, ap₂, _∙_}
+use native.Mathlib.Omega.{arith}
+use Rattle.entry_set.specs.Joined.{parts}
+use Rattle.entry_set.specs.LaneLaws.{length-setStrided}
+use mathlib.Core.Bool.{Bool, true, false, cond}
+use borrow.Rule.Slice.PartMut.{midOf, putMid}
+use mathlib.Core.List.{List}
+use Prim.Native.Nat.{ℕ, _+_, _-_, _*_, _≤_, _<_}
+use lib.ListN.{length, getD, set, replicate}
+use Rattle.layout.specs.Patch.{patch, part, part-long, patch-same}
+use Rattle.layout.specs.Lent.{mid-part, put-patch}
+use Rattle.entry_set.specs.Lanes.{setLanes}
+use Rattle.move_area.specs.Bodies.{laneAt, atomAt}
+use Rattle.move_area.specs.Calls.{last, next}
+use Rattle.move_counter.specs.Marks.{unmarked}
+
+-- the set X as node r: its eight words, one registered set more, and no mark
+unfoldable pub registered : ℕ → ℕ → ℕ → List ℕ → List ℕ
+registered n r X l = set (set (setLanes l (laneAt n 0 + r) n X) (n * n) (r + 1)) (laneAt n 9 + r) 0
+
+-- node r isn't registered yet, and the area has the lanes
+pub record CanRegister (n r : ℕ) (l : List ℕ) : Type 0 where
+  pub free : r < n
+  pub small : n ≤ 1024
+  pub room : atomAt n ≤ length l
+
+-- what the code writes
+pub written-long : (n at X : ℕ) (l : List ℕ) {l′ : List ℕ} → l′ ≡ setLanes l at n X → length l′ ≡ length l
+written-long n at X l e = ap length e ∙ length-setStrided l at n (parts 32 8 X)
+
+pub registered-written : (n r X : ℕ) (l : List ℕ) {l′ : List ℕ} → l′ ≡ setLanes l (n * n + 24 + r) n X
+    → set (set l′ (n * n) (r + 1)) (n * n + 24 + 9 * n + r) 0 ≡ registered n r X l
+unfolding registered
+registered-written n r X l e =
+    let q : n * n + 24 + r ≡ laneAt n 0 + r = omega arith in
+    ap (λ (u : List ℕ). set (set u (n * n) (r + 1)) (laneAt n 9 + r) 0) (e ∙ ap (λ i. setLanes l i n X) q)
+
+-- the walk counter
+abbrev pub counterIn : ℕ → List ℕ → ℕ
+counterIn n l = getD l (n * n + 1) 0
+
+-- the counter raised: "mark at 4,294,967,295 clears marks and restarts"
+unfoldable pub raised : ℕ → List ℕ → List ℕ
+raised n l = set (cond (last (counterIn n l)) (patch (laneAt n 9) (replicate n 0) l) l) (n * n + 1) (next (counterIn n l))
+
+-- the marks lane is lent to the walk and to its start
+module _ (n : ℕ) (area : List ℕ) (room : atomAt n ≤ length area) where
+  abbrev at : ℕ
+  at = laneAt n 9
+
+  pub marks-lent : midOf at (at + n - at) area ≡ part at n area
+  marks-lent =
+      let z : at + n - at ≡ n = omega arith in
+      mid-part at (at + n) area (omega arith) (omega arith) ∙ ap (λ k. part at k area) z
+
+  -- it comes back with the marks that the walk starts with
+  abbrev marks : List ℕ
+  marks = part at n area
+
+  started-marks : (t : Bool) → patch at (cond t (replicate (length marks) 0) marks) area ≡ cond t (patch at (replicate n 0) area) area
+  started-marks true = ap (λ k. patch at (replicate k 0) area) (part-long at n area)
+  started-marks false = patch-same at marks area (ap (λ k. part at k area) (part-long at n area))
+
+  pub raised-done : {r : ℕ} {m : List ℕ} → r ≡ next (counterIn n area) → m ≡ unmarked (counterIn n area) (midOf at (at + n - at) area)
+      → length m ≡ length (midOf at (at + n - at) area) → set (putMid at (at + n - at) area m) (n * n + 1) r ≡ raised n area
+  unfolding raised unmarked
+  raised-done {r} {m} c e l =
+      let long : length m ≡ at + n - at = omega (arith, ap length marks-lent, part-long at n area) in
+      let q : putMid at (at + n - at) area m ≡ cond (last (counterIn n area)) (patch at (replicate n 0) area) area =
+      put-patch at (at + n) area m (omega arith) (omega arith) long ∙ ap (λ (u : List ℕ). patch at u area) (e ∙ ap (unmarked (counterIn n area)) marks-lent) ∙ started-marks (last (counterIn n area)) in
+      ap₂ (λ (u : List ℕ) k. set u (n * n + 1) k) q c
+
+-- an accepted move: the moved graph's edges and counts, the atom's node, no cycle and no component
+unfoldable pub committed : ℕ → List ℕ → List ℕ → ℕ → ℕ → List ℕ → List ℕ
+committed n edges counts atom to l =
+    patch (laneAt n 10) (replicate n 0) (set (set (patch (laneAt n 8) counts (patch 0 edges l)) (atomAt n + atom) to) (n * n + 2) 1)

@@ -1,0 +1,252 @@
+-- Step 3 with the target registered: what is asked, and that the area holds the next state. Assumes nothing.
+use mathlib.Core.Path.{_≡_, refl, sym, ap, subst, _∙_}
+use mathlib.Core.Bool.{Bool, true, false, not, cond}
+use mathlib.Core.List.{List}
+use Prim.Native.Nat.{ℕ, _+_, _*_, _≤_, _<_}
+use native.Mathlib.Omega.{arith}
+use native.Mathlib.Nat.{zero-add}
+use lib.Dec.{eqb}
+use lib.ListN.{length, getD, set}
+use Rattle.graph_slots.specs.Asked.{ListRoom}
+use Rattle.graphs.specs.Count.{ind}
+use Rattle.graphs.specs.Lists.{below, has-at}
+use Rattle.graphs.specs.Tab.{tab, tab-at, is-tab, tab-alike}
+use Rattle.graphs.specs.Walk.{via, cyclic}
+use Rattle.graphs.specs.Slots.{slotEdge, Ends}
+use Rattle.graph_walks.specs.Marks.{marking}
+use Rattle.layout.specs.Patch.{part, part-long, part-at}
+use Rattle.move_edges.specs.Matrix.{matrix}
+use Rattle.move_ledger.specs.Graph.{Load, at, members}
+use Rattle.move_ledger.specs.Ledger.{register}
+use Rattle.move_ledger.specs.LoadLaws.{Loadable}
+use Rattle.move_ledger.specs.MoveLaws.{register-old}
+use Rattle.move_ledger.specs.Nodes.{Placing, sources, targets, node-edge}
+use Rattle.move_ledger.specs.NodeMoves.{placing-set}
+use Rattle.move_slots.specs.SlotLaws.{Slotted, slotted-edge, slotted-ends, slotted-flat}
+use Rattle.move_ledger.specs.NodeWalks.{ends-nodes}
+use Rattle.move_area.specs.Bodies.{atomAt}
+use Rattle.move_area.specs.Area.{setsIn}
+use Rattle.move_area.specs.Checked.{nodesIn, nodesState}
+use Rattle.move_area.specs.NodeBodies.{Nodes}
+use Rattle.move_area.specs.Calls.{next}
+use Rattle.move_slots.specs.Filled.{CanFillOwn, Filled}
+use Rattle.move_try.specs.Stands.{Stands, stands-long, registered-at, counter-at, acyclic-at, edge-at, sets-in, mark-at, node-at, marks-part, nodes-part}
+use Rattle.move_try.specs.Areas.{counterIn, raised, committed}
+use Rattle.move_try.specs.Changes.{with-marks, with-node, with-raised, stands-marks, stands-raised, raised-fresh, stands-committed}
+use Rattle.move_try.specs.Outcome.{Trial, with-test, walk-marks, test-walk}
+use Rattle.move_try.specs.Test.{CanTest, walk-area, closes, tested, marked-long}
+use Rattle.move_try.specs.Commit.{CanCommit}
+use Rattle.move_try.specs.Trial.{CanTrial}
+
+-- the flag tells whether the graph has a cycle
+pub flag-tells : (t : Bool) → eqb (ind (not t)) 0 ≡ t
+flag-tells true = refl
+flag-tells false = refl
+
+-- the area after the test
+module _ {load : Load} {N : ℕ} {s : Nodes} {l₀ l : List ℕ} (v : Stands load N s l₀ l) (a y : ℕ) where
+  abbrev E : ℕ → ℕ → Bool
+  E = node-edge load (set (s .nodes) a y) (s .sets)
+
+  abbrev was : Bool
+  was = cyclic (node-edge load (s .nodes) (s .sets)) (below N)
+
+  flag : eqb (getD l (N * N + 2) 0) 0 ≡ was
+  flag = ap (λ k. eqb k 0) (acyclic-at v) ∙ flag-tells was
+
+  low : (x : ℕ) → x < N → at (walk-marks load N s a y) x ≤ next (s .counter)
+  unfolding marking
+  low x h = rw (tab-at _ (length (with-raised s .marks)) x (omega (arith, stands-raised v .long))) (go (via E (below N) y x))
+    where
+      go : (t : Bool) → cond t (next (s .counter)) (at (with-raised s .marks) x) ≤ next (s .counter)
+      go true = omega arith
+      go false = omega (arith, raised-fresh v x h)
+
+  walked : Stands load N (with-marks (with-raised s) (walk-marks load N s a y)) l₀ (walk-area E N (next (counterIn N l)) y (raised N l))
+  unfolding walk-area
+  walked =
+      rw (counter-at v, marks-part (stands-raised v))
+      (stands-marks (stands-raised v) (walk-marks load N s a y) (marked-long E N (next (s .counter)) y (with-raised s .marks) ∙ stands-raised v .long) low)
+
+  pub stands-tested : {e : ℕ → ℕ → Bool} → e ≡ E → Stands load N (with-test load N s a y was) l₀ (tested e N y l)
+  unfolding tested
+  stands-tested q = rw (q, flag) (go was)
+    where
+      go : (t : Bool) → Stands load N (with-test load N s a y t) l₀ (cond t l (walk-area E N (next (counterIn N l)) y (raised N l)))
+      go true = v
+      go false = walked
+
+  -- the test's answer
+  pub closes-cyclic : {e : ℕ → ℕ → Bool} → e ≡ E → a < load .A → y < length (s .sets) → closes e N y l ≡ cyclic E (below N)
+  unfolding closes
+  closes-cyclic q ha hy = rw (q, flag) (go was refl)
+    where
+      same : register (at (s .sets) y) (s .sets) ≡ s .sets
+      same = register-old (at (s .sets) y) (s .sets) (has-at (s .sets) y hy)
+
+      trial : Trial load N s a (at (s .sets) y) y
+      trial =
+          record {
+            order = v .order;
+            placing = v .placing;
+            small = v .small;
+            wide = rw same (v .few);
+            long = v .long;
+            atom = ha;
+            node = rw same hy;
+            set = rw same refl;
+          }
+
+      go : (t : Bool) → was ≡ t → cond t (cyclic E (below N)) (via E (below N) y y) ≡ cyclic E (below N)
+      go true h = refl
+      go false h = sym (rw same at (test-walk trial h))
+
+-- the area holds the state that it names, and the target is a registered node
+pub record CanSettle (load : Load) (n : ℕ) (area : List ℕ) (atom to : ℕ) : Type 0 where
+  pub loadable : Loadable load n true (length area)
+  pub stands : Stands load n (nodesState load n area) area area
+  pub there : atom < load .A
+  pub node : to < length (setsIn n area)
+
+-- room for a trial: atom counts, and slots of the moved placement and of the present one
+pub record SettleRoom (load : Load) (n : ℕ) (counts sources targets heads list spare : List ℕ) : Type 0 where
+  pub counts-long : n ≤ length counts
+  pub sources-long : load .D + load .E ≤ length sources
+  pub targets-long : load .D + load .E ≤ length targets
+  pub lists : ListRoom (load .D + load .E) n heads list
+  pub spare-long : load .D + load .E ≤ length spare
+
+-- the graph with the atom in its new node, and the present one
+abbrev pub movedEdge : Load → ℕ → List ℕ → ℕ → ℕ → ℕ → ℕ → Bool
+movedEdge load n area atom to = node-edge load (set (nodesIn load n area) atom to) (setsIn n area)
+
+abbrev pub presentEdge : Load → ℕ → List ℕ → ℕ → ℕ → Bool
+presentEdge load n area = node-edge load (nodesIn load n area) (setsIn n area)
+
+-- the state after the test
+abbrev pub testedState : Load → ℕ → List ℕ → ℕ → ℕ → Nodes
+testedState load n area atom to = with-test load n (nodesState load n area) atom to (cyclic (presentEdge load n area) (below n))
+
+-- the answer is yes where the moved graph has no cycle, and then the atom is moved
+pub record Settled (load : Load) (n : ℕ) (area : List ℕ) (atom to : ℕ) (r : Bool) (l : List ℕ) : Type 0 where
+  pub says : cyclic (movedEdge load n area atom to) (below n) ≡ not r
+  pub stands : Stands load n (cond r (with-node (testedState load n area atom to) atom to) (testedState load n area atom to)) area l
+
+-- slots that are the ledger's have its matrix
+slotted-matrix : {load : Load} {nodes sets s t : List ℕ} → Slotted load nodes sets s t → (n : ℕ)
+    → matrix s t n (load .D + load .E) ≡ matrix (sources load nodes sets) (targets load nodes sets) n (load .D + load .E)
+unfolding matrix
+slotted-matrix v n = tab-alike _ _ (n * n) (λ i h. slotted-flat v n i)
+
+module _ {load : Load} {n : ℕ} {area : List ℕ} {atom to : ℕ} (can : CanSettle load n area atom to) where
+  some : 0 < n
+  some = omega (arith, can .loadable .sizes .wide, can .there)
+
+  moved : Placing load (set (nodesIn load n area) atom to) (setsIn n area)
+  moved = placing-set (can .stands .placing) atom to (can .node)
+
+  within : to < n
+  within = omega (arith, can .node, can .stands .few)
+
+  room : atomAt n ≤ length area
+  room = omega (arith, can .stands .room)
+
+  pub settle-trial : {counts s t : List ℕ} → n ≤ length counts → load .D + load .E ≤ length s → load .D + load .E ≤ length t → CanTrial load n area atom to counts s t
+  settle-trial a b c =
+      let r = registered-at (can .stands) in
+      record {
+        loadable = can .loadable;
+        few = omega (arith, can .stands .few);
+        nodes = λ i h. omega (arith, can .stands .placing .inside i h);
+        there = can .there;
+        node = omega (arith, can .node);
+        counts-long = a;
+        sources-long = b;
+        targets-long = c;
+      }
+
+  -- with the new slots
+  module _ {counts s t : List ℕ} (f : Filled load n (set (nodesIn load n area) atom to) (setsIn n area) counts s t) where
+    edges : slotEdge s t (load .D + load .E) ≡ movedEdge load n area atom to
+    edges = slotted-edge (f .slots)
+
+    ends : Ends s t n (load .D + load .E)
+    ends = slotted-ends (f .slots) (ends-nodes (can .stands .order) moved n (can .stands .few) some)
+
+    pub settle-test : load .D + load .E ≤ length s → load .D + load .E ≤ length t → CanTest area n to s t (load .D + load .E)
+    settle-test b c =
+        record {
+          ask =
+              record {
+                slots = omega (arith, can .loadable .sizes .entries, can .loadable .sizes .bits);
+                sources = b;
+                targets = c;
+                ends = ends;
+                nodes = can .stands .small;
+              };
+          node = within;
+          room = room;
+          low = λ x h. omega (arith, mark-at (can .stands) x h, counter-at (can .stands), can .stands .marks x h);
+        }
+
+    module _ {l : List ℕ} {r : Bool} (q : (r ≡ closes (slotEdge s t (load .D + load .E)) n to area) × (l ≡ tested (slotEdge s t (load .D + load .E)) n to area)) where
+      answer : r ≡ cyclic (movedEdge load n area atom to) (below n)
+      answer = q .0 ∙ closes-cyclic (can .stands) atom to edges (can .there) (can .node)
+
+      after : Stands load n (testedState load n area atom to) area l
+      after = rw (q .1) (stands-tested (can .stands) atom to edges)
+
+      pub settle-rejected : r ≡ true → Settled load n area atom to false l
+      settle-rejected h = record { says = sym answer ∙ h; stands = after }
+
+      -- the present placement's slots may be filled: the test left nodes and sets as they were
+      pub settle-fill : {counts′ u v : List ℕ} → n ≤ length counts′ → load .D + load .E ≤ length u → load .D + load .E ≤ length v → CanFillOwn load n l counts′ u v
+      settle-fill a b c =
+          let k = registered-at after in
+          record {
+            loadable = subst (Loadable load n true) (sym (stands-long after)) (can .loadable);
+            few = omega (arith, can .stands .few);
+            inside = λ i h. omega (arith, node-at after i h, can .stands .placing .inside i h);
+            counts-long = a;
+            sources-long = b;
+            targets-long = c;
+          }
+
+      module _ {counts′ u v : List ℕ} (o : Filled load n (nodesIn load n l) (setsIn n l) counts′ u v) where
+        old : Slotted load (nodesIn load n area) (setsIn n area) u v
+        old = rw (nodes-part after, sets-in after) at (o .slots)
+
+        pub settle-commit : n ≤ length counts → load .D + load .E ≤ length s → load .D + load .E ≤ length t → load .D + load .E ≤ length u → load .D + load .E ≤ length v
+            → CanCommit l n atom to u v s t (load .D + load .E) counts
+        settle-commit k b c y z =
+            record {
+              follow =
+                  record {
+                    both =
+                        record {
+                          sources = y;
+                          targets = z;
+                          new-sources = b;
+                          new-targets = c;
+                          ends = slotted-ends old (ends-nodes (can .stands .order) (can .stands .placing) n (can .stands .few) some);
+                          new-ends = ends;
+                          few = omega (arith, can .loadable .sizes .entries, can .loadable .sizes .bits);
+                        };
+                    room = omega (arith, room, stands-long after);
+                    holds = record { at = λ i w. edge-at after i w ∙ sym (slotted-flat old n i) };
+                  };
+              rows = can .stands .small;
+              node = within;
+              place = omega (arith, can .stands .room, stands-long after, can .there);
+              tallies = k;
+            }
+
+      pub settle-accepted : r ≡ false → {l′ : List ℕ} → l′ ≡ committed n (matrix s t n (load .D + load .E)) (part 0 n counts) atom to l → Settled load n area atom to true l′
+      settle-accepted h e =
+          record {
+            says = sym answer ∙ h;
+            stands = rw (e, slotted-matrix (f .slots) n, tallies) (stands-committed after atom to (can .there) (can .node) (sym answer ∙ h));
+          }
+        where
+          tallies : part 0 n counts ≡ tab (members load (set (nodesIn load n area) atom to)) n
+          tallies = is-tab (part 0 n counts) n _ (part-long 0 n counts) (λ x z. part-at 0 n counts x z ∙ ap (λ i. getD counts i 0) (zero-add x) ∙ f .count-at x z)

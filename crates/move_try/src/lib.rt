@@ -1,0 +1,51 @@
+// A move on a consistent area, after the checks up to row 12: steps 1 to 3 and row 13.
+ghost use Rattle.move_ledger.specs.Graph.{lent};
+ghost use Rattle.entry_set.specs.Sets.{number};
+ghost use Rattle.move_try.specs.Tried.{answerOf, CanTry, Answers};
+
+// What a move on a checked area comes to.
+pub enum Tried {
+    Accepted,
+    Rejected,
+    Full,
+}
+
+mod early;
+mod settle;
+mod test;
+mod trial;
+mod writes;
+
+// A move of the atom to the target set. The area is consistent, and rows 10 to 12 don't fit.
+pub fn try_checked(
+    a: usize,
+    d: usize,
+    e: usize,
+    n: usize,
+    starts: &[u32],
+    dependencies: &[u32],
+    hosts: &[u32],
+    area: &mut [u32],
+    atom: usize,
+    target: entry_set::EntrySet,
+) -> Tried
+    requires { ⌜ CanTry (lent a d e (now starts) (now dependencies) (now hosts)) n (now area) atom (number target) ⌝ }
+    ensures { λ r. ⌜ Answers (lent a d e (now (starts .entry)) (now (dependencies .entry)) (now (hosts .entry))) n (now (area .entry)) atom (number target) (answerOf r) (now (area .exit)) ⌝ }
+{
+    let square = n * n;
+    let from = area[square + 24 + 24 * n + atom] as usize;
+    let registered = area[square] as usize;
+    let to = early::place(area, n, registered, target);
+    let outside = early::outside(area, n, from);
+    if outside {
+        return Tried::Rejected;
+    }
+    if to == n {
+        return Tried::Full;
+    }
+    writes::register(area, n, registered, to, target);
+    if settle::settle(a, d, e, n, starts, dependencies, hosts, area, atom, to) {
+        return Tried::Accepted;
+    }
+    Tried::Rejected
+}

@@ -1,0 +1,81 @@
+// What the steps of a move write into the area.
+ghost use mathlib.Core.Path.{_≡_};
+ghost use mathlib.Core.Bool.{cond};
+ghost use Prim.Native.Nat.{_+_, _*_, _≤_};
+ghost use lib.Dec.{eqb};
+ghost use lib.ListN.{length};
+ghost use Rattle.entry_set.specs.Sets.{number};
+ghost use Rattle.move_area.specs.Calls.{next};
+ghost use Rattle.layout.specs.Patch.{patch, part};
+ghost use Rattle.move_edges.specs.Matrix.{matrix};
+ghost use Rattle.move_try.specs.Areas.{registered, counterIn, raised, committed, CanRegister};
+ghost use Rattle.move_try.specs.Commit.{CanFollow, CanCommit};
+
+// Step 2: the set becomes a node.
+fn add_node(area: &mut [u32], n: usize, r: usize, s: entry_set::EntrySet)
+    requires { ⌜ CanRegister n r (now area) ⌝ }
+    ensures { λ _. ⌜ now (area .exit) ≡ registered n r (number s) (now (area .entry)) ⌝ }
+{
+    let square = n * n;
+    entry_set::write_lanes(area, square + 24 + r, n, s);
+    area[square] = r as u32 + 1;
+    area[square + 24 + 9 * n + r] = 0;
+}
+
+// Step 2: the target's set is registered where its place `to` is the next free one, else it is a node already.
+pub fn register(area: &mut [u32], n: usize, r: usize, to: usize, s: entry_set::EntrySet)
+    requires { ⌜ CanRegister n to (now area) ⌝ }
+    ensures { λ _. ⌜ now (area .exit) ≡ cond (eqb to r) (registered n r (number s) (now (area .entry))) (now (area .entry)) ⌝ }
+{
+    if to == r {
+        add_node(area, n, r, s);
+    }
+}
+
+// The next walk counter. After the last one all marks are cleared, and it starts again.
+pub fn raise(area: &mut [u32], n: usize) -> u32
+    requires { ⌜ n * n + 24 + 24 * n ≤ length (now area) ⌝ }
+    ensures { λ r. ⌜ r ≡ next (counterIn n (now (area .entry))) ⌝ }
+    ensures { λ _. ⌜ now (area .exit) ≡ raised n (now (area .entry)) ⌝ }
+{
+    let square = n * n;
+    let at = square + 24 + 9 * n;
+    let end = at + n;
+    let counter = move_counter::begin(area[square + 1], &mut area[at..end]);
+    area[square + 1] = counter;
+    counter
+}
+
+// The edges of the old slots (s, t) become those of the new ones (u, v).
+fn follow(area: &mut [u32], n: usize, s: &[u32], t: &[u32], u: &[u32], v: &[u32], m: usize)
+    requires { ⌜ CanFollow (now area) n (now s) (now t) (now u) (now v) m ⌝ }
+    ensures { λ _. ⌜ now (area .exit) ≡ patch 0 (matrix (now (u .entry)) (now (v .entry)) n m) (now (area .entry)) ⌝ }
+{
+    let end = n * n;
+    move_edges::update(&mut area[0..end], n, s, t, u, v, m);
+}
+
+// An accepted move: edges and counts, the atom's node, no cycle and no component.
+pub fn commit(
+    area: &mut [u32],
+    n: usize,
+    atom: usize,
+    to: usize,
+    s: &[u32],
+    t: &[u32],
+    u: &[u32],
+    v: &[u32],
+    m: usize,
+    counts: &[u32],
+)
+    requires { ⌜ CanCommit (now area) n atom to (now s) (now t) (now u) (now v) m (now counts) ⌝ }
+    ensures { λ _. ⌜ now (area .exit) ≡ committed n (matrix (now (u .entry)) (now (v .entry)) n m) (part 0 n (now (counts .entry))) atom to (now (area .entry)) ⌝ }
+{
+    let square = n * n;
+    let lanes = square + 24;
+    follow(area, n, s, t, u, v, m);
+    layout::copy(area, lanes + 8 * n, counts, 0, n);
+    area[lanes + 24 * n + atom] = to as u32;
+    area[square + 2] = 1;
+    layout::fill_with(area, lanes + 10 * n, n, 0);
+}

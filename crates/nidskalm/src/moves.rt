@@ -1,0 +1,214 @@
+// The calls of the move graph.
+ghost use mathlib.Core.Path.{_≡_};
+ghost use Rattle.move_ledger.specs.Graph.{lent};
+ghost use Rattle.move_ledger.specs.Ledger as ledger;
+ghost use Rattle.move_area.specs.Calls as calls;
+ghost use Rattle.nidskalm_replies.specs.Replies.{move-reply, set-reply, edge-reply};
+use nidskalm_replies::EdgeReply;
+use nidskalm_replies::Reply;
+use nidskalm_replies::SetReply;
+use nidskalm_replies::of_edge;
+use nidskalm_replies::of_load;
+use nidskalm_replies::of_move;
+use nidskalm_replies::of_number;
+use nidskalm_replies::of_set;
+
+// Loads a graph: 0 where it is acyclic, 1 where it is cyclic.
+#[no_mangle]
+pub extern "C" fn reduced_chunk_graph_new(
+    a: u64,
+    d: u64,
+    e: u64,
+    n: u64,
+    starts: &[u32],
+    dependencies: &[u32],
+    hosts: &[u32],
+    sets: &[u64],
+    area: &mut [u32],
+) -> Reply
+    ensures { λ r. ⌜ r ≡ move-reply (calls.new (lent a d e (now (starts .entry)) (now (dependencies .entry)) (now (hosts .entry))) n (now (sets .entry)) (now (area .entry)) .answer) ⌝ }
+    ensures { λ _. ⌜ now (area .exit) ≡ calls.new (lent a d e (now (starts .entry)) (now (dependencies .entry)) (now (hosts .entry))) n (now (sets .entry)) (now (area .entry)) .area ⌝ }
+{
+    of_load(reduced_chunk_graph::new(
+        a as usize,
+        d as usize,
+        e as usize,
+        n as usize,
+        starts,
+        dependencies,
+        hosts,
+        sets,
+        area,
+    ))
+}
+
+// Moves an atom to a set if no cycle arises: 1 accepted, 0 rejected.
+#[no_mangle]
+pub extern "C" fn reduced_chunk_graph_try_move(
+    a: u64,
+    d: u64,
+    e: u64,
+    n: u64,
+    starts: &[u32],
+    dependencies: &[u32],
+    hosts: &[u32],
+    area: &mut [u32],
+    atom: u32,
+    bits: &[u64],
+) -> Reply
+    ensures { λ r. ⌜ r ≡ move-reply (calls.try-move (lent a d e (now (starts .entry)) (now (dependencies .entry)) (now (hosts .entry))) n (now (area .entry)) atom (now (bits .entry)) .answer) ⌝ }
+    ensures { λ _. ⌜ now (area .exit) ≡ calls.try-move (lent a d e (now (starts .entry)) (now (dependencies .entry)) (now (hosts .entry))) n (now (area .entry)) atom (now (bits .entry)) .area ⌝ }
+{
+    of_move(reduced_chunk_graph::try_move(
+        a as usize,
+        d as usize,
+        e as usize,
+        n as usize,
+        starts,
+        dependencies,
+        hosts,
+        area,
+        atom,
+        bits,
+    ))
+}
+
+// An atom's set.
+#[no_mangle]
+pub extern "C" fn reduced_chunk_graph_atom_set(
+    a: u64,
+    d: u64,
+    e: u64,
+    n: u64,
+    starts: &[u32],
+    dependencies: &[u32],
+    hosts: &[u32],
+    area: &[u32],
+    atom: u32,
+) -> SetReply
+    ensures { λ r. ⌜ r ≡ set-reply (calls.asked (lent a d e (now (starts .entry)) (now (dependencies .entry)) (now (hosts .entry))) n (now (area .entry)) (ledger.atom-set atom)) ⌝ }
+{
+    of_set(reduced_chunk_graph::atom_set(
+        a as usize,
+        d as usize,
+        e as usize,
+        n as usize,
+        starts,
+        dependencies,
+        hosts,
+        area,
+        atom,
+    ))
+}
+
+// A set's atom count.
+#[no_mangle]
+pub extern "C" fn reduced_chunk_graph_atom_count(
+    a: u64,
+    d: u64,
+    e: u64,
+    n: u64,
+    starts: &[u32],
+    dependencies: &[u32],
+    hosts: &[u32],
+    area: &[u32],
+    bits: &[u64],
+) -> Reply
+    ensures { λ r. ⌜ r ≡ move-reply (calls.asked (lent a d e (now (starts .entry)) (now (dependencies .entry)) (now (hosts .entry))) n (now (area .entry)) (ledger.atom-count (now (bits .entry)))) ⌝ }
+{
+    of_number(reduced_chunk_graph::atom_count(
+        a as usize,
+        d as usize,
+        e as usize,
+        n as usize,
+        starts,
+        dependencies,
+        hosts,
+        area,
+        bits,
+    ))
+}
+
+// The multiplicity of the edge from one set to another.
+#[no_mangle]
+pub extern "C" fn reduced_chunk_graph_multiplicity(
+    a: u64,
+    d: u64,
+    e: u64,
+    n: u64,
+    starts: &[u32],
+    dependencies: &[u32],
+    hosts: &[u32],
+    area: &[u32],
+    from: &[u64],
+    to: &[u64],
+) -> Reply
+    ensures { λ r. ⌜ r ≡ move-reply (calls.asked (lent a d e (now (starts .entry)) (now (dependencies .entry)) (now (hosts .entry))) n (now (area .entry)) (ledger.multiplicity (now (from .entry)) (now (to .entry)))) ⌝ }
+{
+    of_number(reduced_chunk_graph::multiplicity(
+        a as usize,
+        d as usize,
+        e as usize,
+        n as usize,
+        starts,
+        dependencies,
+        hosts,
+        area,
+        from,
+        to,
+    ))
+}
+
+// The number of distinct edges.
+#[no_mangle]
+pub extern "C" fn reduced_chunk_graph_edge_count(
+    a: u64,
+    d: u64,
+    e: u64,
+    n: u64,
+    starts: &[u32],
+    dependencies: &[u32],
+    hosts: &[u32],
+    area: &[u32],
+) -> Reply
+    ensures { λ r. ⌜ r ≡ move-reply (calls.asked (lent a d e (now (starts .entry)) (now (dependencies .entry)) (now (hosts .entry))) n (now (area .entry)) ledger.edge-count) ⌝ }
+{
+    of_number(reduced_chunk_graph::edge_count(
+        a as usize,
+        d as usize,
+        e as usize,
+        n as usize,
+        starts,
+        dependencies,
+        hosts,
+        area,
+    ))
+}
+
+// The k-th edge, from 0, by rising source set, then target set.
+#[no_mangle]
+pub extern "C" fn reduced_chunk_graph_edge_at(
+    a: u64,
+    d: u64,
+    e: u64,
+    n: u64,
+    starts: &[u32],
+    dependencies: &[u32],
+    hosts: &[u32],
+    area: &[u32],
+    k: u64,
+) -> EdgeReply
+    ensures { λ r. ⌜ r ≡ edge-reply (calls.asked (lent a d e (now (starts .entry)) (now (dependencies .entry)) (now (hosts .entry))) n (now (area .entry)) (ledger.edge-at k)) ⌝ }
+{
+    of_edge(reduced_chunk_graph::edge_at(
+        a as usize,
+        d as usize,
+        e as usize,
+        n as usize,
+        starts,
+        dependencies,
+        hosts,
+        area,
+        k,
+    ))
+}

@@ -1,2 +1,0 @@
--- The laws that the proofs of `slot_graph` cite. Assumes nothing.
-pub mod Grouped
