@@ -1,4 +1,6 @@
 //! The original, compiled unchanged, and readers of its private fields.
+use std::collections::BTreeMap;
+
 use crate::sets::Set;
 
 /// `reduced_chunk_graph.rs`, whole.
@@ -18,22 +20,23 @@ mod reduced_chunk_graph {
             for (bits, &node) in &graph.node_by_bits {
                 registered[node] = Set::from_words(bits.words());
             }
-            let mut edges: Vec<(u32, u32, u32)> = vec![];
+            let mut edges: Vec<(Set, Set, u32)> = vec![];
             for (from, dependencies) in graph.edges.dependencies.iter().enumerate() {
                 for (&to, &multiplicity) in dependencies {
                     assert!(graph.edges.dependents[to].contains(&from), "dependents without an edge");
-                    edges.push((from as u32, to as u32, multiplicity));
+                    edges.push((registered[from], registered[to], multiplicity));
                 }
             }
             let dependents: usize = graph.edges.dependents.iter().map(|nodes| nodes.len()).sum();
             assert_eq!(dependents, edges.len(), "dependents and dependencies differ");
             edges.sort_unstable();
-            let mut component: Vec<u32> = graph.cyclic_component.iter().map(|&node| node as u32).collect();
+            let mut component: Vec<Set> = graph.cyclic_component.iter().map(|&node| registered[node]).collect();
             component.sort_unstable();
+            let counts = registered.iter().copied().zip(graph.atom_count_by_node.iter().map(|&count| count as u32));
             MoveView {
+                place: graph.node_by_atom.iter().map(|&node| registered[node]).collect(),
+                counts: counts.filter(|&(_, count)| count > 0).collect(),
                 registered,
-                node: graph.node_by_atom.iter().map(|&node| node as u32).collect(),
-                count: graph.atom_count_by_node.iter().map(|&count| count as u32).collect(),
                 edges,
                 acyclic: graph.is_acyclic,
                 component: if graph.is_acyclic { vec![] } else { component },
@@ -54,17 +57,19 @@ mod reduced_chunk_graph {
     }
 }
 
-/// What is compared of a move graph: by node, in the order of registration.
+/// What is compared of a move graph, by sets: the original forgets none, so its nodes aren't the library's.
 #[derive(Clone, Debug, PartialEq, Eq)]
 pub struct MoveView {
+    /// Every set that was ever registered, in that order.
     pub registered: Vec<Set>,
-    pub node: Vec<u32>,
-    pub count: Vec<u32>,
+    pub place: Vec<Set>,
+    /// The atoms of each occupied set.
+    pub counts: BTreeMap<Set, u32>,
     /// (from, to, multiplicity), rising.
-    pub edges: Vec<(u32, u32, u32)>,
+    pub edges: Vec<(Set, Set, u32)>,
     pub acyclic: bool,
-    /// Empty while acyclic: the original keeps an old component there.
-    pub component: Vec<u32>,
+    /// Rising; empty while acyclic: the original keeps an old component there.
+    pub component: Vec<Set>,
 }
 
 /// The borrowed lists of an original move graph, as it wants them.
