@@ -94,11 +94,11 @@ module _ (load : Load) (N : ℕ) (l : Ledger) (a : ℕ) (s : List ℕ) where
   -- nor does one that step 1 rejects
   pub step1-keeps : step1 load (l .place) a ≡ true → move load N l a s .after ≡ l
   unfolding move
-  step1-keeps h = rw h (go (is-refused x))
+  step1-keeps h = rw h (go (is-refused x) _)
     where
-      go : (r : Bool) → cond (not (r || true)) (cond (is-accepted x) (step3 load N l a (value s)) (step2 load N l (value s))) l ≡ l
-      go true = refl
-      go false = refl
+      go : (r : Bool) (m : Ledger) → cond (not (r || true)) m l ≡ l
+      go true m = refl
+      go false m = refl
 
   -- a tried one leaves what its answer says
   pub tried-after : is-refused (decide load (l .place) a s) ≡ false → step1 load (l .place) a ≡ false
