@@ -1,5 +1,5 @@
 -- 02, (xi): a place for the next set is always left, so 13 never occurs. Assumes nothing.
-use Prim.Native.Nat.{ℕ, zero, suc, _≤_, _<_}
+use Prim.Native.Nat.{ℕ, zero, suc, _*_, _≤_, _<_}
 use native.Mathlib.Omega.{arith}
 use mathlib.Core.Path.{_≡_, ap, subst}
 use mathlib.Core.Bool.{Bool, true, false, not, cond, _&&_, _||_}
@@ -8,12 +8,12 @@ use lib.Dec.{leb, eqb}
 use lib.ListN.{length, set}
 use Rattle.graphs.specs.Lists.{has-at}
 use Rattle.graphs.specs.Walk.{cyclic}
-use Rattle.entry_set.specs.Sets.{value, legal, words}
+use Rattle.entry_set.specs.Sets.{value, legal, width, words}
 use Rattle.move_ledger.specs.Graph.{Load, Edge, at, members, mult, edge, edges}
 use Rattle.move_ledger.specs.Answer.{Answer, refused, acyclic, accepted, rejected, is-refused}
 use Rattle.move_ledger.specs.Answer as answer
 use Rattle.move_ledger.specs.Ledger.{Ledger, smallest-empty, free-place, step1, decide, move, Question, atom-set, atom-count, multiplicity, edge-count, edge-at, kth, ask, Call, try-move, asks}
-use Rattle.move_ledger.specs.Loading.{row1, row2, row3, row4, row5, row6, first-row, refusal}
+use Rattle.move_ledger.specs.Loading.{row1, row2, row3, row4, row5, row6, first-row, refusal, entry-sets, row7, row8, loading-row, loading}
 use Rattle.move_ledger.specs.Evict.{Smallest, smallest, some-empty, Free, place-free}
 use Rattle.move_ledger.specs.Sound.{Sound}
 use Rattle.move_area.specs.Area.{decode, consistent}
@@ -111,4 +111,20 @@ never-13 load N area (asks q) h =
     let x = ask load (decode load N area .ledger .place) q in
     let k : row-of (checked load N area x) ≤ 12 = checked-rows load N area x (ask-rows load (decode load N area .ledger .place) q) in
     let e : row-of (checked load N area x) ≡ 13 = ap row-of h in
+    omega arith
+
+-- nor does a loading
+pub never-13-at-loading : (load : Load) (N : ℕ) (sets area : List ℕ) → new load N sets area .answer ≡ refused 13 → ⊥
+unfolding new loading loading-row
+never-13-at-loading load N sets area h =
+    let q : ℕ = first-row load N (eqb (length sets) (load .A * width (load .E))) (length area) in
+    let late : ℕ = cond (row7 load sets) 7 (cond (row8 load sets) 8 0) in
+    let place = entry-sets load sets in
+    let k : row-of (new load N sets area .answer) ≤ 12 =
+        choice row-of (eqb (cond (eqb q 0) late q) 0) (cond (cyclic (edge load place) place) answer.cyclic acyclic) (refused (cond (eqb q 0) late q))
+        (choice row-of (cyclic (edge load place) place) answer.cyclic acyclic (omega arith) (omega arith))
+        (choice (λ n. n) (eqb q 0) late q
+        (choice (λ n. n) (row7 load sets) 7 (cond (row8 load sets) 8 0) (omega arith) (choice (λ n. n) (row8 load sets) 8 0 (omega arith) (omega arith)))
+        (first-rows load N (eqb (length sets) (load .A * width (load .E))) (length area))) in
+    let e : row-of (new load N sets area .answer) ≡ 13 = ap row-of h in
     omega arith
