@@ -31,12 +31,12 @@ slice-read-from : tie.Need-slice-read-from
 slice-read-from c = search needs
 
 cast-from : tie.Need-cast-from
-cast-from c = let a = c .before .before .before .before .before .before .before .args in omega (arith, c .slice-known2 .given (atomAt (a .n) + a .atom))
+cast-from c = let a = c .before .before .before .before .before .args in omega (arith, c .slice-known2 .given (atomAt (a .n) + a .atom))
 
 outside-requires : tie.Need-outside-requires
 outside-requires c κs =
-    let a = c .before .before .before .before .before .before .before .before .args in
-    let can = c .before .before .before .before .before .before .before .before .pre in
+    let a = c .before .before .before .before .before .before .args in
+    let can = c .before .before .before .before .before .before .pre in
     (try-from can (getD (a .area .now) (atomAt (a .n) + a .atom) 0) refl, omega (arith, try-room can))
 
 same-length : tie.Need-same-length
@@ -44,8 +44,8 @@ same-length c = search needs
 
 returns : tie.Need-returns
 returns c =
-    let a = c .before .before .before .before .before .before .before .before .before .before .args in
-    let can = c .before .before .before .before .before .before .before .before .before .before .pre in
+    let a = c .before .before .before .before .before .before .before .before .args in
+    let can = c .before .before .before .before .before .before .before .before .pre in
     let s1 = try-outside can (getD (a .area .now) (atomAt (a .n) + a .atom) 0) refl (c .before .outside .ensures) in
     try-rejected can s1 (c .if1 .taken)
 
@@ -56,27 +56,27 @@ slice-read-registered : tie.Need-slice-read-registered
 slice-read-registered c = search needs
 
 cast-registered : tie.Need-cast-registered
-cast-registered c = let a = c .before .before .before .before .before .before .before .before .before .before .before .args in omega (arith, c .slice-known3 .given (a .n * a .n))
+cast-registered c = let a = c .before .before .before .before .before .before .before .before .before .args in omega (arith, c .slice-known3 .given (a .n * a .n))
 
 find-requires : tie.Need-find-requires
 find-requires c κs =
-    let a = c .before .before .before .before .before .before .before .before .before .before .before .before .args in
-    try-find (c .before .before .before .before .before .before .before .before .before .before .before .before .pre) (getD (a .area .now) (a .n * a .n) 0) refl
+    let a = c .before .before .before .before .before .before .before .before .before .before .args in
+    try-find (c .before .before .before .before .before .before .before .before .before .before .pre) (getD (a .area .now) (a .n * a .n) 0) refl
 
 place-requires : tie.Need-place-requires
 place-requires c κs = search needs
 
 register-requires : tie.Need-register-requires
 register-requires c κs =
-    let a = c .before .before .before .before .before .before .before .before .before .before .before .before .before .before .before .before .args in
-    let can = c .before .before .before .before .before .before .before .before .before .before .before .before .before .before .before .before .pre in
+    let a = c .before .before .before .before .before .before .before .before .before .before .before .before .before .before .args in
+    let can = c .before .before .before .before .before .before .before .before .before .before .before .before .before .before .pre in
     let s1 = try-outside can (getD (a .area .now) (atomAt (a .n) + a .atom) 0) refl (c .before .before .before .before .before .before .before .outside .ensures) in
     try-register can (getD (a .area .now) (a .n * a .n) 0) refl (c .before .before .before .find .ensures) (c .before .place .ensures) s1 (c .before .before .before .before .before .before .if1 .left)
 
 settle-requires : tie.Need-settle-requires
 settle-requires c κs =
-    let a = c .before .before .before .before .before .before .before .before .before .before .before .before .before .before .before .before .before .before .before .before .args in
-    let can = c .before .before .before .before .before .before .before .before .before .before .before .before .before .before .before .before .before .before .before .before .pre in
+    let a = c .before .before .before .before .before .before .before .before .before .before .before .before .before .before .before .before .before .before .args in
+    let can = c .before .before .before .before .before .before .before .before .before .before .before .before .before .before .before .before .before .before .pre in
     let s1 = try-outside can (getD (a .area .now) (atomAt (a .n) + a .atom) 0) refl (c .before .before .before .before .before .before .before .before .before .before .before .outside .ensures) in
     try-settle can (getD (a .area .now) (a .n * a .n) 0) refl (c .before .before .before .before .before .before .before .find .ensures) (c .before .before .before .before .before .place .ensures) s1 (c .before .before .before .before .before .before .before .before .before .before .if1 .left) (c .before .before .before .register .ensures)
 
@@ -85,8 +85,8 @@ same-length-2 c = search needs
 
 returns-2 : tie.Need-returns-2
 returns-2 c =
-    let a = c .before .before .before .before .before .before .before .before .before .before .before .before .before .before .before .before .before .before .before .before .before .before .before .before .args in
-    let can = c .before .before .before .before .before .before .before .before .before .before .before .before .before .before .before .before .before .before .before .before .before .before .before .before .pre in
+    let a = c .before .before .before .before .before .before .before .before .before .before .before .before .before .before .before .before .before .before .before .before .before .before .args in
+    let can = c .before .before .before .before .before .before .before .before .before .before .before .before .before .before .before .before .before .before .before .before .before .before .pre in
     let s1 = try-outside can (getD (a .area .now) (atomAt (a .n) + a .atom) 0) refl (c .before .before .before .before .before .before .before .before .before .before .before .before .before .before .before .outside .ensures) in
     try-accepted can (getD (a .area .now) (a .n * a .n) 0) refl (c .before .before .before .before .before .before .before .before .before .before .before .find .ensures) (c .before .before .before .before .before .before .before .before .before .place .ensures) s1 (c .before .before .before .before .before .before .before .before .before .before .before .before .before .before .if1 .left) (c .before .before .before .before .before .before .before .register .ensures) (rw (c .if2 .taken) at (c .before .before .before .settle .ensures))
 
@@ -95,8 +95,8 @@ same-length-3 c = search needs
 
 returns-3 : tie.Need-returns-3
 returns-3 c =
-    let a = c .before .before .before .before .before .before .before .before .before .before .before .before .before .before .before .before .before .before .before .before .before .before .before .before .args in
-    let can = c .before .before .before .before .before .before .before .before .before .before .before .before .before .before .before .before .before .before .before .before .before .before .before .before .pre in
+    let a = c .before .before .before .before .before .before .before .before .before .before .before .before .before .before .before .before .before .before .before .before .before .before .args in
+    let can = c .before .before .before .before .before .before .before .before .before .before .before .before .before .before .before .before .before .before .before .before .before .before .pre in
     let s1 = try-outside can (getD (a .area .now) (atomAt (a .n) + a .atom) 0) refl (c .before .before .before .before .before .before .before .before .before .before .before .before .before .before .before .outside .ensures) in
     try-stays can (getD (a .area .now) (a .n * a .n) 0) refl (c .before .before .before .before .before .before .before .before .before .before .before .find .ensures) (c .before .before .before .before .before .before .before .before .before .place .ensures) s1 (c .before .before .before .before .before .before .before .before .before .before .before .before .before .before .if1 .left) (c .before .before .before .before .before .before .before .register .ensures) (rw (c .if2 .left) at (c .before .before .before .settle .ensures))
 
