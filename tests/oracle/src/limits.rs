@@ -105,7 +105,15 @@ fn moves_past(case: &MoveCase) -> Vec<(Load, Vec<u64>)> {
 fn every_set_registered() -> MoveCase {
     let go = |number: u64| MoveCall::Move { atom: 0, bits: set(number).to_vec() };
     let mut calls: Vec<MoveCall> = (1..1024).map(go).collect();
-    calls.extend([go(1024), go(1025), go(0), go(1023), go(1), go(1024), MoveCall::AtomCount { bits: set(1024).to_vec() }]);
+    calls.extend([
+        go(1024),
+        go(1025),
+        go(0),
+        go(1023),
+        go(1),
+        go(1024),
+        MoveCall::AtomCount { bits: set(1024).to_vec() },
+    ]);
     move_case(1, 0, 1024, calls)
 }
 

@@ -212,8 +212,8 @@ impl Case for MoveCase {
         let atoms = upto(load.a).map(|atom| self.without_atom(atom));
         let dependencies = upto(load.d).map(|entry| self.without_dependency(entry));
         let hosts = (0..load.e as usize).filter(|&bit| load.hosts[bit] != NONE).map(|bit| self.without_host(bit));
-        let room =
-            (load.n > load.a + 1 && !fixed).then(|| Self { load: Load { n: load.n - 1, ..load.clone() }, ..self.clone() });
+        let room = (load.n > load.a + 1 && !fixed)
+            .then(|| Self { load: Load { n: load.n - 1, ..load.clone() }, ..self.clone() });
         let narrow = load.e > 0 && width(load.e) == width(load.e - 1) && !fixed;
         let bits = narrow.then(|| self.without_last_bit()).flatten();
         Box::new(cases.chain(atoms).chain(dependencies).chain(hosts).chain(room).chain(bits))
