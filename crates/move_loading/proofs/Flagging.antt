@@ -61,5 +61,5 @@ module _ {edge : ℕ → ℕ → Bool} {n : ℕ} {l : List ℕ} {r : Bool} (e : 
   pub flags-none : r ≡ false → FlagsWritten edge n l false (set l (n * n + 2) 1)
   flags-none h = record { says = sym h ∙ e; some = λ z. absurd (true≢false (sym z)); none = λ z. refl }
 
-  pub flags-some : {l′ flags flags′ : List ℕ} → r ≡ true → n ≤ length flags → flags′ ≡ flagged edge n flags → l′ ≡ patch (laneAt n 10) (part 0 n flags′) l → FlagsWritten edge n l true l′
-  flags-some {flags = flags} h b k q = record { says = sym h ∙ e; some = λ z. q ∙ ap (λ (u : List ℕ). patch (laneAt n 10) u l) (flags-part edge n flags b k); none = λ z. absurd (true≢false z) }
+  pub flags-some : {l′ : List ℕ} (flags : List ℕ) {flags′ : List ℕ} → r ≡ true → n ≤ length flags → flags′ ≡ flagged edge n flags → l′ ≡ patch (laneAt n 10) (part 0 n flags′) l → FlagsWritten edge n l true l′
+  flags-some flags h b k q = record { says = sym h ∙ e; some = λ z. q ∙ ap (λ (u : List ℕ). patch (laneAt n 10) u l) (flags-part edge n flags b k); none = λ z. absurd (true≢false z) }
