@@ -124,8 +124,8 @@ module _ {area : List ℕ} {n counter y : ℕ} {heads list : List ℕ} (can : Ca
       put-patch at (at + n) area m (omega arith) (omega (arith, can .fresh .room)) long ∙ ap (λ (u : List ℕ). patch at u area) r
 
   -- what the code reads
-  pub itself-done : {e : ℕ → ℕ → Bool} {l : List ℕ} → l ≡ walk-area e n counter y area → eqb (getD l (laneAt n 9 + y) 0) counter ≡ via e (below n) y y
-  itself-done {e} h = ap (λ (u : List ℕ). eqb (getD u (laneAt n 9 + y) 0) counter) h ∙ walk-own e n counter y area (can .node) (can .fresh)
+  pub itself-done : (e : ℕ → ℕ → Bool) {l : List ℕ} → l ≡ walk-area e n counter y area → eqb (getD l (laneAt n 9 + y) 0) counter ≡ via e (below n) y y
+  itself-done e h = ap (λ (u : List ℕ). eqb (getD u (laneAt n 9 + y) 0) counter) h ∙ walk-own e n counter y area (can .node) (can .fresh)
 
 -- the two ways of the test
 pub search-done : (e : ℕ → ℕ → Bool) (n y : ℕ) (l : List ℕ) {r : Bool} → getD l (n * n + 2) 0 ≡ 0 → r ≡ cyclic e (below n) → (r ≡ closes e n y l) × (l ≡ tested e n y l)
