@@ -33,16 +33,17 @@ module _ {load : Load} {n : ℕ} {area degrees order : List ℕ} where
   row-first e h = record { row = later-first load n area _ e h; listable = λ z. absurd (h z) }
 
   module _ {r : Bool} (passes : refusal load n (length area) ≡ 0) (t : Told load n area degrees order r) where
-    pub row-none : n ≤ length degrees → n ≤ length order → r ≡ true → RowTold load n area degrees order 0
+    pub row-none : 1024 ≤ length degrees → 1024 ≤ length order → r ≡ true → RowTold load n area degrees order 0
     row-none d o e =
         let y = t .ready e in
+        let z = y .loadable .sizes .sets in
         record {
           row = later-none load n area passes (sym (t .says) ∙ e);
           listable = λ z.
               record {
                 checked = record { loadable = y .loadable; ranged = y .ranged; worked = y .worked; sets = refl };
                 order-long = omega (arith, y .ranged .few);
-                degrees-long = d;
+                degrees-long = omega arith;
                 ordered = y .ordered;
                 degree-at = y .degree-at;
               };
