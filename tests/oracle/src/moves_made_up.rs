@@ -1,7 +1,7 @@
 //! Move graph cases made up at random, and every small load.
 use crate::layout::MoveLayout;
 use crate::moves_cases::{Damage, MoveCall, MoveCase};
-use crate::moves_model::{Load, MoveState, NONE};
+use crate::moves_model::{Graph, Load, MoveState, NONE, entry_sets};
 use crate::run::Random;
 use crate::sets::{Set, width, words};
 
@@ -236,9 +236,15 @@ pub fn random_case(random: &mut Random, shape: Shape, damage: u64) -> MoveCase {
     MoveCase { load, sets: flat, extra, short: false, fill: random.next(), crafted: None, calls }
 }
 
-/// A load whose atoms depend on lower ones only, and moves of atoms to sets drawn from all, so that most are new.
+/// An acyclic load, and moves of atoms to sets drawn from all, so that most are new.
 pub fn month(random: &mut Random, shape: Shape) -> MoveCase {
-    let mut case = random_case(random, Shape { calls: 0, ..shape }, 0);
+    let mut case = loop {
+        let case = random_case(random, Shape { calls: 0, ..shape }, 0);
+        let sets = entry_sets(&case.sets, shape.a as usize, width(shape.e) as usize);
+        if !Graph::new(&case.load, &sets).cyclic() {
+            break case;
+        }
+    };
     for _ in 0..shape.calls {
         let atom = random.below(shape.a) as u32;
         let bits = words(random_set(random, shape.e), shape.e);
