@@ -121,10 +121,10 @@ never-13-at-loading load N sets area h =
     let late : ℕ = cond (row7 load sets) 7 (cond (row8 load sets) 8 0) in
     let place = entry-sets load sets in
     let k : row-of (new load N sets area .answer) ≤ 12 =
-        choice row-of (eqb (cond (eqb q 0) late q) 0) (cond (cyclic (edge load place) place) answer.cyclic acyclic) (refused (cond (eqb q 0) late q))
-        (choice row-of (cyclic (edge load place) place) answer.cyclic acyclic (omega arith) (omega arith))
-        (choice (λ n. n) (eqb q 0) late q
-        (choice (λ n. n) (row7 load sets) 7 (cond (row8 load sets) 8 0) (omega arith) (choice (λ n. n) (row8 load sets) 8 0 (omega arith) (omega arith)))
-        (first-rows load N (eqb (length sets) (load .A * width (load .E))) (length area))) in
+    choice row-of (eqb (cond (eqb q 0) late q) 0) (cond (cyclic (edge load place) place) answer.cyclic acyclic) (refused (cond (eqb q 0) late q))
+    (choice row-of (cyclic (edge load place) place) answer.cyclic acyclic (omega arith) (omega arith))
+    (choice (λ n. n) (eqb q 0) late q
+    (choice (λ n. n) (row7 load sets) 7 (cond (row8 load sets) 8 0) (omega arith) (choice (λ n. n) (row8 load sets) 8 0 (omega arith) (omega arith)))
+    (first-rows load N (eqb (length sets) (load .A * width (load .E))) (length area))) in
     let e : row-of (new load N sets area .answer) ≡ 13 = ap row-of h in
     omega arith
