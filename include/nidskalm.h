@@ -12,7 +12,7 @@
  * numbers, a call ends and answers, or is refused. A refused call writes nothing.
  *
  * A reply's `refusal` is 0, or the number of the first fitting row; where it isn't 0, the other fields are 0. The rows:
- *    1  A > 512, D > 8,192, E > 256, N < A or N > 1,024
+ *    1  A > 512, D > 8,192, E > 256, N < A + 1 or N > 1,024
  *    2  a list of the load hasn't the length called for
  *    3  the area is too short
  *    4  starts don't begin at 0, fall, or don't end at D
@@ -24,7 +24,6 @@
  *   10  no such atom
  *   11  a set isn't w numbers, or has a bit at or above E
  *   12  the target is the atom's present set
- *   13  the target is unseen and N sets are registered
  *   14  C = 0 or > 1,024, M > 4,096, L > 8,192, E > 256, more than C initial chunks, more than C sets named at loading,
  *       more than 8,192 module dependencies
  *   15  a merge graph list's length is wrong, starts are faulty as in 4, or the area is too short
@@ -77,7 +76,8 @@ typedef struct {
  *
  * Every call is lent the load: A atoms, D dependencies, E entry bits, room for N sets; `starts` (A + 1) and
  * `dependencies` (D): atom i depends on dependencies[starts[i]] up to dependencies[starts[i + 1] - 1]; `hosts` (E): the
- * atom that hosts an entry bit, or NIDSKALM_NONE. The area has at least NIDSKALM_MOVE_AREA(a, d, e, n) numbers.
+ * atom that hosts an entry bit, or NIDSKALM_NONE. The area has at least NIDSKALM_MOVE_AREA(a, d, e, n) numbers. N is at
+ * least A + 1: when N sets are registered and another is needed, the smallest empty one, as a number, gives up its place.
  */
 
 /* Loads: `sets` holds the A entry sets, w numbers each, no two equal. Value 0 acyclic, 1 cyclic. */

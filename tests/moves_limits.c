@@ -34,15 +34,43 @@ static void number(uint64_t *list, size_t length) {
     }
 }
 
-/* "A > 512": 512 atoms are loaded, each with a set of its own. */
+/* "A > 512": 512 atoms are loaded, each with a set of its own, and one set more. The last atom joins the first one, and goes on to the set
+ * 600, then all places are taken. Of the empty sets 511 is the only one: 601 takes over its place, whose first word is number 511 of the
+ * lanes, then 511 that of 600. */
 static void most_atoms(void) {
-    static uint32_t area[NIDSKALM_MOVE_AREA(512, 0, 10, 512)];
+    static uint32_t area[NIDSKALM_MOVE_AREA(512, 0, 10, 513)];
     static uint64_t sets[512];
-    const uint64_t target = 0;
-    const load x = {512, 0, 10, 512, zeros, zeros, nobody};
+    const uint64_t targets[] = {0, 600, 601, 511};
+    const uint32_t *first_words = area + 513 * 513 + 24;
+    const load x = {512, 0, 10, 513, zeros, zeros, nobody}, narrow = {512, 0, 10, 512, zeros, zeros, nobody};
     number(sets, LENGTH(sets));
+    loaded("512 atoms with room for 512 sets", narrow, sets, LENGTH(sets), area, LENGTH(area));
     loaded("512 atoms", x, sets, LENGTH(sets), area, LENGTH(area));
-    moved("the last one moves", x, area, LENGTH(area), 511, &target, 1);
+    moved("the last one moves", x, area, LENGTH(area), 511, targets, 1);
+    moved("to a new set", x, area, LENGTH(area), 511, targets + 1, 1);
+    say("the last place", first_words[512]);
+    moved("to another", x, area, LENGTH(area), 511, targets + 2, 1);
+    say("the place of the empty set", first_words[511]);
+    moved("and back", x, area, LENGTH(area), 511, targets + 3, 1);
+    say("the last place", first_words[512]);
+    moved("with room for 512 sets", narrow, area, LENGTH(area), 511, targets, 1);
+}
+
+/* A server up for a month: 10,000 moves to new sets with N = A + 1. */
+static void month_of_moves(void) {
+    static uint32_t area[NIDSKALM_MOVE_AREA(4, 0, 10, 5)];
+    const uint64_t sets[] = {0, 1, 2, 3};
+    const load x = {4, 0, 10, 5, zeros, zeros, nobody};
+    uint64_t refused = 0, accepted = 0;
+    loaded("four atoms with room for five sets", x, sets, LENGTH(sets), area, LENGTH(area));
+    for (uint32_t k = 0; k < 10000; k++) {
+        const uint64_t target = 4 + k % 1000;
+        nidskalm_reply reply = reduced_chunk_graph_try_move(LENT(x), area, LENGTH(area), k % 4, &target, 1);
+        refused += reply.refusal != 0;
+        accepted += reply.value;
+    }
+    say("refused of 10000 moves", refused);
+    say("accepted of them", accepted);
 }
 
 static void too_many_atoms(void) {
@@ -62,42 +90,43 @@ static void most_chunks(const char *name, uint64_t n) {
     loaded(name, x, &set, 1, area, LENGTH(area));
 }
 
-/* N = A = 0: 24 numbers are enough. */
+/* A = 0: N is 1 at least, 49 numbers are enough. */
 static void no_atoms(void) {
-    uint32_t area[24] = {0};
+    uint32_t area[49] = {0};
     const uint64_t set = 0;
-    const load x = {0, 0, 0, 0, zeros, zeros, nobody};
+    const load x = {0, 0, 0, 1, zeros, zeros, nobody}, narrow = {0, 0, 0, 0, zeros, zeros, nobody};
+    loaded("no atoms with room for no set", narrow, &set, 0, area, LENGTH(area));
     loaded("no atoms", x, &set, 0, area, LENGTH(area));
     moved("none of them moves", x, area, LENGTH(area), 0, &set, 0);
 }
 
-/* 256 bits: bit 255 alone, and a bit of each of the four numbers. 28 = 2×2 + 24 is the first number of the nodes' lanes. */
+/* 256 bits: bit 255 alone, and a bit of each of the four numbers. 33 = 3×3 + 24 is the first number of the nodes' lanes. */
 static void all_bits(void) {
-    static uint32_t area[NIDSKALM_MOVE_AREA(2, 0, 256, 2)];
+    static uint32_t area[NIDSKALM_MOVE_AREA(2, 0, 256, 3)];
     static uint32_t hosts[256];
     const uint64_t sets[] = {0, 0, 0, UINT64_C(1) << 63, 1, 1, 1, 1};
-    const load x = {2, 0, 256, 2, zeros, zeros, hosts};
+    const load x = {2, 0, 256, 3, zeros, zeros, hosts};
     fill(hosts, LENGTH(hosts), NIDSKALM_NONE);
     hosts[255] = 1;
     loaded("256 bits", x, sets, LENGTH(sets), area, LENGTH(area));
     say("the facade edge", area[1]);
-    say("word 7 of bit 255", area[28 + 7 * 2]);
-    say("word 6 of the other set", area[28 + 6 * 2 + 1]);
+    say("word 7 of bit 255", area[33 + 7 * 3]);
+    say("word 6 of the other set", area[33 + 6 * 3 + 1]);
     moved("a move to bit 255", x, area, LENGTH(area), 1, sets, 4);
     say("the facade edge", area[1]);
 }
 
-/* One atom asks for 97 numbers. */
+/* One atom asks for 124 numbers. */
 static void sizes(void) {
-    uint32_t area[100];
+    uint32_t area[127];
     const uint64_t set = 1;
-    const load x = {1, 0, 1, 1, zeros, zeros, nobody};
+    const load x = {1, 0, 1, 2, zeros, zeros, nobody};
     fill(area, LENGTH(area), 7);
-    loaded("one number short", x, &set, 1, area, 96);
+    loaded("one number short", x, &set, 1, area, 123);
     loaded("three numbers too many", x, &set, 1, area, LENGTH(area));
-    say("the header's fourth number", area[4]);
-    say("the first one too many", area[97]);
-    say("the last one", area[99]);
+    say("the header's fourth number", area[7]);
+    say("the first one too many", area[124]);
+    say("the last one", area[126]);
 }
 
 /* "mark at 4,294,967,295 clears marks and restarts": atom 0, which depends on atom 1, moves to a new set. The walk counter is number
@@ -121,6 +150,7 @@ static void last_mark(void) {
 
 int main(void) {
     most_atoms();
+    month_of_moves();
     too_many_atoms();
     most_chunks("room for 1024 chunks in a short area", 1024);
     most_chunks("room for 1025 chunks", 1025);

@@ -1,5 +1,5 @@
 #!/usr/bin/env python3
-"""The program `moves` worked out plainly from document 01: counts, edges, cycles and component afresh at each command.
+"""The program `moves` worked out plainly from documents 01 and 02: counts, edges, cycles and component afresh at each command.
 
     tests/moves_model.py < INPUT      what the program prints to INPUT, raw bytes
     tests/moves_model.py --write      writes crates/test_moves/stdin and stdout from tests/moves_inputs.txt
@@ -67,7 +67,7 @@ class Graph:
             return "rejected"
         if target not in self.registered:
             if len(self.registered) == ROOM:
-                return "refused 13"
+                self.registered.remove(min(set(self.registered) - set(self.place)))
             self.registered.append(target)
         moved = self.place[:atom] + [target] + self.place[atom + 1 :]
         if self.cyclic(moved):

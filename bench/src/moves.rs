@@ -18,7 +18,7 @@ struct Input {
     load: Load,
     sets: Vec<Set>,
     flat: Vec<u64>,
-    /// None goes to the atom's present set, none registers more sets than N.
+    /// None goes to the atom's present set, none needs more than N sets.
     moves: Vec<(u32, Vec<u64>)>,
     accepted: u64,
 }
@@ -120,7 +120,7 @@ pub fn table(library: Option<&dyn Library>) {
     println!("| A | D | E | N | call | original | ours | ours / original | ours / original's `new` |");
     println!("|---|---|---|---|---|---|---|---|---|");
     for (a, d, e) in [(48, 96, 16), (48, 768, 16), (128, 512, 32), (512, 1024, 64), (512, 8192, 64)] {
-        for n in [2 * a, a] {
+        for n in [2 * a, a + 1] {
             let input = input(a, d, e, n);
             let lists = original_lists(&input.load, &input.flat);
             let new = best(20, || (), |(), _| drop(std::hint::black_box(OriginalMoves::new(&lists))));

@@ -55,7 +55,18 @@ pub struct MoveGraph<'a> {
 }
 
 impl<'a> MoveGraph<'a> {
-    /// Loads the atoms with their entry sets, no two equal, and room for `sets` sets in all, at least one per atom.
+    /// Loads the atoms with their entry sets, no two equal, and room for `sets` sets in all, at least one more than
+    /// atoms. When all places are taken and a move needs another, the smallest empty set, as a number, gives up its own.
+    ///
+    /// ```
+    /// use nidskalm::{EntrySet, Load, MoveGraph, NONE};
+    ///
+    /// let load = Load { starts: &[0, 0], dependencies: &[], hosts: &[NONE; 16] };
+    /// assert_eq!(MoveGraph::new(load, 1, &[EntrySet::from(1)]).unwrap_err().row(), 1);
+    /// let mut graph = MoveGraph::new(load, 2, &[EntrySet::from(1)])?;
+    /// assert!((2..1000).all(|set| graph.try_move(0, EntrySet::from(set)) == Ok(true)));
+    /// # Ok::<(), nidskalm::Refusal>(())
+    /// ```
     pub fn new(load: Load<'a>, sets: u64, entry_sets: &[EntrySet]) -> Result<Self, Refusal> {
         let (list, whole) = flat(entry_sets, load.hosts.len().div_ceil(64));
         let mut area = vec![0; lent::move_area_length(&load, sets).unwrap_or(0)];

@@ -8,7 +8,7 @@ use std::fmt;
 /// use nidskalm::{EntrySet, Load, MoveGraph};
 ///
 /// let load = Load { starts: &[0, 1], dependencies: &[0], hosts: &[] };
-/// let refusal = MoveGraph::new(load, 1, &[EntrySet::from(0)]).unwrap_err();
+/// let refusal = MoveGraph::new(load, 2, &[EntrySet::from(0)]).unwrap_err();
 /// assert_eq!(refusal.row(), 5);
 /// assert_eq!(refusal.to_string(), "refused 5: a dependency is no atom, or the atom itself");
 /// ```
@@ -24,7 +24,7 @@ impl Refusal {
     /// The row's condition in words.
     pub fn condition(self) -> &'static str {
         match self.0 {
-            1 => "more than 512 atoms, 8,192 dependencies or 256 entry bits, or room for fewer sets than atoms or over 1,024",
+            1 => "more than 512 atoms, 8,192 dependencies or 256 entry bits, or room for no more sets than atoms or over 1,024",
             2 => "a list of the load hasn't the length called for",
             3 => "the work area is too short",
             4 => "the starts don't begin at 0, fall, or don't end at the number of dependencies",
@@ -36,7 +36,6 @@ impl Refusal {
             10 => "there is no such atom",
             11 => "the set hasn't the right count of numbers, or has a bit at or above the number of entry bits",
             12 => "the target is the atom's present set",
-            13 => "the target set is new and no more sets can be registered",
             14 => "a size of the merge graph is over its limit, or there is room for no chunk",
             15 => "a list of the merge graph has a wrong length or faulty starts, or its area is too short",
             16 => "a module, key or set is out of range, or a chunk isn't made yet, or isn't initial where it must be",
@@ -84,8 +83,9 @@ mod tests {
     #[test]
     fn every_row_has_words() {
         let unknown = Refusal(22).condition();
+        assert_eq!(Refusal(13).condition(), unknown, "13 is no row any more");
         let mut seen = BTreeSet::from([unknown]);
-        for row in 1..=21 {
+        for row in (1..=12).chain(14..=21) {
             let words = Refusal(row).condition();
             assert!(!words.trim().is_empty(), "row {row} has no words");
             assert!(seen.insert(words), "row {row} has no words of its own");

@@ -31,32 +31,42 @@ fn moves_and_questions() {
 
 #[test]
 fn refused_moves_change_nothing() {
-    let mut graph = MoveGraph::new(LOAD, 3, &[set(3), set(1), set(2)]).unwrap();
+    let mut graph = MoveGraph::new(LOAD, 4, &[set(3), set(1), set(2)]).unwrap();
     let before = graph.edges().unwrap();
     assert_eq!(row(graph.try_move(3, set(1))), 10);
     assert_eq!(row(graph.try_move(0, set(4))), 11);
     assert_eq!(row(graph.try_move(0, EntrySet::from_bits([0, 64]))), 11);
     assert_eq!(row(graph.try_move(0, set(3))), 12);
-    assert_eq!(row(graph.try_move(0, set(0))), 13);
     assert_eq!(row(graph.atom_set(9)), 10);
     assert_eq!(row(graph.multiplicity(set(1), EntrySet::from_bits([200]))), 11);
     assert_eq!(graph.edges(), Ok(before));
 }
 
 #[test]
+fn empty_sets_give_their_place_back() {
+    let load = Load { hosts: &[NONE; 16], ..LOAD };
+    let mut graph = MoveGraph::new(load, 4, &[set(3), set(1), set(2)]).unwrap();
+    for target in 4..2000 {
+        assert_eq!(graph.try_move(0, set(target)), Ok(true));
+    }
+    assert_eq!(graph.atom_count(set(3)), Ok(0));
+    assert_eq!(graph.atom_count(set(1999)), Ok(1));
+}
+
+#[test]
 fn refused_loadings() {
     let sets = [set(3), set(1), set(2)];
     let load = |load: Load, n: u64, sets: &[EntrySet]| row(MoveGraph::new(load, n, sets));
-    assert_eq!(load(LOAD, 2, &sets), 1);
+    assert_eq!(load(LOAD, 3, &sets), 1);
     assert_eq!(load(LOAD, u64::MAX, &sets), 1);
-    assert_eq!(load(LOAD, 3, &sets[..2]), 2);
-    assert_eq!(load(Load { starts: &[], ..LOAD }, 3, &[]), 2);
-    assert_eq!(load(Load { starts: &[0, 1, 0, 2], ..LOAD }, 3, &sets), 4);
-    assert_eq!(load(Load { dependencies: &[1, 0], ..LOAD }, 3, &sets), 5);
-    assert_eq!(load(Load { hosts: &[3, NONE], ..LOAD }, 3, &sets), 6);
-    assert_eq!(load(LOAD, 3, &[set(3), set(1), set(6)]), 7);
-    assert_eq!(load(LOAD, 3, &[set(3), set(3), EntrySet::from_bits([64])]), 7);
-    assert_eq!(load(LOAD, 3, &[set(3), set(1), set(1)]), 8);
+    assert_eq!(load(LOAD, 4, &sets[..2]), 2);
+    assert_eq!(load(Load { starts: &[], ..LOAD }, 4, &[]), 2);
+    assert_eq!(load(Load { starts: &[0, 1, 0, 2], ..LOAD }, 4, &sets), 4);
+    assert_eq!(load(Load { dependencies: &[1, 0], ..LOAD }, 4, &sets), 5);
+    assert_eq!(load(Load { hosts: &[3, NONE], ..LOAD }, 4, &sets), 6);
+    assert_eq!(load(LOAD, 4, &[set(3), set(1), set(6)]), 7);
+    assert_eq!(load(LOAD, 4, &[set(3), set(3), EntrySet::from_bits([64])]), 7);
+    assert_eq!(load(LOAD, 4, &[set(3), set(1), set(1)]), 8);
 }
 
 #[test]
@@ -65,16 +75,17 @@ fn moves_without_entry_bits() {
         let load = Load { starts, dependencies: &[], hosts: &[] };
         MoveGraph::new(load, n, sets).map_or_else(Refusal::row, |_| 0)
     };
-    assert_eq!(load(&[0, 0], 1, &[set(0)]), 0);
-    assert_eq!(load(&[0], 0, &[]), 0);
-    assert_eq!(load(&[0, 0], 1, &[]), 2);
-    assert_eq!(load(&[0, 0], 1, &[set(0); 5]), 2);
-    assert_eq!(load(&[0], 0, &[set(0)]), 2);
-    assert_eq!(load(&[0, 0], 0, &[]), 1);
-    assert_eq!(load(&[0, 1], 1, &[]), 2);
-    assert_eq!(load(&[0, 0], 1, &[set(1); 2]), 2);
-    assert_eq!(load(&[0, 0], 1, &[set(1)]), 7);
-    assert_eq!(load(&[0, 0, 0], 2, &[set(0); 2]), 8);
+    assert_eq!(load(&[0, 0], 2, &[set(0)]), 0);
+    assert_eq!(load(&[0], 1, &[]), 0);
+    assert_eq!(load(&[0, 0], 2, &[]), 2);
+    assert_eq!(load(&[0, 0], 2, &[set(0); 5]), 2);
+    assert_eq!(load(&[0], 1, &[set(0)]), 2);
+    assert_eq!(load(&[0, 0], 1, &[]), 1);
+    assert_eq!(load(&[0], 0, &[]), 1);
+    assert_eq!(load(&[0, 1], 2, &[]), 2);
+    assert_eq!(load(&[0, 0], 2, &[set(1); 2]), 2);
+    assert_eq!(load(&[0, 0], 2, &[set(1)]), 7);
+    assert_eq!(load(&[0, 0, 0], 3, &[set(0); 2]), 8);
 }
 
 const SIZE: Size = Size { chunks: 5, modules: 4, entries: 6, entry_bits: 2 };

@@ -7,12 +7,13 @@ use Rattle.graphs.specs.Tab.{tab}
 use Rattle.graphs.specs.Walk.{via, cyclic, only}
 use Rattle.entry_set.specs.Joined.{joined, parts}
 use Rattle.move_ledger.specs.Graph.{owner, lies, members, entry, facade, mult, edge, insert, rising, row, rows, edges}
-use Rattle.move_ledger.specs.Ledger.{register, move, kth, ask, call, answers, ledger}
+use Rattle.move_ledger.specs.Ledger.{kept, index, put, smallest-empty, free-place, register, decide, move, kth, ask, call, answers, ledger}
 use Rattle.move_ledger.specs.Loading.{row4, row5, row6, first-row, entry-sets, row7, row8, loading-row, loading}
 use Rattle.cases.specs.Run.{MoveCase, MoveOutcome, move-outcome, tries, every, shut}
 use Rattle.cases.specs.Moves.{move-cases}
 use Rattle.graph_walks.specs.Closed.{closed}
-use Rattle.merge_state.specs.State.{put, misfit}
+use Rattle.merge_state.specs.State.{misfit}
+use Rattle.merge_state.specs.State as state
 use Rattle.merge_state.specs.Methods.{reachable, warns, absorbed, merged, created-chunk, candidate, passed}
 use Rattle.merge_state.specs.Methods as methods
 use Rattle.merge_state.specs.Table.{first-fitting, any-misfit, later, acted, turned}
@@ -40,5 +41,5 @@ abbrev pub table : List Case
 table = map moves move-cases ++ map merges merge-cases
 
 pub cases-right : map outcome table ≡ map expected table
-unfolding move-outcome tries every shut any all has below count tab via cyclic only joined parts owner lies members entry facade mult edge insert rising row rows edges register move kth ask call answers ledger row4 row5 row6 first-row entry-sets row7 row8 loading-row loading closed put misfit reachable warns absorbed merged created-chunk methods.merges candidate passed first-fitting any-misfit later acted turned merge-outcome among turn replies-to left-by needed-by dependencies
+unfolding move-outcome tries every shut any all has below count tab via cyclic only joined parts owner lies members entry facade mult edge insert rising row rows edges kept index put smallest-empty free-place register decide move kth ask call answers ledger row4 row5 row6 first-row entry-sets row7 row8 loading-row loading closed state.put misfit reachable warns absorbed merged created-chunk methods.merges candidate passed first-fitting any-misfit later acted turned merge-outcome among turn replies-to left-by needed-by dependencies
 cases-right = refl

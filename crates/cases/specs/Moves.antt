@@ -35,37 +35,37 @@ P1 =
           };
     }
 
--- "A = 0: acyclic"
+-- "A = 0: acyclic"; N is A + 1 at least
 abbrev pub P2 : MoveCase
 P2 =
     record {
       load = record { A = 0; D = 0; E = 0; starts = 0 ∷ []; dependencies = []; hosts = [] };
-      N = 0;
+      N = 1;
       sets = [];
-      size = 24;
+      size = 49;
       calls = [];
       expected = record { start = acyclic; replies = []; end = kept [] [] };
     }
 
--- "atoms 0 and 1 depend on each other, sets 1, 2, no hosts: cyclic; 0 to set 2 accepted"; before it, inside the component: 13 where N sets are registered
+-- "atoms 0 and 1 depend on each other, sets 1, 2, no hosts: cyclic; 0 to set 2 accepted"; before it, inside the component: rejected, its target registered
 abbrev pub P3 : MoveCase
 P3 =
     record {
       load = record { A = 2; D = 2; E = 2; starts = 0 ∷ 1 ∷ 2 ∷ []; dependencies = 1 ∷ 0 ∷ []; hosts = nobody 2 };
-      N = 2;
+      N = 3;
       sets = 1 ∷ 2 ∷ [];
       size = 16384;
       calls = try-move 0 (3 ∷ []) ∷ try-move 0 (2 ∷ []) ∷ [];
-      expected = record { start = cyclic; replies = refused 13 ∷ accepted ∷ []; end = kept (2 ∷ 2 ∷ []) (1 ∷ 2 ∷ []) };
+      expected = record { start = cyclic; replies = rejected ∷ accepted ∷ []; end = kept (2 ∷ 2 ∷ []) (1 ∷ 2 ∷ 3 ∷ []) };
     }
 
--- "a second such pair beside it, sets 4 and 8: every move that isn't refused is rejected": each of 4 atoms to each of 16 sets, though N sets
--- are registered, for step 1 rejects before 13
+-- "a second such pair beside it, sets 4 and 8: every move that isn't refused is rejected": each of 4 atoms to each of 16 sets, by step 1,
+-- so that none is registered
 abbrev pub P4 : MoveCase
 P4 =
     record {
       load = record { A = 4; D = 4; E = 4; starts = 0 ∷ 1 ∷ 2 ∷ 3 ∷ 4 ∷ []; dependencies = 1 ∷ 0 ∷ 3 ∷ 2 ∷ []; hosts = nobody 4 };
-      N = 4;
+      N = 5;
       sets = 1 ∷ 2 ∷ 4 ∷ 8 ∷ [];
       size = 16384;
       calls = every 4 16;
@@ -106,14 +106,14 @@ abbrev pub P7 : MoveCase
 P7 =
     record {
       load = record { A = 2; D = 2; E = 2; starts = 0 ∷ 2 ∷ 2 ∷ []; dependencies = 1 ∷ 1 ∷ []; hosts = nobody 2 };
-      N = 2;
+      N = 3;
       sets = 1 ∷ 2 ∷ [];
       size = 16384;
       calls = asks (multiplicity (1 ∷ []) (2 ∷ [])) ∷ asks (multiplicity (2 ∷ []) (1 ∷ [])) ∷ asks (multiplicity (1 ∷ []) (1 ∷ [])) ∷ asks (edge-at 0) ∷ [];
       expected = record { start = acyclic; replies = number 2 ∷ number 0 ∷ number 0 ∷ found 1 2 2 ∷ []; end = kept (1 ∷ 2 ∷ []) (1 ∷ 2 ∷ []) };
     }
 
--- "N = A, acyclic, unseen target: 13"; and the rows 10 to 12
+-- "N = A, acyclic, unseen target"; 02: "N must now be at least A + 1 (else 1, so P8 answers 1)"
 abbrev pub P8 : MoveCase
 P8 =
     record {
@@ -121,9 +121,61 @@ P8 =
       N = 2;
       sets = 3 ∷ 5 ∷ [];
       size = 16384;
-      calls = try-move 0 (4 ∷ []) ∷ try-move 2 (4 ∷ []) ∷ try-move 0 (8 ∷ []) ∷ try-move 0 (3 ∷ []) ∷ [];
+      calls = [];
+      expected = record { start = refused 1; replies = []; end = kept (3 ∷ 5 ∷ []) (3 ∷ 5 ∷ []) };
+    }
+
+-- (xi): P5's load with N = A + 1. The smallest empty set gives up its place: 4, which a rejected move has registered; of 3 and 5 the smaller, by a rejected
+-- move too; 4 again; 5; and 7, not 3, which is empty only after that move. Then the rows 10 to 12
+abbrev pub evicting : MoveCase
+evicting =
+    record {
+      load = record { A = 2; D = 1; E = 3; starts = 0 ∷ 0 ∷ 1 ∷ []; dependencies = 0 ∷ []; hosts = none ∷ none ∷ 1 ∷ [] };
+      N = 3;
+      sets = 3 ∷ 5 ∷ [];
+      size = 16384;
+      calls =
+          try-move 0 (4 ∷ [])
+          ∷ try-move 0 (6 ∷ [])
+          ∷ try-move 1 (6 ∷ [])
+          ∷ try-move 0 (4 ∷ [])
+          ∷ try-move 0 (7 ∷ [])
+          ∷ try-move 0 (3 ∷ [])
+          ∷ try-move 0 (1 ∷ [])
+          ∷ try-move 2 (4 ∷ [])
+          ∷ try-move 0 (8 ∷ [])
+          ∷ try-move 0 (1 ∷ [])
+          ∷ [];
       expected =
-          record { start = acyclic; replies = refused 13 ∷ refused 10 ∷ refused 11 ∷ refused 12 ∷ []; end = kept (3 ∷ 5 ∷ []) (3 ∷ 5 ∷ []) };
+          record {
+            start = acyclic;
+            replies = rejected ∷ accepted ∷ accepted ∷ rejected ∷ accepted ∷ accepted ∷ accepted ∷ refused 10 ∷ refused 11 ∷ refused 12 ∷ [];
+            end = kept (1 ∷ 6 ∷ []) (1 ∷ 3 ∷ 6 ∷ []);
+          };
+    }
+
+-- (xi): atoms 0 and 1 on a cycle, 2 outside it. With N sets registered, 8 among them empty, step 1 rejects a move of 2 to 16 and evicts nothing; step 3
+-- rejects one of 0, which has evicted 8
+abbrev pub outside : MoveCase
+outside =
+    record {
+      load = record { A = 3; D = 2; E = 5; starts = 0 ∷ 1 ∷ 2 ∷ 2 ∷ []; dependencies = 1 ∷ 0 ∷ []; hosts = nobody 5 };
+      N = 4;
+      sets = 1 ∷ 2 ∷ 4 ∷ [];
+      size = 16384;
+      calls = try-move 0 (8 ∷ []) ∷ try-move 2 (16 ∷ []) ∷ asks (atom-count (8 ∷ [])) ∷ [];
+      expected = record { start = cyclic; replies = rejected ∷ rejected ∷ number 0 ∷ []; end = kept (1 ∷ 2 ∷ 4 ∷ []) (1 ∷ 2 ∷ 4 ∷ 8 ∷ []) };
+    }
+
+abbrev pub inside : MoveCase
+inside =
+    record {
+      load = outside .load;
+      N = 4;
+      sets = 1 ∷ 2 ∷ 4 ∷ [];
+      size = 16384;
+      calls = outside .calls ++ try-move 0 (16 ∷ []) ∷ [];
+      expected = record { start = cyclic; replies = outside .expected .replies ++ rejected ∷ []; end = kept (1 ∷ 2 ∷ 4 ∷ []) (1 ∷ 2 ∷ 4 ∷ 16 ∷ []) };
     }
 
 -- not of 01: edges in the order of their sets, which isn't that of the atoms; and a move that takes a facade edge off with its set's last atom,
@@ -149,7 +201,7 @@ abbrev pub two-numbers : MoveCase
 two-numbers =
     record {
       load = record { A = 3; D = 2; E = 65; starts = 0 ∷ 1 ∷ 1 ∷ 2 ∷ []; dependencies = 1 ∷ 1 ∷ []; hosts = nobody 64 ++ 1 ∷ [] };
-      N = 3;
+      N = 4;
       sets = 0 ∷ 1 ∷ 5 ∷ 0 ∷ 1 ∷ 1 ∷ [];
       size = 16384;
       calls =
@@ -194,16 +246,16 @@ loads load N sets size answer =
 
 abbrev pub loadings : List MoveCase
 loadings =
-    loads (lent (0 ∷ 1 ∷ 1 ∷ []) (1 ∷ []) (none ∷ 1 ∷ [])) 2 (1 ∷ 2 ∷ []) 196 acyclic
-    ∷ loads (lent (0 ∷ 1 ∷ 1 ∷ []) (1 ∷ []) (none ∷ 1 ∷ [])) 1 (1 ∷ 2 ∷ []) 196 (refused 1)
-    ∷ loads (lent (0 ∷ 1 ∷ 1 ∷ []) (1 ∷ 0 ∷ []) (none ∷ 1 ∷ [])) 2 (1 ∷ 2 ∷ []) 0 (refused 2)
-    ∷ loads (lent (0 ∷ 1 ∷ 2 ∷ []) (1 ∷ []) (none ∷ 1 ∷ [])) 2 (1 ∷ 2 ∷ []) 195 (refused 3)
-    ∷ loads (lent (0 ∷ 1 ∷ 2 ∷ []) (2 ∷ []) (none ∷ 1 ∷ [])) 2 (1 ∷ 2 ∷ []) 196 (refused 4)
-    ∷ loads (lent (0 ∷ 1 ∷ 1 ∷ []) (0 ∷ []) (none ∷ 2 ∷ [])) 2 (1 ∷ 2 ∷ []) 196 (refused 5)
-    ∷ loads (lent (0 ∷ 1 ∷ 1 ∷ []) (1 ∷ []) (none ∷ 2 ∷ [])) 2 (4 ∷ 2 ∷ []) 196 (refused 6)
-    ∷ loads (lent (0 ∷ 1 ∷ 1 ∷ []) (1 ∷ []) (none ∷ 1 ∷ [])) 2 (4 ∷ 4 ∷ []) 196 (refused 7)
-    ∷ loads (lent (0 ∷ 1 ∷ 1 ∷ []) (1 ∷ []) (none ∷ 1 ∷ [])) 2 (3 ∷ 3 ∷ []) 196 (refused 8)
+    loads (lent (0 ∷ 1 ∷ 1 ∷ []) (1 ∷ []) (none ∷ 1 ∷ [])) 3 (1 ∷ 2 ∷ []) 225 acyclic
+    ∷ loads (lent (0 ∷ 1 ∷ 1 ∷ []) (1 ∷ []) (none ∷ 1 ∷ [])) 2 (1 ∷ 2 ∷ []) 225 (refused 1)
+    ∷ loads (lent (0 ∷ 1 ∷ 1 ∷ []) (1 ∷ 0 ∷ []) (none ∷ 1 ∷ [])) 3 (1 ∷ 2 ∷ []) 0 (refused 2)
+    ∷ loads (lent (0 ∷ 1 ∷ 2 ∷ []) (1 ∷ []) (none ∷ 1 ∷ [])) 3 (1 ∷ 2 ∷ []) 224 (refused 3)
+    ∷ loads (lent (0 ∷ 1 ∷ 2 ∷ []) (2 ∷ []) (none ∷ 1 ∷ [])) 3 (1 ∷ 2 ∷ []) 225 (refused 4)
+    ∷ loads (lent (0 ∷ 1 ∷ 1 ∷ []) (0 ∷ []) (none ∷ 2 ∷ [])) 3 (1 ∷ 2 ∷ []) 225 (refused 5)
+    ∷ loads (lent (0 ∷ 1 ∷ 1 ∷ []) (1 ∷ []) (none ∷ 2 ∷ [])) 3 (4 ∷ 2 ∷ []) 225 (refused 6)
+    ∷ loads (lent (0 ∷ 1 ∷ 1 ∷ []) (1 ∷ []) (none ∷ 1 ∷ [])) 3 (4 ∷ 4 ∷ []) 225 (refused 7)
+    ∷ loads (lent (0 ∷ 1 ∷ 1 ∷ []) (1 ∷ []) (none ∷ 1 ∷ [])) 3 (3 ∷ 3 ∷ []) 225 (refused 8)
     ∷ []
 
 abbrev pub move-cases : List MoveCase
-move-cases = P1 ∷ P2 ∷ P3 ∷ P4 ∷ P5 ∷ P6 ∷ P7 ∷ P8 ∷ vanishing ∷ two-numbers ∷ loadings
+move-cases = P1 ∷ P2 ∷ P3 ∷ P4 ∷ P5 ∷ P6 ∷ P7 ∷ P8 ∷ evicting ∷ outside ∷ inside ∷ vanishing ∷ two-numbers ∷ loadings

@@ -1,22 +1,19 @@
 -- Demand 2 of the move graph: what an unrefused move answers and leaves. Assumes nothing.
 use Prim.Native.Nat.{ℕ}
-use mathlib.Core.Path.{_≡_, refl, sym, ap, ap₂, subst}
+use mathlib.Core.Path.{_≡_, refl, sym, ap, ap₂, subst, _∙_}
 use mathlib.Core.Logic.{_↔_}
-use mathlib.Core.Bool.{true, false, not}
+use mathlib.Core.Bool.{Bool, true, false, cond, true≢false}
 use mathlib.Core.List.{List}
-use lib.Dec.{leb, eqb}
 use lib.ListN.{length, set, length-set}
-use borrow.Author.Tests.{not-true}
-use Rattle.graphs.specs.Bools.{and-left, and-right}
 use Rattle.graphs.specs.Lists.{has}
 use Rattle.graphs.specs.Walk.{Walk, cyclic}
 use Rattle.graphs.specs.Walks.{acyclic-walk}
-use Rattle.entry_set.specs.Sets.{value, legal}
-use Rattle.move_ledger.specs.Graph.{Load, at, mult, edge}
-use Rattle.move_ledger.specs.GraphLaws.{edge-source, outside-stays}
-use Rattle.move_ledger.specs.Answer.{accepted, rejected, is-refused}
-use Rattle.move_ledger.specs.Ledger.{Ledger, Answered, gives, full, step1, step2, step3, move, Call}
-use Rattle.move_ledger.specs.MoveLaws.{move-steps, steps-exact}
+use Rattle.entry_set.specs.Sets.{value}
+use Rattle.move_ledger.specs.Graph.{Load, mult, edge}
+use Rattle.move_ledger.specs.GraphLaws.{edge-source}
+use Rattle.move_ledger.specs.Answer.{accepted, rejected, is-refused, is-accepted}
+use Rattle.move_ledger.specs.Ledger.{Ledger, Answered, gives, decide, move, Call}
+use Rattle.move_ledger.specs.MoveLaws.{decide-exactly, place-after}
 use Rattle.move_ledger.specs.Loading.{refusal}
 use Rattle.move_area.specs.Area.{decode, consistent}
 use Rattle.move_area.specs.Calls as on-area
@@ -34,26 +31,25 @@ moved l a s = set (l .place) a (value s)
 -- "a move that isn't refused is"
 pub record Decided (load : Load) (before : Ledger) (a : ℕ) (s : List ℕ) (r : Answered) : Type 0 where
   -- "accepted exactly when the moved chunk graph, facade edges included, has no cycle";
-  pub exactly : (r .answer ≡ accepted) ↔ no-cycle load (moved before a s)
-  pub moves : r .answer ≡ accepted → r .after .place ≡ moved before a s
+  pub exactly : (is-accepted (r .answer) ≡ true) ↔ no-cycle load (moved before a s)
+  pub moves : is-accepted (r .answer) ≡ true → r .after .place ≡ moved before a s
   -- "and otherwise every atom and edge is as before"
-  pub rejects : (r .answer ≡ accepted → ⊥) → r .answer ≡ rejected
-  pub atoms-stay : (r .answer ≡ accepted → ⊥) → r .after .place ≡ before .place
-  pub edges-stay : (r .answer ≡ accepted → ⊥) → (X Y : ℕ) → mult load (r .after .place) X Y ≡ mult load (before .place) X Y
+  pub rejects : is-accepted (r .answer) ≡ false → r .answer ≡ rejected
+  pub atoms-stay : is-accepted (r .answer) ≡ false → r .after .place ≡ before .place
+  pub edges-stay : is-accepted (r .answer) ≡ false → (X Y : ℕ) → mult load (r .after .place) X Y ≡ mult load (before .place) X Y
 
 -- from any ledger that has a set for each atom
 pub moved-exactly-acyclic : (load : Load) (N : ℕ) (l : Ledger) (a : ℕ) (s : List ℕ) → length (l .place) ≡ load .A
     → is-refused (move load N l a s .answer) ≡ false → Decided load l a s (move load N l a s)
+unfolding move
 moved-exactly-acyclic load N l a s n u =
-    let e = steps-exact (leb (load .A) a) (not (legal (load .E) s)) (eqb (value s) (at (l .place) a)) (step1 load (l .place) a) (full N (l .registered) (value s)) (cyclic (edge load q) q) l (step2 l (value s)) (step3 l a (value s)) refl stays (rw (move-steps load N l a s) at u) in
-    rw (move-steps load N l a s)
-    (record {
-      exactly = (λ h. acyclic-walk (edge load q) q from .0 (e .accepts .0 h), λ f. e .accepts .1 (acyclic-walk (edge load q) q from .1 f));
-      moves = λ h. ap (λ m. m .place) (e .moves h);
-      rejects = λ h. e .rejects h .0;
-      atoms-stay = λ h. e .rejects h .1;
-      edges-stay = λ h X Y. ap (λ p. mult load p X Y) (e .rejects h .1);
-    })
+    record {
+      exactly = (λ h. acyclic-walk (edge load q) q from .0 (accepts .0 h), λ f. accepts .1 (acyclic-walk (edge load q) q from .1 f));
+      moves = λ h. place-after load N l a s ∙ rw h refl;
+      rejects = rejects;
+      atoms-stay = stay;
+      edges-stay = λ h X Y. ap (λ p. mult load p X Y) (stay h);
+    }
   where
     q : List ℕ
     q = moved l a s
@@ -61,8 +57,25 @@ moved-exactly-acyclic load N l a s n u =
     from : (X Y : ℕ) → edge load q X Y ≡ true → has X q ≡ true
     from = edge-source load q (rw length-set n)
 
-    stays : step1 load (l .place) a ≡ true → cyclic (edge load q) q ≡ true
-    stays h = outside-stays load (l .place) a (value s) n (and-left (cyclic (edge load (l .place)) (l .place)) _ h) (not-true _ (and-right (cyclic (edge load (l .place)) (l .place)) _ h))
+    by-graph : decide load (l .place) a s ≡ cond (cyclic (edge load q) q) rejected accepted
+    by-graph = decide-exactly load (l .place) a s n u
+
+    accepts : (is-accepted (decide load (l .place) a s) ≡ true) ↔ (cyclic (edge load q) q ≡ false)
+    accepts = rw by-graph (go (cyclic (edge load q) q))
+      where
+        go : (t : Bool) → (is-accepted (cond t rejected accepted) ≡ true) ↔ (t ≡ false)
+        go true = (λ h. absurd (true≢false (sym h)), λ h. absurd (true≢false h))
+        go false = (λ h. refl, λ h. refl)
+
+    rejects : is-accepted (decide load (l .place) a s) ≡ false → decide load (l .place) a s ≡ rejected
+    rejects = rw by-graph (go (cyclic (edge load q) q))
+      where
+        go : (t : Bool) → is-accepted (cond t rejected accepted) ≡ false → cond t rejected accepted ≡ rejected
+        go true h = refl
+        go false h = absurd (true≢false h)
+
+    stay : is-accepted (decide load (l .place) a s) ≡ false → move load N l a s .after .place ≡ l .place
+    stay h = place-after load N l a s ∙ rw h refl
 
 -- and so after every loading and list of calls
 pub moved-in-history : (load : Load) (N : ℕ) (sets : List ℕ) (calls : List Call) (a : ℕ) (s : List ℕ)

@@ -12,7 +12,7 @@ use Rattle.layout.specs.Patch.{part}
 use Rattle.entry_set.specs.Joined.{parts}
 use Rattle.entry_set.specs.Lanes.{lanes}
 use Rattle.move_ledger.specs.Graph.{Load, at, members, mult, edge}
-use Rattle.move_ledger.specs.Ledger.{Ledger}
+use Rattle.move_ledger.specs.Ledger.{Ledger, index}
 use Rattle.move_ledger.specs.Nodes.{placed}
 use Rattle.move_area.specs.Bodies.{laneAt, atomAt, Bodies, write}
 
@@ -21,11 +21,6 @@ pub record State : Type 0 where
   pub ledger : Ledger
   pub counter : ℕ
   pub marks : List ℕ
-
--- the place of x in a list, the list's length where it has none: a set's node is its place among the registered sets
-unfoldable pub index : ℕ → List ℕ → ℕ
-index x [] = 0
-index x (y ∷ ys) = cond (eqb x y) 0 (suc (index x ys))
 
 -- f x y at x * n + y
 abbrev pub square : ℕ → (ℕ → ℕ → ℕ) → List ℕ

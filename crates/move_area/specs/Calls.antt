@@ -1,5 +1,5 @@
 -- What each call of a move graph answers, and the area that it leaves. A refused call leaves the area as it was. Assumes nothing.
-use mathlib.Core.Bool.{Bool, not, cond, _&&_}
+use mathlib.Core.Bool.{Bool, cond, _&&_}
 use mathlib.Core.List.{List}
 use Prim.Native.Nat.{ℕ, _+_}
 use lib.Dec.{eqb, ltb}
@@ -7,10 +7,10 @@ use lib.ListN.{length, set, replicate}
 use Rattle.graphs.specs.Lists.{has}
 use Rattle.graphs.specs.Tab.{tab}
 use Rattle.graphs.specs.Walk.{via, cyclic}
-use Rattle.entry_set.specs.Sets.{value, legal}
+use Rattle.entry_set.specs.Sets.{value}
 use Rattle.move_ledger.specs.Graph.{Load, at, edge}
 use Rattle.move_ledger.specs.Answer.{Answer, refused, is-refused}
-use Rattle.move_ledger.specs.Ledger.{Ledger, loaded, step1, step3, full, move, Question, ask}
+use Rattle.move_ledger.specs.Ledger.{Ledger, loaded, free-place, step3, tried, move, Question, ask}
 use Rattle.move_ledger.specs.Loading.{refusal, entry-sets, loading}
 use Rattle.move_area.specs.Area.{State, encode, decode, consistent}
 
@@ -41,12 +41,6 @@ checked load N area answer =
 unfoldable pub asked : Load → ℕ → List ℕ → Question → Answer
 asked load N area q = checked load N area (ask load (decode load N area .ledger .place) q)
 
--- no row from 10 to 13 fits, and step 1 doesn't reject: the target is registered and the atom moved on trial
-unfoldable pub tried : Load → ℕ → Ledger → ℕ → List ℕ → Bool
-tried load N l a s =
-    ltb a (load .A)
-    && (legal (load .E) s && (not (eqb (value s) (at (l .place) a)) && (not (step1 load (l .place) a) && not (full N (l .registered) (value s)))))
-
 -- "mark at 4,294,967,295 clears marks and restarts"
 abbrev pub last : ℕ → Bool
 last counter = eqb counter 4294967295
@@ -55,8 +49,8 @@ unfoldable pub next : ℕ → ℕ
 next counter = cond (last counter) 1 (counter + 1)
 
 -- a newly registered node has no mark
-unfoldable pub marks-for : List ℕ → ℕ → List ℕ → List ℕ
-marks-for seen T marks = cond (has T seen) marks (set marks (length seen) 0)
+unfoldable pub marks-for : Load → ℕ → Ledger → ℕ → List ℕ → List ℕ
+marks-for load N l T marks = cond (has T (l .registered)) marks (set marks (free-place load N (l .place) (l .registered)) 0)
 
 -- the marks after the walk from the target's node in the moved graph: the nodes that it reaches in one step or more have the new counter
 unfoldable pub walked : Load → Ledger → ℕ → ℕ → List ℕ → List ℕ
@@ -72,12 +66,12 @@ unfoldable pub after : Load → ℕ → State → ℕ → List ℕ → State
 after load N st a s =
     let l = st .ledger in
     let T = value s in
-    let marks = marks-for (l .registered) T (st .marks) in
-    cond (tried load N l a s)
+    let marks = marks-for load N l T (st .marks) in
+    cond (tried load (l .place) a s)
     (record {
       ledger = move load N l a s .after;
       counter = cond (cyclic (edge load (l .place)) (l .place)) (st .counter) (next (st .counter));
-      marks = cond (cyclic (edge load (l .place)) (l .place)) marks (walked load (step3 l a T) T (st .counter) marks);
+      marks = cond (cyclic (edge load (l .place)) (l .place)) marks (walked load (step3 load N l a T) T (st .counter) marks);
     })
     st
 

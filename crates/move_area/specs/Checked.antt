@@ -16,14 +16,16 @@ use Rattle.layout.specs.Patch.{part, part-long, part-at}
 use Rattle.entry_set.specs.Joined.{parts}
 use Rattle.entry_set.specs.Lanes.{lanes}
 use Rattle.entry_set.specs.LaneLaws.{lanes-word}
+use Rattle.move_ledger.specs.Ledger.{index}
+use Rattle.move_ledger.specs.Places.{index-has}
 use Rattle.move_ledger.specs.Graph.{Load, at, members}
 use Rattle.move_ledger.specs.LoadLaws.{InOrder}
 use Rattle.move_ledger.specs.Nodes.{Placing, sources, targets, node-edge}
 use Rattle.move_ledger.specs.NodeLaws.{placed-length, placed-at}
 use Rattle.move_area.specs.Bodies.{laneAt, atomAt, write, Sized}
 use Rattle.move_area.specs.BodyLaws.{write-same, read-edges, read-acyclic, read-counts, read-component, read-nodes}
-use Rattle.move_area.specs.Area.{index, bodies, encode, setsIn, decode, in-order, consistent}
-use Rattle.move_area.specs.ListLaws.{one-alike, Distinct, one-place, index-has}
+use Rattle.move_area.specs.Area.{bodies, encode, setsIn, decode, in-order, consistent}
+use Rattle.move_area.specs.ListLaws.{one-alike, Distinct, one-place}
 use Rattle.move_area.specs.Held.{Held, held-in-order, held-distinct, bodies-sized, consistent-held, consistent-whole}
 use Rattle.move_area.specs.NodeBodies.{Nodes, nodeBodies, stateOf, bodies-nodes, encode-nodes}
 

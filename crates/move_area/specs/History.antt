@@ -2,7 +2,7 @@
 use mathlib.Core.Path.{_≡_, refl, sym, ap, ap₂, subst, _∙_}
 use mathlib.Core.Bool.{Bool, true, false, cond}
 use mathlib.Core.List.{List, [], _∷_}
-use Prim.Native.Nat.{ℕ, _+_, _*_, _≤_}
+use Prim.Native.Nat.{ℕ, _+_, _*_, _≤_, _<_}
 use native.Mathlib.Omega.{arith}
 use lib.Dec.{eqb}
 use lib.ListN.{length, length-replicate, getD-replicate}
@@ -12,12 +12,13 @@ use Rattle.move_ledger.specs.Graph.{Load}
 use Rattle.move_ledger.specs.Answer.{Answer, is-refused}
 use Rattle.move_ledger.specs.Ledger.{Ledger, Call, try-move, asks, move, ask, call, answers, ledger}
 use Rattle.move_ledger.specs.Loading.{refusal, first-row, loading-row, row7, row8}
-use Rattle.move_ledger.specs.LoadLaws.{Loadable-sets, loading-row-none, loading-unrefused}
+use Rattle.move_ledger.specs.LoadLaws.{Loadable-sets, first-row-none, loading-row-none, loading-unrefused}
+use Rattle.move_ledger.specs.MoveLaws.{refused-keeps}
 use Rattle.move_ledger.specs.Sound.{loading-sound}
 use Rattle.move_area.specs.Bodies.{atomAt}
 use Rattle.move_area.specs.Area.{State, encode, decode, consistent}
 use Rattle.move_area.specs.Held.{Held, decode-encode, encode-long, encode-again, encode-consistent}
-use Rattle.move_area.specs.CallLaws.{after-ledger, after-held, refused-keeps}
+use Rattle.move_area.specs.CallLaws.{after-ledger, after-held}
 use Rattle.move_area.specs.Calls.{Called, first, new, checked, asked, after}
 use Rattle.move_area.specs.Calls as calls
 
@@ -51,6 +52,10 @@ module _ {load : Load} {N : ℕ} {area : List ℕ} {st : State} (h : Holding loa
   pub holding-consistent : consistent load N area ≡ true
   holding-consistent = subst (λ u. consistent load N u ≡ true) (h .whole) (encode-consistent load N st (h .held) area (h .room) (h .bits))
 
+  -- and there is a place for one more set than atoms
+  pub holding-wide : load .A < N
+  holding-wide = first-row-none load N true (length area) (h .legal) .sizes .wide
+
   pub holding-checked : (x : Answer) → checked load N area x ≡ x
   unfolding checked
   holding-checked x = rw (h .legal, holding-consistent) refl
@@ -73,7 +78,7 @@ pub record Step (load : Load) (N : ℕ) (st : State) (c : Call) (r : Called) : T
   pub holds : Holding load N (r .area) next
 
 pub call-step : (load : Load) (N : ℕ) (area : List ℕ) (st : State) (c : Call) → Holding load N area st → Step load N st c (call-area load N area c)
-unfolding call-area call calls.try-move asked
+unfolding call-area call calls.try-move asked move
 call-step load N area st (asks q) h =
     record {
       answers = holding-checked h _ ∙ ap (λ (u : State). ask load (u .ledger .place) q) (holding-decode h);
@@ -95,7 +100,7 @@ call-step load N area st (try-move a s) h = rw (holding-decode h, holding-checke
           answers = refl;
           next = after load N st a s;
           follows = after-ledger load N st a s;
-          holds = encoded h (after load N st a s) (after-held load N st a s (h .held));
+          holds = encoded h (after load N st a s) (after-held load N st a s (holding-wide h) (h .held));
         })
 
 -- an unrefused loading's area

@@ -12,7 +12,9 @@ use borrow.Author.Tests.{eqb-true, eqb-false, eq-eqb, not-true, not-false}
 use Rattle.graphs.specs.Bools.{and-left, and-right, and-both, fails}
 use Rattle.graphs.specs.Lists.{any, has, some-below, some-take, some-none, has-at}
 use Rattle.move_ledger.specs.Graph.{at}
-use Rattle.move_area.specs.Area.{index, distinct, alike-lists}
+use Rattle.move_ledger.specs.Ledger.{index}
+use Rattle.move_ledger.specs.Places.{index-has}
+use Rattle.move_area.specs.Area.{distinct, alike-lists}
 
 -- two lists that pass the test are one
 pub alike-one : (k l : List ℕ) → alike-lists k l ≡ true → k ≡ l
@@ -58,16 +60,6 @@ one-place {sets} d x y bx by e = go (ℕ-discrete x y) (decLt x y)
     go (no q) (yes h) = absurd (d .apart x y h by e)
     go (no q) (no h) = absurd (d .apart y x (omega arith) bx (sym e))
 
--- a member's place
-pub index-has : (X : ℕ) (sets : List ℕ) → has X sets ≡ true → (index X sets < length sets) × (at sets (index X sets) ≡ X)
-unfolding index has any
-index-has X [] h = absurd (true≢false (sym h))
-index-has X (y ∷ ys) h = go (eqb X y) refl (index-has X ys)
-  where
-    go : (t : Bool) → eqb X y ≡ t → (any (eqb X) ys ≡ true → (index X ys < length ys) × (at ys (index X ys) ≡ X))
-        → (cond t 0 (suc (index X ys)) < suc (length ys)) × (at (y ∷ ys) (cond t 0 (suc (index X ys))) ≡ X)
-    go true q f = (omega arith, sym (eqb-true X y q))
-    go false q f = let r : (index X ys < length ys) × (at ys (index X ys) ≡ X) = f (rw q at h) in (omega (arith, r .0), r .1)
-
+-- a registered set's place
 pub index-at : {sets : List ℕ} → Distinct sets → (x : ℕ) → x < length sets → index (at sets x) sets ≡ x
 index-at {sets} d x b = let r = index-has (at sets x) sets (has-at sets x b) in one-place d _ x (r .0) b (r .1)

@@ -17,13 +17,14 @@ use Rattle.graphs.specs.Slots as slots
 use Rattle.graphs.specs.SlotLaws.{flat-mult}
 use Rattle.graphs.specs.Square.{square-some}
 use Rattle.entry_set.specs.Joined.{parts}
+use Rattle.move_ledger.specs.Ledger.{index}
 use Rattle.move_ledger.specs.Graph.{Load, at, members, mult, edge}
 use Rattle.move_ledger.specs.LoadLaws.{InOrder}
 use Rattle.move_ledger.specs.Nodes.{placed, Placing, sources, targets, node-edge}
 use Rattle.move_ledger.specs.NodeLaws.{placed-at, members-nodes}
 use Rattle.move_ledger.specs.NodeWalks.{mult-nodes, mult-outside, ends-nodes, cyclic-nodes, only-nodes, only-outside}
 use Rattle.move_area.specs.Bodies.{Bodies, write}
-use Rattle.move_area.specs.Area.{State, index, square, nodewise, bodies, encode}
+use Rattle.move_area.specs.Area.{State, square, nodewise, bodies, encode}
 use Rattle.move_area.specs.ListLaws.{Distinct, index-at}
 
 -- a state by node numbers: the registered sets, each atom's node, the walk counter and the marks

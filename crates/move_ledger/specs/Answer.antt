@@ -26,3 +26,14 @@ is-refused (set s) = false
 is-refused (number n) = false
 is-refused (edge e) = false
 is-refused none = false
+
+abbrev pub is-accepted : Answer → Bool
+is-accepted (refused n) = false
+is-accepted acyclic = false
+is-accepted cyclic = false
+is-accepted accepted = true
+is-accepted rejected = false
+is-accepted (set s) = false
+is-accepted (number n) = false
+is-accepted (edge e) = false
+is-accepted none = false

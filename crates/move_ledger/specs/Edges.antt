@@ -14,24 +14,9 @@ use Rattle.move_ledger.specs.Graph.{Load, Edge, at, mult, edge, rising, 
 use Rattle.move_ledger.specs.GraphLaws.{edge-source, edge-target}
 use Rattle.move_ledger.specs.Answer.{Answer}
 use Rattle.move_ledger.specs.Answer as answer
-use Rattle.move_ledger.specs.Ledger.{kth}
+use Rattle.move_ledger.specs.Ledger.{kept, kth}
+use Rattle.move_ledger.specs.Places.{has-kept}
 use Rattle.move_ledger.specs.Listing.{Rising, none, next, rising-rising, has-rising, one-rising}
-
--- the members that pass
-kept : (ℕ → Bool) → List ℕ → List ℕ
-kept p [] = []
-kept p (x ∷ l) = cond (p x) (x ∷ kept p l) (kept p l)
-
-has-kept : (p : ℕ → Bool) (z : ℕ) (l : List ℕ) → has z (kept p l) ≡ (has z l && p z)
-unfolding kept has any
-has-kept p z [] = refl
-has-kept p z (x ∷ l) = go (p x) refl (eqb z x) refl (has-kept p z l)
-  where
-    go : (t : Bool) → p x ≡ t → (u : Bool) → eqb z x ≡ u → any (eqb z) (kept p l) ≡ (any (eqb z) l && p z) → any (eqb z) (cond t (x ∷ kept p l) (kept p l)) ≡ ((u || any (eqb z) l) && p z)
-    go true q true r h = rw r (sym (ap p (eqb-true z x r) ∙ q))
-    go true q false r h = rw r h
-    go false q true r h = h ∙ ap (λ t. any (eqb z) l && t) (ap p (eqb-true z x r) ∙ q) ∙ and-false (any (eqb z) l) ∙ sym (ap p (eqb-true z x r) ∙ q)
-    go false q false r h = h
 
 weaker : {a b : ℕ} {l : List ℕ} → a ≤ b → Rising b l → Rising a l
 weaker h none = none

@@ -1,15 +1,15 @@
--- The plain ledger of moves and questions (01, "A move, from its entry", "Where a call turns back", "What a move asks of the graph").
+-- The plain ledger of moves and questions (01, "A move, from its entry", "Where a call turns back", "What a move asks of the graph"; 02, (xi)).
 -- Assumes nothing.
 use Prim.Native.Nat.{ℕ, zero, suc}
-use mathlib.Core.Bool.{Bool, not, cond, _&&_}
+use mathlib.Core.Bool.{Bool, not, cond, _&&_, _||_}
 use mathlib.Core.List.{List, [], _∷_, _++_}
-use lib.Dec.{leb, eqb}
+use lib.Dec.{leb, ltb, eqb}
 use lib.ListN.{length, set}
 use Rattle.graphs.specs.Lists.{has}
 use Rattle.graphs.specs.Walk.{cyclic, only}
 use Rattle.entry_set.specs.Sets.{value, legal, words}
-use Rattle.move_ledger.specs.Graph.{Load, Edge, at, members, mult, edge, edges}
-use Rattle.move_ledger.specs.Answer.{Answer, refused, accepted, rejected}
+use Rattle.move_ledger.specs.Graph.{Load, Edge, at, members, occupied, mult, edge, rising, edges}
+use Rattle.move_ledger.specs.Answer.{Answer, refused, accepted, rejected, is-refused, is-accepted}
 use Rattle.move_ledger.specs.Answer as answer
 
 -- "It keeps each atom's set and the registered sets"
@@ -29,38 +29,65 @@ pub record Answered : Type 0 where
 abbrev pub gives : Answer → Ledger → Answered
 gives x l = record { answer = x; after = l }
 
--- "The target set is registered if unseen. Registered sets remain, even without atoms."
-unfoldable pub register : ℕ → List ℕ → List ℕ
-register T seen = cond (has T seen) seen (seen ++ T ∷ [])
+-- the members that pass
+unfoldable pub kept : (ℕ → Bool) → List ℕ → List ℕ
+kept p [] = []
+kept p (x ∷ l) = cond (p x) (x ∷ kept p l) (kept p l)
+
+-- the place of x in a list, the list's length where it has none: a set's node is its place among the registered sets
+unfoldable pub index : ℕ → List ℕ → ℕ
+index x [] = 0
+index x (y ∷ ys) = cond (eqb x y) 0 (suc (index x ys))
+
+-- T at place r of a list, behind it where r is its end
+unfoldable pub put : ℕ → ℕ → List ℕ → List ℕ
+put r T seen = cond (ltb r (length seen)) (set seen r T) (seen ++ T ∷ [])
+
+-- 02: "the smallest empty one, as a number", of the registered sets
+unfoldable pub smallest-empty : Load → List ℕ → List ℕ → ℕ
+smallest-empty load place seen = at (rising (kept (λ X. not (occupied load place X)) seen)) 0
+
+-- the place of a new set: the next one, and "when N sets are registered" that of the smallest empty one
+unfoldable pub free-place : Load → ℕ → List ℕ → List ℕ → ℕ
+free-place load N place seen = cond (ltb (length seen) N) (length seen) (index (smallest-empty load place seen) seen)
+
+-- "The target set is registered if unseen"; 02: "When N sets are registered and another is needed, the smallest empty one .. gives up its place".
+-- `place` is the placement before the move
+unfoldable pub register : Load → ℕ → List ℕ → ℕ → List ℕ → List ℕ
+register load N place T seen = cond (has T seen) seen (put (free-place load N place seen) T seen)
 
 -- step 1: "the graph is cyclic and the atom's chunk is outside the stored cyclic component"
 abbrev pub step1 : Load → List ℕ → ℕ → Bool
 step1 load place a = cyclic (edge load place) place && not (only (edge load place) place (at place a))
 
 -- step 2: the ledger with the target registered
-abbrev pub step2 : Ledger → ℕ → Ledger
-step2 l T = record { place = l .place; registered = register T (l .registered) }
+abbrev pub step2 : Load → ℕ → Ledger → ℕ → Ledger
+step2 load N l T = record { place = l .place; registered = register load N (l .place) T (l .registered) }
 
 -- step 3: and with the atom moved
-abbrev pub step3 : Ledger → ℕ → ℕ → Ledger
-step3 l a T = record { place = set (l .place) a T; registered = register T (l .registered) }
+abbrev pub step3 : Load → ℕ → Ledger → ℕ → ℕ → Ledger
+step3 load N l a T = record { place = set (l .place) a T; registered = register load N (l .place) T (l .registered) }
 
--- row 13: "target unseen and N sets registered"
-abbrev pub full : ℕ → List ℕ → ℕ → Bool
-full N seen T = not (has T seen) && leb N (length seen)
+-- what a move of atom a to the lent set s is answered, a matter of the load and the placement. "The first fitting row wins"; "Accepted if the result has
+-- no cycle"
+unfoldable pub decide : Load → List ℕ → ℕ → List ℕ → Answer
+decide load place a s =
+    let moved = set place a (value s) in
+    cond (leb (load .A) a) (refused 10)
+    (cond (not (legal (load .E) s)) (refused 11)
+    (cond (eqb (value s) (at place a)) (refused 12)
+    (cond (step1 load place a || cyclic (edge load moved) moved) rejected
+    accepted)))
 
--- a move of atom a to the lent set s. "The first fitting row wins"; "Step 1 rejects before 13"; "Accepted if the result has no cycle; else
--- the atom goes back"
+-- the target is registered and the atom moved on trial, unless a row refuses the move or step 1 rejects it
+abbrev pub tried : Load → List ℕ → ℕ → List ℕ → Bool
+tried load place a s = not (is-refused (decide load place a s) || step1 load place a)
+
+-- a move, and what it leaves: "Accepted if the result has no cycle; else the atom goes back"
 unfoldable pub move : Load → ℕ → Ledger → ℕ → List ℕ → Answered
 move load N l a s =
-    let T = value s in
-    cond (leb (load .A) a) (gives (refused 10) l)
-    (cond (not (legal (load .E) s)) (gives (refused 11) l)
-    (cond (eqb T (at (l .place) a)) (gives (refused 12) l)
-    (cond (step1 load (l .place) a) (gives rejected l)
-    (cond (full N (l .registered) T) (gives (refused 13) l)
-    (cond (cyclic (edge load (step3 l a T .place)) (step3 l a T .place)) (gives rejected (step2 l T))
-    (gives accepted (step3 l a T)))))))
+    let x = decide load (l .place) a s in
+    gives x (cond (tried load (l .place) a s) (cond (is-accepted x) (step3 load N l a (value s)) (step2 load N l (value s))) l)
 
 -- "Public questions also give an atom's set, a set's atom count, one edge's multiplicity (..), the number of distinct edges, and the k-th edge, from 0"
 pub data Question : Type 0 where

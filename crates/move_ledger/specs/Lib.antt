@@ -6,12 +6,15 @@ pub mod Ledger
 pub mod Loading
 pub mod GraphLaws
 pub mod Listing
+pub mod Places
+pub mod Evict
 pub mod MoveLaws
 pub mod LoadLaws
 pub mod Sound
 pub mod Nodes
 pub mod NodeLaws
 pub mod NodeWalks
+pub mod NodePlaces
 pub mod NodeMoves
 pub mod Edges
 pub mod NodeListing

@@ -54,7 +54,7 @@ has-rising z [] = refl
 has-rising z (x ∷ l) = has-insert z x (rising l) ∙ ap (λ t. eqb z x || t) (has-rising z l)
 
 -- members are at least the bound
-has-bound : (z : ℕ) {b : ℕ} {l : List ℕ} → Rising b l → has z l ≡ true → b ≤ z
+pub has-bound : (z : ℕ) {b : ℕ} {l : List ℕ} → Rising b l → has z l ≡ true → b ≤ z
 unfolding has any
 has-bound z none h = absurd (true≢false (sym h))
 has-bound z {b} (next {x} {l} k r) h = ⊎-elim (λ a. omega (arith, eqb-true z x a)) (λ m. omega (arith, has-bound z r m)) (or-cases (eqb z x) _ h)

@@ -46,7 +46,7 @@ pub record Sized (load : Load) (N size : ℕ) : Type 0 where
   pub atoms : load .A ≤ 512
   pub entries : load .D ≤ 8192
   pub bits : load .E ≤ 256
-  pub wide : load .A ≤ N
+  pub wide : load .A < N
   pub sets : N ≤ 1024
   pub starts : length (load .starts) ≡ load .A + 1
   pub dependencies : length (load .dependencies) ≡ load .D
@@ -162,8 +162,8 @@ sized load N size r1 r2 r3 =
       atoms = ltb-false _ _ (or-false-left (ltb 512 (load .A)) _ r1);
       entries = ltb-false _ _ (or-false-left (ltb 8192 (load .D)) _ b);
       bits = ltb-false _ _ (or-false-left (ltb 256 (load .E)) _ c);
-      wide = ltb-false _ _ (or-false-left (ltb N (load .A)) _ d);
-      sets = ltb-false _ _ (or-false-right (ltb N (load .A)) _ d);
+      wide = leb-false _ _ (or-false-left (leb N (load .A)) _ d);
+      sets = ltb-false _ _ (or-false-right (leb N (load .A)) _ d);
       starts = eqb-true _ _ (and-left (eqb (length (load .starts)) (load .A + 1)) _ x);
       dependencies = eqb-true _ _ (and-left (eqb (length (load .dependencies)) (load .D)) _ y);
       hosts = eqb-true _ _ (and-right (eqb (length (load .dependencies)) (load .D)) _ y);

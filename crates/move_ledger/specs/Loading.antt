@@ -12,9 +12,9 @@ use Rattle.move_ledger.specs.Graph.{Load, none, at, owner, edge}
 use Rattle.move_ledger.specs.Answer.{Answer, refused, acyclic}
 use Rattle.move_ledger.specs.Answer as answer
 
--- "A > 512, D > 8,192, E > 256, N < A or N > 1,024"
+-- "A > 512, D > 8,192, E > 256, N < A or N > 1,024"; 02: "N must now be at least A + 1 (else 1 ..)"
 abbrev pub row1 : Load → ℕ → Bool
-row1 load N = ltb 512 (load .A) || (ltb 8192 (load .D) || (ltb 256 (load .E) || (ltb N (load .A) || ltb 1024 N)))
+row1 load N = ltb 512 (load .A) || (ltb 8192 (load .D) || (ltb 256 (load .E) || (leb N (load .A) || ltb 1024 N)))
 
 -- "a load list's length isn't the one called for"
 abbrev pub row2 : Load → Bool

@@ -1,182 +1,154 @@
--- Laws of a single move on the ledger: its rows and steps as one choice, its length, its registering. Assumes nothing.
+-- Laws of a single move: what its answer tells, and what it leaves. Assumes nothing.
 use Prim.Native.Nat.{ℕ}
-use native.Mathlib.Omega.{arith}
-use mathlib.Core.Path.{_≡_, refl, sym, ap, _∙_}
-use mathlib.Core.Logic.{_↔_}
-use mathlib.Core.Bool.{Bool, true, false, not, cond, _&&_, _||_, true≢false, or-assoc, or-false}
-use mathlib.Core.List.{List, [], _∷_, _++_}
+use mathlib.Core.Path.{_≡_, refl, sym, ap, subst, _∙_}
+use mathlib.Core.Bool.{Bool, true, false, not, cond, _||_, true≢false}
+use mathlib.Core.List.{List, [], _∷_}
 use lib.Dec.{leb, eqb}
-use lib.ListN.{length, set, length-set, length-append}
-use borrow.Author.Tests.{eqb-true, eq-eqb}
-use Rattle.graphs.specs.Bools.{alike}
-use Rattle.graphs.specs.Lists.{any, has}
+use lib.ListN.{length, set, length-set}
+use borrow.Author.Tests.{not-true}
+use Rattle.graphs.specs.Bools.{and-left, and-right}
 use Rattle.graphs.specs.Walk.{cyclic}
 use Rattle.entry_set.specs.Sets.{value, legal}
 use Rattle.move_ledger.specs.Graph.{Load, at, edge}
-use Rattle.move_ledger.specs.Answer.{refused, accepted, rejected, is-refused}
-use Rattle.move_ledger.specs.Ledger.{Ledger, Answered, gives, register, full, step1, step2, step3, move, Call, try-move, asks, call, ledger}
+use Rattle.move_ledger.specs.GraphLaws.{outside-stays}
+use Rattle.move_ledger.specs.Answer.{Answer, refused, accepted, rejected, is-refused, is-accepted}
+use Rattle.move_ledger.specs.Ledger.{Ledger, register, step1, step2, step3, decide, tried, move, Call, try-move, asks, call, ledger}
 
--- the choice that a move makes by its rows 10 to 13 and its steps
-unfoldable pub steps : Bool → Bool → Bool → Bool → Bool → Bool → Ledger → Ledger → Ledger → Answered
-steps r10 r11 r12 s1 r13 s3 before registered moved =
-    cond r10 (gives (refused 10) before)
-    (cond r11 (gives (refused 11) before)
-    (cond r12 (gives (refused 12) before)
-    (cond s1 (gives rejected before)
-    (cond r13 (gives (refused 13) before)
-    (cond s3 (gives rejected registered)
-    (gives accepted moved))))))
+-- the choice that a move makes by its rows 10 to 12 and its steps 1 and 3
+unfoldable pub choose : Bool → Bool → Bool → Bool → Bool → Answer
+choose r10 r11 r12 s1 s3 = cond r10 (refused 10) (cond r11 (refused 11) (cond r12 (refused 12) (cond (s1 || s3) rejected accepted)))
 
-pub move-steps : (load : Load) (N : ℕ) (l : Ledger) (a : ℕ) (s : List ℕ) → move load N l a s
-    ≡ steps (leb (load .A) a) (not (legal (load .E) s)) (eqb (value s) (at (l .place) a)) (step1 load (l .place) a) (full N (l .registered) (value s))
-    (cyclic (edge load (set (l .place) a (value s))) (set (l .place) a (value s))) l (step2 l (value s)) (step3 l a (value s))
-unfolding move steps
-move-steps load N l a s = refl
-
--- two answers are never equal
-pub rejected-not-accepted : rejected ≡ accepted → ⊥
-rejected-not-accepted h = let z : _≡_ {A = ℕ} 0 1 = cc in omega arith
-
--- what an unrefused move answers
-pub record Exact (cyc : Bool) (before moved : Ledger) (r : Answered) : Type 0 where
-  pub accepts : (r .answer ≡ accepted) ↔ (cyc ≡ false)
-  pub rejects : (r .answer ≡ accepted → ⊥) → (r .answer ≡ rejected) × (r .after .place ≡ before .place)
-  pub moves : r .answer ≡ accepted → r .after ≡ moved
-
-pub steps-exact : (r10 r11 r12 s1 r13 s3 : Bool) (l m n : Ledger) → m .place ≡ l .place → (s1 ≡ true → s3 ≡ true)
-    → is-refused (steps r10 r11 r12 s1 r13 s3 l m n .answer) ≡ false → Exact s3 l n (steps r10 r11 r12 s1 r13 s3 l m n)
-unfolding steps
-steps-exact true r11 r12 s1 r13 s3 l m n e c u = absurd (true≢false u)
-steps-exact false true r12 s1 r13 s3 l m n e c u = absurd (true≢false u)
-steps-exact false false true s1 r13 s3 l m n e c u = absurd (true≢false u)
-steps-exact false false false true r13 s3 l m n e c u =
-    record {
-      accepts = (λ h. absurd (rejected-not-accepted h), λ h. absurd (true≢false (sym (c refl) ∙ h)));
-      rejects = λ h. (refl, refl);
-      moves = λ h. absurd (rejected-not-accepted h);
-    }
-steps-exact false false false false true s3 l m n e c u = absurd (true≢false u)
-steps-exact false false false false false true l m n e c u =
-    record {
-      accepts = (λ h. absurd (rejected-not-accepted h), λ h. absurd (true≢false h));
-      rejects = λ h. (refl, e);
-      moves = λ h. absurd (rejected-not-accepted h);
-    }
-steps-exact false false false false false false l m n e c u =
-    record { accepts = (λ h. refl, λ h. refl); rejects = λ h. absurd (h refl); moves = λ h. refl }
-
-pub refused-not-accepted : (n : ℕ) → refused n ≡ accepted → ⊥
-refused-not-accepted n h = let z : _≡_ {A = ℕ} 0 1 = cc in omega arith
-
--- what an accepted move has passed
-pub record Passed (r10 r11 r12 r13 cyc : Bool) (moved : Ledger) (r : Answered) : Type 0 where
+-- what an unrefused move has passed
+pub record Passed (r10 r11 r12 : Bool) : Type 0 where
   pub at10 : r10 ≡ false
   pub at11 : r11 ≡ false
   pub at12 : r12 ≡ false
-  pub at13 : r13 ≡ false
-  pub no-cycle : cyc ≡ false
-  pub goes-on : r .after ≡ moved
 
-steps-passed : (r10 r11 r12 s1 r13 s3 : Bool) (l m n : Ledger) → steps r10 r11 r12 s1 r13 s3 l m n .answer ≡ accepted
-    → Passed r10 r11 r12 r13 s3 n (steps r10 r11 r12 s1 r13 s3 l m n)
-unfolding steps
-steps-passed true r11 r12 s1 r13 s3 l m n h = absurd (refused-not-accepted 10 h)
-steps-passed false true r12 s1 r13 s3 l m n h = absurd (refused-not-accepted 11 h)
-steps-passed false false true s1 r13 s3 l m n h = absurd (refused-not-accepted 12 h)
-steps-passed false false false true r13 s3 l m n h = absurd (rejected-not-accepted h)
-steps-passed false false false false true s3 l m n h = absurd (refused-not-accepted 13 h)
-steps-passed false false false false false true l m n h = absurd (rejected-not-accepted h)
-steps-passed false false false false false false l m n h = record { at10 = refl; at11 = refl; at12 = refl; at13 = refl; no-cycle = refl; goes-on = refl }
+choose-passed : (r10 r11 r12 s1 s3 : Bool) → is-refused (choose r10 r11 r12 s1 s3) ≡ false → Passed r10 r11 r12
+unfolding choose
+choose-passed true r11 r12 s1 s3 h = absurd (true≢false h)
+choose-passed false true r12 s1 s3 h = absurd (true≢false h)
+choose-passed false false true s1 s3 h = absurd (true≢false h)
+choose-passed false false false s1 s3 h = record { at10 = refl; at11 = refl; at12 = refl }
 
-pub accepted-passed : (load : Load) (N : ℕ) (l : Ledger) (a : ℕ) (s : List ℕ) → move load N l a s .answer ≡ accepted
-    → Passed (leb (load .A) a) (not (legal (load .E) s)) (eqb (value s) (at (l .place) a)) (full N (l .registered) (value s))
-    (cyclic (edge load (set (l .place) a (value s))) (set (l .place) a (value s))) (step3 l a (value s)) (move load N l a s)
-unfolding move steps
-accepted-passed load N l a s h = steps-passed _ _ _ (step1 load (l .place) a) _ _ l (step2 l (value s)) _ h
+-- and what an accepted one has
+pub record Accepted (r10 r11 r12 s1 s3 : Bool) : Type 0 where
+  pub passed : Passed r10 r11 r12
+  pub inside : s1 ≡ false
+  pub no-cycle : s3 ≡ false
 
--- the answer once rows 10 to 12 and step 1 don't fit
-pub steps-late : (r10 r11 r12 s1 r13 s3 : Bool) (l m n : Ledger) → r10 ≡ false → r11 ≡ false → r12 ≡ false → s1 ≡ false
-    → steps r10 r11 r12 s1 r13 s3 l m n .answer ≡ cond r13 (refused 13) (cond s3 rejected accepted)
-unfolding steps
-steps-late true r11 r12 s1 r13 s3 l m n a b c d = absurd (true≢false a)
-steps-late false true r12 s1 r13 s3 l m n a b c d = absurd (true≢false b)
-steps-late false false true s1 r13 s3 l m n a b c d = absurd (true≢false c)
-steps-late false false false true r13 s3 l m n a b c d = absurd (true≢false d)
-steps-late false false false false true s3 l m n a b c d = refl
-steps-late false false false false false true l m n a b c d = refl
-steps-late false false false false false false l m n a b c d = refl
+choose-accepted : (r10 r11 r12 s1 s3 : Bool) → is-accepted (choose r10 r11 r12 s1 s3) ≡ true → Accepted r10 r11 r12 s1 s3
+unfolding choose
+choose-accepted true r11 r12 s1 s3 h = absurd (true≢false (sym h))
+choose-accepted false true r12 s1 s3 h = absurd (true≢false (sym h))
+choose-accepted false false true s1 s3 h = absurd (true≢false (sym h))
+choose-accepted false false false true s3 h = absurd (true≢false (sym h))
+choose-accepted false false false false true h = absurd (true≢false (sym h))
+choose-accepted false false false false false h = record { passed = record { at10 = refl; at11 = refl; at12 = refl }; inside = refl; no-cycle = refl }
 
--- only row 13 reads the registered sets
-pub steps-room : (r10 r11 r12 s1 r13 r13′ s3 : Bool) (l m n l′ m′ n′ : Ledger)
-    → (steps r10 r11 r12 s1 r13 s3 l m n .answer ≡ refused 13 → ⊥) → (steps r10 r11 r12 s1 r13′ s3 l′ m′ n′ .answer ≡ refused 13 → ⊥)
-    → steps r10 r11 r12 s1 r13 s3 l m n .answer ≡ steps r10 r11 r12 s1 r13′ s3 l′ m′ n′ .answer
-unfolding steps
-steps-room true r11 r12 s1 r13 r13′ s3 l m n l′ m′ n′ f g = refl
-steps-room false true r12 s1 r13 r13′ s3 l m n l′ m′ n′ f g = refl
-steps-room false false true s1 r13 r13′ s3 l m n l′ m′ n′ f g = refl
-steps-room false false false true r13 r13′ s3 l m n l′ m′ n′ f g = refl
-steps-room false false false false true r13′ s3 l m n l′ m′ n′ f g = absurd (f refl)
-steps-room false false false false false true s3 l m n l′ m′ n′ f g = absurd (g refl)
-steps-room false false false false false false true l m n l′ m′ n′ f g = refl
-steps-room false false false false false false false l m n l′ m′ n′ f g = refl
+module _ (load : Load) (place : List ℕ) (a : ℕ) (s : List ℕ) where
+  pub decide-chooses : decide load place a s
+      ≡ choose (leb (load .A) a) (not (legal (load .E) s)) (eqb (value s) (at place a)) (step1 load place a) (cyclic (edge load (set place a (value s))) (set place a (value s)))
+  unfolding decide choose
+  decide-chooses = refl
 
--- what holds of the ledger before, and of what steps 2 and 3 make of it, holds afterwards
-pub steps-keep : (P : Ledger → Type 0) (r10 r11 r12 s1 r13 s3 : Bool) (l m n : Ledger) → P l → (r11 ≡ false → r13 ≡ false → P m)
-    → (r10 ≡ false → r11 ≡ false → r13 ≡ false → P n) → P (steps r10 r11 r12 s1 r13 s3 l m n .after)
-unfolding steps
-steps-keep P true r11 r12 s1 r13 s3 l m n a b c = a
-steps-keep P false true r12 s1 r13 s3 l m n a b c = a
-steps-keep P false false true s1 r13 s3 l m n a b c = a
-steps-keep P false false false true r13 s3 l m n a b c = a
-steps-keep P false false false false true s3 l m n a b c = a
-steps-keep P false false false false false true l m n a b c = b refl refl
-steps-keep P false false false false false false l m n a b c = c refl refl refl
+  pub decide-passed : is-refused (decide load place a s) ≡ false → Passed (leb (load .A) a) (not (legal (load .E) s)) (eqb (value s) (at place a))
+  decide-passed h = choose-passed _ _ _ _ _ (subst (λ x. is-refused x ≡ false) decide-chooses h)
+
+  pub decide-accepted : is-accepted (decide load place a s) ≡ true
+      → Accepted (leb (load .A) a) (not (legal (load .E) s)) (eqb (value s) (at place a)) (step1 load place a) (cyclic (edge load (set place a (value s))) (set place a (value s)))
+  decide-accepted h = choose-accepted _ _ _ _ _ (subst (λ x. is-accepted x ≡ true) decide-chooses h)
+
+  -- past its rows a move is decided by its steps
+  pub decide-late : Passed (leb (load .A) a) (not (legal (load .E) s)) (eqb (value s) (at place a))
+      → decide load place a s ≡ cond (step1 load place a || cyclic (edge load (set place a (value s))) (set place a (value s))) rejected accepted
+  unfolding choose
+  decide-late p = decide-chooses ∙ rw (p .at10, p .at11, p .at12) refl
+
+  pub decide-unrefused : Passed (leb (load .A) a) (not (legal (load .E) s)) (eqb (value s) (at place a)) → is-refused (decide load place a s) ≡ false
+  decide-unrefused p = ap is-refused (decide-late p) ∙ go (step1 load place a || cyclic (edge load (set place a (value s))) (set place a (value s)))
+    where
+      go : (t : Bool) → is-refused (cond t rejected accepted) ≡ false
+      go true = refl
+      go false = refl
+
+  -- what step 1 rejects, step 3 would reject too: the moved graph alone decides
+  pub decide-exactly : length place ≡ load .A → is-refused (decide load place a s) ≡ false
+      → decide load place a s ≡ cond (cyclic (edge load (set place a (value s))) (set place a (value s))) rejected accepted
+  decide-exactly n u = decide-late (decide-passed u) ∙ ap (λ t. cond t rejected accepted) (go (step1 load place a) refl)
+    where
+      go : (t : Bool) → step1 load place a ≡ t → (t || cyclic (edge load (set place a (value s))) (set place a (value s))) ≡ cyclic (edge load (set place a (value s))) (set place a (value s))
+      go true h = sym (outside-stays load place a (value s) n (and-left (cyclic (edge load place) place) _ h) (not-true _ (and-right (cyclic (edge load place) place) _ h)))
+      go false h = refl
+
+-- what a move leaves
+module _ (load : Load) (N : ℕ) (l : Ledger) (a : ℕ) (s : List ℕ) where
+  abbrev x : Answer
+  x = decide load (l .place) a s
+
+  -- a refused move changes nothing
+  pub refused-keeps : is-refused (decide load (l .place) a s) ≡ true → move load N l a s .after ≡ l
+  unfolding move
+  refused-keeps h = rw h refl
+
+  -- nor does one that step 1 rejects
+  pub step1-keeps : step1 load (l .place) a ≡ true → move load N l a s .after ≡ l
+  unfolding move
+  step1-keeps h = rw h (go (is-refused x) _)
+    where
+      go : (r : Bool) (m : Ledger) → cond (not (r || true)) m l ≡ l
+      go true m = refl
+      go false m = refl
+
+  -- a tried one leaves what its answer says
+  pub tried-after : is-refused (decide load (l .place) a s) ≡ false → step1 load (l .place) a ≡ false
+      → move load N l a s .after ≡ cond (is-accepted (decide load (l .place) a s)) (step3 load N l a (value s)) (step2 load N l (value s))
+  unfolding move
+  tried-after u h = rw (u, h) refl
+
+  -- the atom has moved where the move is accepted
+  pub place-after : move load N l a s .after .place ≡ cond (is-accepted (decide load (l .place) a s)) (set (l .place) a (value s)) (l .place)
+  unfolding move
+  place-after = go (is-accepted x) refl
+    where
+      go : (t : Bool) → is-accepted x ≡ t → move load N l a s .after .place ≡ cond t (set (l .place) a (value s)) (l .place)
+      go true h = let y = decide-accepted load (l .place) a s h in rw (decide-unrefused load (l .place) a s (y .passed), y .inside, h) refl
+      go false h = stays (is-refused x) (step1 load (l .place) a)
+        where
+          stays : (r s1 : Bool) → cond (not (r || s1)) (cond (is-accepted x) (step3 load N l a (value s)) (step2 load N l (value s))) l .place ≡ l .place
+          stays true s1 = refl
+          stays false true = refl
+          stays false false = rw h refl
+
+  -- the target is registered where the move is tried, accepted or not; which sets are empty is a matter of the placement before the move
+  pub registered-after : move load N l a s .after .registered ≡ cond (tried load (l .place) a s) (register load N (l .place) (value s) (l .registered)) (l .registered)
+  unfolding move
+  registered-after = go (is-refused x || step1 load (l .place) a) (is-accepted x)
+    where
+      go : (u t : Bool) → cond (not u) (cond t (step3 load N l a (value s)) (step2 load N l (value s))) l .registered ≡ cond (not u) (register load N (l .place) (value s) (l .registered)) (l .registered)
+      go true t = refl
+      go false true = refl
+      go false false = refl
+
+  -- what holds of the ledger before, and of what steps 2 and 3 make of it, holds afterwards
+  pub move-keeps : (P : Ledger → Type 0) → P l → (is-refused (decide load (l .place) a s) ≡ false → P (step2 load N l (value s)))
+      → (is-refused (decide load (l .place) a s) ≡ false → P (step3 load N l a (value s))) → P (move load N l a s .after)
+  unfolding move
+  move-keeps P p₁ p₂ p₃ = go (is-refused x) refl (step1 load (l .place) a) (is-accepted x)
+    where
+      go : (r : Bool) → is-refused x ≡ r → (s1 t : Bool) → P (cond (not (r || s1)) (cond t (step3 load N l a (value s)) (step2 load N l (value s))) l)
+      go true q s1 t = p₁
+      go false q true t = p₁
+      go false q false true = p₃ q
+      go false q false false = p₂ q
 
 -- the ledger goes on with as many atoms
 pub call-length : (load : Load) (N : ℕ) (l : Ledger) (c : Call) → length (l .place) ≡ load .A → length (call load N l c .after .place) ≡ load .A
 unfolding call
-call-length load N l (try-move a s) h =
-    rw (move-steps load N l a s)
-    (steps-keep (λ m. length (m .place) ≡ load .A) _ _ _ _ _ _ l (step2 l (value s)) (step3 l a (value s)) h (λ p q. h) (λ o p q. rw length-set h))
+call-length load N l (try-move a s) h = move-keeps load N l a s (λ m. length (m .place) ≡ load .A) h (λ u. h) (λ u. rw length-set h)
 call-length load N l (asks q) h = h
 
 pub ledger-length : (load : Load) (N : ℕ) (l : Ledger) (cs : List Call) → length (l .place) ≡ load .A → length (ledger load N l cs .place) ≡ load .A
 unfolding ledger
 ledger-length load N l [] h = h
 ledger-length load N l (c ∷ cs) h = ledger-length load N (call load N l c .after) cs (call-length load N l c h)
-
--- registering
-eqb-swap : (x y : ℕ) → eqb x y ≡ eqb y x
-eqb-swap x y = alike _ _ (λ h. eq-eqb y x (sym (eqb-true x y h))) (λ h. eq-eqb x y (sym (eqb-true y x h)))
-
-pub has-snoc : (x y : ℕ) (l : List ℕ) → has x (l ++ y ∷ []) ≡ (has x l || eqb x y)
-unfolding has any
-has-snoc x y [] = or-false (eqb x y)
-has-snoc x y (z ∷ l) = ap (λ t. eqb x z || t) (has-snoc x y l) ∙ sym (or-assoc (eqb x z) _ _)
-
-pub seen-stays : (x y : ℕ) (l : List ℕ) → has x l ≡ true → has x (register y l) ≡ true
-unfolding register
-seen-stays x y l h = go (has y l)
-  where
-    go : (t : Bool) → has x (cond t l (l ++ y ∷ [])) ≡ true
-    go true = h
-    go false = rw (has-snoc, h) refl
-
-pub register-old : (x : ℕ) (l : List ℕ) → has x l ≡ true → register x l ≡ l
-unfolding register
-register-old x l q = rw q refl
-
-pub register-new : (x : ℕ) (l : List ℕ) → has x l ≡ false → register x l ≡ l ++ x ∷ []
-unfolding register
-register-new x l q = rw q refl
-
--- two sets that each have room get the same answer about room in either order
-pub room : (N S T : ℕ) (l : List ℕ) → full N l S ≡ false → full N l T ≡ false → full N (register S l) T ≡ full N (register T l) S
-room N S T l f g = go (has S l) (has T l) refl refl
-  where
-    go : (s t : Bool) → has S l ≡ s → has T l ≡ t → full N (register S l) T ≡ full N (register T l) S
-    go true t p q = rw (seen-stays S T l p, register-old S l p) g
-    go false true p q = rw (seen-stays T S l q, register-old T l q) (sym f)
-    go false false p q =
-        rw (register-new S l p, register-new T l q, has-snoc T S l, has-snoc S T l, p, q, eqb-swap S T)
-        (ap (λ k. not (eqb T S) && leb N k) (simp length-append))

@@ -13,7 +13,6 @@ use Rattle.graphs.specs.Bools.{and-left, and-right, and-both, fails, alike}
 use Rattle.graphs.specs.Count.{count-ext}
 use Rattle.graphs.specs.Tab.{tab-length, tab-at}
 use Rattle.move_ledger.specs.Graph.{Load, none, at, owner, members, occupied}
-use Rattle.move_ledger.specs.Sound.{snoc-old}
 use Rattle.move_ledger.specs.Nodes.{placed, Placing, highest, fronts, front, faced, face-source, face-target, source, target, sources, targets}
 
 -- placed
@@ -33,12 +32,6 @@ unfolding placed
 placed-set [] sets a y = refl
 placed-set (x ∷ l) sets zero y = refl
 placed-set (x ∷ l) sets (suc a) y = ap (λ r. at sets x ∷ r) (placed-set l sets a y)
-
--- one more registered set places no atom elsewhere
-pub placed-more : (nodes sets : List ℕ) (T : ℕ) → ((i : ℕ) → i < length nodes → at nodes i < length sets) → placed nodes (sets ++ T ∷ []) ≡ placed nodes sets
-unfolding placed
-placed-more [] sets T h = refl
-placed-more (x ∷ l) sets T h = ap₂ _∷_ (snoc-old sets T x (h 0 (omega arith))) (placed-more l sets T (λ i b. h (suc i) (omega arith)))
 
 -- a node's atom count is its set's
 pub members-nodes : {load : Load} {nodes sets : List ℕ} → Placing load nodes sets → (x : ℕ) → x < length sets → members load nodes x ≡ members load (placed nodes sets) (at sets x)

@@ -2,23 +2,21 @@
 use Prim.Native.Nat.{ℕ, _≤_, _<_}
 use native.Mathlib.Omega.{arith}
 use native.Mathlib.Decide.{ℕ-discrete, decLt}
-use mathlib.Core.Path.{_≡_, refl, sym, ap, ap₂, subst, _∙_}
-use mathlib.Core.Bool.{Bool, true, false, not, _&&_, true≢false}
-use mathlib.Core.List.{List, [], _∷_, _++_}
+use mathlib.Core.Path.{_≡_, sym, ap, ap₂, subst, _∙_}
+use mathlib.Core.Bool.{false, not, _&&_}
+use mathlib.Core.List.{List}
 use lib.ListN.{length, set, length-set}
 use lib.Seq.{ext-getD, getD-set-same, getD-set-other}
-use Rattle.graphs.specs.Lists.{has, has-at, below}
+use Rattle.graphs.specs.Lists.{below}
 use Rattle.graphs.specs.Tab.{tab, tab-length, tab-at}
 use Rattle.graphs.specs.Walk.{via, cyclic, only}
-use Rattle.move_ledger.specs.Graph.{Load, none, at, edge}
+use Rattle.move_ledger.specs.Graph.{Load, at, edge}
 use Rattle.move_ledger.specs.GraphLaws.{target-decides}
-use Rattle.move_ledger.specs.Ledger.{register, step1}
-use Rattle.move_ledger.specs.MoveLaws.{register-old, register-new}
+use Rattle.move_ledger.specs.Ledger.{step1}
 use Rattle.move_ledger.specs.LoadLaws.{InOrder, Loadable-sets, row8-apart, entry-sets-length, entry-sets-at}
 use Rattle.move_ledger.specs.Loading.{lent-set, entry-sets}
-use Rattle.move_ledger.specs.Sound.{snoc-old, snoc-new, snoc-length}
 use Rattle.move_ledger.specs.Nodes.{placed, Placing, node-edge}
-use Rattle.move_ledger.specs.NodeLaws.{placed-length, placed-at, placed-set, placed-more}
+use Rattle.move_ledger.specs.NodeLaws.{placed-length, placed-at, placed-set}
 use Rattle.move_ledger.specs.NodeWalks.{cyclic-nodes, via-nodes, only-nodes}
 
 -- after a loading atom i is in node i
@@ -48,50 +46,6 @@ placing-first {load} {N} {sets} {size} r =
         pick (no h) (yes k) = absurd (row8-apart load sets (r .eight) x y k a (sym e))
         pick (no h) (no k) = omega arith
 
--- registering a set leaves the others, and each atom's set
-module _ (T : ℕ) (sets : List ℕ) where
-  pub register-grows : length sets ≤ length (register T sets)
-  register-grows = go (has T sets) refl
-    where
-      go : (t : Bool) → has T sets ≡ t → length sets ≤ length (register T sets)
-      go true q = rw (register-old T sets q) (omega arith)
-      go false q = rw (register-new T sets q) (omega (arith, snoc-length sets T))
-
-module _ {load : Load} {nodes sets : List ℕ} (p : Placing load nodes sets) (T : ℕ) where
-  pub placed-register : placed nodes (register T sets) ≡ placed nodes sets
-  placed-register = go (has T sets) refl
-    where
-      go : (t : Bool) → has T sets ≡ t → placed nodes (register T sets) ≡ placed nodes sets
-      go true q = rw (register-old T sets q) refl
-      go false q = rw (register-new T sets q) (placed-more nodes sets T (λ i b. p .inside i (omega (arith, p .atoms))))
-
-  pub placing-register : length (register T sets) ≤ none → Placing load nodes (register T sets)
-  placing-register few =
-      record {
-        atoms = p .atoms;
-        few = few;
-        distinct = λ x y a b e. go (has T sets) refl x y a b e;
-        inside = λ i b. omega (arith, p .inside i b, register-grows T sets);
-      }
-    where
-      new : has T sets ≡ false → (x y : ℕ) → x < y → y < length (sets ++ T ∷ []) → at (sets ++ T ∷ []) x ≡ at (sets ++ T ∷ []) y → ⊥
-      new q x y a b e = pick (decLt y (length sets))
-        where
-          pick : Dec (y < length sets) → ⊥
-          pick (yes c) = omega (arith, p .distinct x y (omega arith) c (sym (snoc-old sets T x (omega arith)) ∙ e ∙ snoc-old sets T y c))
-          pick (no c) =
-              let k : x < length sets = omega (arith, snoc-length sets T) in
-              true≢false (sym (subst (λ u. has u sets ≡ true) (sym (snoc-old sets T x k) ∙ e ∙ snoc-new sets T y (omega (arith, snoc-length sets T))) (has-at sets x k)) ∙ q)
-
-      go : (t : Bool) → has T sets ≡ t → (x y : ℕ) → x < length (register T sets) → y < length (register T sets) → at (register T sets) x ≡ at (register T sets) y → x ≡ y
-      go true q = rw (register-old T sets q) (p .distinct)
-      go false q = rw (register-new T sets q) (λ x y a b e. pick x y a b e (decLt x y) (decLt y x))
-        where
-          pick : (x y : ℕ) → x < length (sets ++ T ∷ []) → y < length (sets ++ T ∷ []) → at (sets ++ T ∷ []) x ≡ at (sets ++ T ∷ []) y → Dec (x < y) → Dec (y < x) → x ≡ y
-          pick x y a b e (yes h) k = absurd (new q x y h b e)
-          pick x y a b e (no h) (yes k) = absurd (new q y x k a (sym e))
-          pick x y a b e (no h) (no k) = omega arith
-
 -- an atom moved to node y
 pub placing-set : {load : Load} {nodes sets : List ℕ} → Placing load nodes sets → (a y : ℕ) → y < length sets → Placing load (set nodes a y) sets
 placing-set {load} {nodes} {sets} p a y b =
@@ -101,31 +55,28 @@ placing-set {load} {nodes} {sets} p a y b =
     go i l (yes e) = rw (e, getD-set-same nodes a y 0 (omega (arith, p .atoms))) b
     go i l (no d) = rw (getD-set-other nodes a i y 0 d) (p .inside i l)
 
--- the move of atom a to the set T, which has the node y once it is registered
-module _ {load : Load} {nodes sets : List ℕ} (o : InOrder load) (p : Placing load nodes sets) (a T y : ℕ) (few : length (register T sets) ≤ none)
-    (b : y < length (register T sets)) (e : at (register T sets) y ≡ T) (n : ℕ) (wide : length (register T sets) ≤ n) where
-  pub placing-moved : Placing load (set nodes a y) (register T sets)
-  placing-moved = placing-set (placing-register p T few) a y b
+-- the move of atom a to the set T, which has the node y; n is at least the number of nodes
+module _ {load : Load} {nodes sets : List ℕ} (o : InOrder load) (p : Placing load nodes sets) {place : List ℕ} (is : placed nodes sets ≡ place)
+    (a T y : ℕ) (b : y < length sets) (e : at sets y ≡ T) (n : ℕ) (wide : length sets ≤ n) where
+  pub placing-moved : Placing load (set nodes a y) sets
+  placing-moved = placing-set p a y b
 
-  pub placed-moved : placed (set nodes a y) (register T sets) ≡ set (placed nodes sets) a T
-  placed-moved = placed-set nodes (register T sets) a y ∙ ap₂ (λ l X. set l a X) (placed-register p T) e
+  pub placed-moved : placed (set nodes a y) sets ≡ set place a T
+  placed-moved = placed-set nodes sets a y ∙ ap₂ (λ l X. set l a X) is e
 
   -- step 3's test
-  pub moved-cyclic : cyclic (edge load (set (placed nodes sets) a T)) (set (placed nodes sets) a T) ≡ cyclic (node-edge load (set nodes a y) (register T sets)) (below n)
+  pub moved-cyclic : cyclic (edge load (set place a T)) (set place a T) ≡ cyclic (node-edge load (set nodes a y) sets) (below n)
   moved-cyclic = ap (λ q. cyclic (edge load q) q) (sym placed-moved) ∙ sym (cyclic-nodes o placing-moved n wide)
 
   -- what the walk from the target's node marks
-  pub moved-reaches : (x : ℕ) → x < length (register T sets)
-      → via (edge load (set (placed nodes sets) a T)) (set (placed nodes sets) a T) T (at (register T sets) x) ≡ via (node-edge load (set nodes a y) (register T sets)) (below n) y x
-  moved-reaches x c =
-      ap₂ (λ q X. via (edge load q) q X (at (register T sets) x)) (sym placed-moved) (sym e) ∙ sym (via-nodes o placing-moved n wide y x b c)
+  pub moved-reaches : (x : ℕ) → x < length sets → via (edge load (set place a T)) (set place a T) T (at sets x) ≡ via (node-edge load (set nodes a y) sets) (below n) y x
+  moved-reaches x c = ap₂ (λ q X. via (edge load q) q X (at sets x)) (sym placed-moved) (sym e) ∙ sym (via-nodes o placing-moved n wide y x b c)
 
   -- from an acyclic graph, whether it marks that node itself
-  pub moved-decides : a < load .A → cyclic (edge load (placed nodes sets)) (placed nodes sets) ≡ false
-      → cyclic (edge load (set (placed nodes sets) a T)) (set (placed nodes sets) a T) ≡ via (node-edge load (set nodes a y) (register T sets)) (below n) y y
+  pub moved-decides : a < load .A → cyclic (edge load place) place ≡ false → cyclic (edge load (set place a T)) (set place a T) ≡ via (node-edge load (set nodes a y) sets) (below n) y y
   moved-decides l h =
-      target-decides load (placed nodes sets) a T (placed-length nodes sets ∙ p .atoms) l h
-      ∙ ap (λ X. via (edge load (set (placed nodes sets) a T)) (set (placed nodes sets) a T) T X) (sym e) ∙ moved-reaches y b
+      target-decides load place a T (sym (ap length is) ∙ placed-length nodes sets ∙ p .atoms) l h
+      ∙ ap (λ X. via (edge load (set place a T)) (set place a T) T X) (sym e) ∙ moved-reaches y b
 
 -- step 1's test
 pub step1-nodes : {load : Load} {nodes sets : List ℕ} → InOrder load → Placing load nodes sets → (a n : ℕ) → a < load .A → length sets ≤ n

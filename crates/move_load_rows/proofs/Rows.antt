@@ -4,9 +4,9 @@ use native.Mathlib.Nat.{mul-le-mul}
 use mathlib.Core.Path.{_≡_, refl}
 use mathlib.Core.Bool.{Bool, false, not, cond, _||_}
 use mathlib.Core.List.{List, []}
-use lib.Dec.{ltb, eqb}
+use lib.Dec.{leb, ltb, eqb}
 use lib.ListN.{length}
-use borrow.Author.Tests.{ltb-false, eqb-true, not-false}
+use borrow.Author.Tests.{ltb-false, leb-false, eqb-true, not-false}
 use Rattle.graphs.specs.Bools.{or-false-left, or-false-right, and-left, and-right}
 use Rattle.move_ledger.specs.Graph.{owner, lent}
 use Rattle.move_ledger.specs.Loading.{row1, row2, row3, row4, row5, row6, first-row}
@@ -22,8 +22,8 @@ limits a d e n h =
       atoms = ltb-false _ _ (or-false-left (ltb 512 a) _ h);
       entries = ltb-false _ _ (or-false-left (ltb 8192 d) _ y);
       bits = ltb-false _ _ (or-false-left (ltb 256 e) _ z);
-      room = ltb-false _ _ (or-false-left (ltb n a) _ w);
-      sets = ltb-false _ _ (or-false-right (ltb n a) _ w);
+      room = leb-false _ _ (or-false-left (leb n a) _ w);
+      sets = ltb-false _ _ (or-false-right (leb n a) _ w);
     }
 
 -- the square fits

@@ -65,7 +65,7 @@ pub record Limits (a d e n : ℕ) : Type 0 where
   pub atoms : a ≤ 512
   pub entries : d ≤ 8192
   pub bits : e ≤ 256
-  pub room : a ≤ n
+  pub room : a < n
   pub sets : n ≤ 1024
 
 -- row 2 doesn't

@@ -141,7 +141,7 @@ fn over_limits(a: usize, d: usize, e: usize, n: usize) -> bool
     if 256 < e {
         return true;
     }
-    if n < a {
+    if n <= a {
         return true;
     }
     1024 < n

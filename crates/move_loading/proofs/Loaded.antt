@@ -71,7 +71,7 @@ module _ (load : Load) (n : ℕ) (sets l : List ℕ) (r : Loadable-sets load n s
   graph-sized y w e =
       record {
         edges = tab-length _ (n * n);
-        few = r .loadable .sizes .wide;
+        few = omega (arith, r .loadable .sizes .wide);
         words = λ j b. tab-length _ (load .A);
         counts = tab-length _ n;
         marks = length-replicate n 0;
@@ -130,7 +130,7 @@ module _ (load : Load) (n : ℕ) (sets l : List ℕ) (r : Loadable-sets load n s
         ∙ ap (patch 0 M) (renew-counts n (load .A) (startOf load n sets l r) (start-sized load n sets l r) l (tab (members load nodes) n) (tab-length _ n))
         ∙ renew-edges n (load .A) _ (record {
           edges = start-sized load n sets l r .edges;
-          few = r .loadable .sizes .wide;
+          few = omega (arith, r .loadable .sizes .wide);
           words = λ j b. tab-length _ (load .A);
           counts = tab-length _ n;
           marks = length-replicate n 0;

@@ -45,7 +45,7 @@ module _ (load : Load) (n : ℕ) (sets l : List ℕ) (r : Loadable-sets load n s
   start-sized =
       record {
         edges = part-long 0 (n * n) l;
-        few = r .loadable .sizes .wide;
+        few = omega (arith, r .loadable .sizes .wide);
         words = λ j b. tab-length _ (load .A);
         counts = length-replicate n 0;
         marks = length-replicate n 0;
@@ -93,7 +93,7 @@ module _ {load : Load} {n : ℕ} {sets area sources targets heads list : List �
   pub start-can : CanStart area (load .A) (load .E) n sets
   start-can = record {
     room = room-is load n sets area (can .loadable);
-    few = can .loadable .loadable .sizes .wide;
+    few = omega (arith, can .loadable .loadable .sizes .wide);
     nodes = can .loadable .loadable .sizes .sets;
     atoms = can .loadable .loadable .sizes .atoms;
     bits = can .loadable .loadable .sizes .bits;

@@ -7,6 +7,7 @@ use mathlib.Core.Bool.{Bool, true, false, cond}
 use borrow.Rule.Slice.PartMut.{midOf, putMid}
 use mathlib.Core.List.{List}
 use Prim.Native.Nat.{ℕ, _+_, _-_, _*_, _≤_, _<_}
+use lib.Dec.{eqb}
 use lib.ListN.{length, getD, set, replicate}
 use Rattle.layout.specs.Patch.{patch, part, part-long, patch-same}
 use Rattle.layout.specs.Lent.{mid-part, put-patch}
@@ -15,13 +16,18 @@ use Rattle.move_area.specs.Bodies.{laneAt, atomAt}
 use Rattle.move_area.specs.Calls.{last, next}
 use Rattle.move_counter.specs.Marks.{unmarked}
 
--- the set X as node r: its eight words, one registered set more, and no mark
-unfoldable pub registered : ℕ → ℕ → ℕ → List ℕ → List ℕ
-registered n r X l = set (set (setLanes l (laneAt n 0 + r) n X) (n * n) (r + 1)) (laneAt n 9 + r) 0
+-- the set X as node r: its eight words, the number of registered sets, and no mark
+unfoldable pub registered : ℕ → ℕ → ℕ → ℕ → List ℕ → List ℕ
+registered n count r X l = set (set (setLanes l (laneAt n 0 + r) n X) (n * n) count) (laneAt n 9 + r) 0
 
--- node r isn't registered yet, and the area has the lanes
-pub record CanRegister (n r : ℕ) (l : List ℕ) : Type 0 where
-  pub free : r < n
+-- how many sets are registered once one has the place `to`: one more of m where that is the next one
+abbrev pub sets-with : ℕ → ℕ → ℕ
+sets-with m to = cond (eqb to m) (m + 1) m
+
+-- the place is one of n, of which m are taken, and the area has the lanes
+pub record CanRegister (n m to : ℕ) (l : List ℕ) : Type 0 where
+  pub within : to < n
+  pub few : m ≤ n
   pub small : n ≤ 1024
   pub room : atomAt n ≤ length l
 
@@ -29,12 +35,12 @@ pub record CanRegister (n r : ℕ) (l : List ℕ) : Type 0 where
 pub written-long : (n at X : ℕ) (l : List ℕ) {l′ : List ℕ} → l′ ≡ setLanes l at n X → length l′ ≡ length l
 written-long n at X l e = ap length e ∙ length-setStrided l at n (parts 32 8 X)
 
-pub registered-written : (n r X : ℕ) (l : List ℕ) {l′ : List ℕ} → l′ ≡ setLanes l (n * n + 24 + r) n X
-    → set (set l′ (n * n) (r + 1)) (n * n + 24 + 9 * n + r) 0 ≡ registered n r X l
+pub registered-written : (n count r X : ℕ) (l : List ℕ) {l′ : List ℕ} → l′ ≡ setLanes l (n * n + 24 + r) n X
+    → set (set l′ (n * n) count) (n * n + 24 + 9 * n + r) 0 ≡ registered n count r X l
 unfolding registered
-registered-written n r X l e =
+registered-written n count r X l e =
     let q : n * n + 24 + r ≡ laneAt n 0 + r = omega arith in
-    ap (λ (u : List ℕ). set (set u (n * n) (r + 1)) (laneAt n 9 + r) 0) (e ∙ ap (λ i. setLanes l i n X) q)
+    ap (λ (u : List ℕ). set (set u (n * n) count) (laneAt n 9 + r) 0) (e ∙ ap (λ i. setLanes l i n X) q)
 
 -- the walk counter
 abbrev pub counterIn : ℕ → List ℕ → ℕ

@@ -1,76 +1,31 @@
--- Registering a set: an area that holds a state holds it with one registered set more. Assumes nothing.
+-- Registering a set: an area that holds a state holds it with the set in the next place or in that of an empty one. Assumes nothing.
 use mathlib.Core.Path.{_≡_, refl, sym, ap, subst, _∙_}
-use mathlib.Core.Bool.{Bool, true, false, cond, and-false}
-use mathlib.Core.List.{List, [], _∷_, _++_}
-use Prim.Native.Nat.{ℕ, _+_, _-_, _*_, _^_, _≤_, _<_}
+use mathlib.Core.Bool.{false}
+use mathlib.Core.List.{List}
+use Prim.Native.Nat.{ℕ, _+_, _*_, _^_, _≤_, _<_}
 use native.Mathlib.Omega.{arith}
 use native.Mathlib.Nat.{zero-add, mul-le-mul-right}
-use native.Mathlib.Decide.{ℕ-discrete, decLt}
-use lib.Dec.{eqb, ltb}
+use native.Mathlib.Decide.{ℕ-discrete}
 use lib.ListN.{length, getD, set, length-set}
 use lib.Seq.{getD-set-same, getD-set-other, ext-getD}
-use borrow.Author.Tests.{ne-eqb}
-use Rattle.graphs.specs.Count.{count-all-no}
 use Rattle.graphs.specs.Lists.{has}
-use Rattle.graphs.specs.Tab.{tab, tab-length, tab-at, is-tab, tab-alike}
+use Rattle.graphs.specs.Tab.{tab, tab-length, tab-at, is-tab}
 use Rattle.graphs.specs.Square.{index-column}
 use Rattle.layout.specs.Patch.{part, part-long, part-at}
 use Rattle.entry_set.specs.Joined.{parts}
 use Rattle.entry_set.specs.JoinedLaws.{length-parts}
 use Rattle.entry_set.specs.Lanes.{setLanes}
 use Rattle.entry_set.specs.LaneLaws.{length-setStrided, setStrided-other, setStrided-at}
-use Rattle.move_ledger.specs.Graph.{Load, at, owner, members}
-use Rattle.move_ledger.specs.Ledger.{register}
-use Rattle.move_ledger.specs.MoveLaws.{register-old, register-new}
-use Rattle.move_ledger.specs.Nodes.{Placing, highest, fronts, front, face-source, face-target, source, target, sources, targets}
-use Rattle.move_ledger.specs.NodeLaws.{highest-more, highest-ext}
-use Rattle.move_ledger.specs.NodeMoves.{placing-register}
-use Rattle.move_ledger.specs.Sound.{snoc-old, snoc-new, snoc-length}
+use Rattle.move_ledger.specs.Graph.{Load, at, occupied}
+use Rattle.move_ledger.specs.Ledger.{put}
+use Rattle.move_ledger.specs.Places.{put-grows, put-most, put-there, put-same, put-other}
+use Rattle.move_ledger.specs.Nodes.{Placing}
+use Rattle.move_ledger.specs.NodePlaces.{placing-put, sources-put, targets-put}
 use Rattle.move_area.specs.Bodies.{laneAt, atomAt, Bodies, write, Sized}
 use Rattle.move_area.specs.NodeBodies.{Nodes, nodeBodies}
 use Rattle.move_try.specs.Stands.{Stands, nodes-sized, stands-sized, stands-long, counter-at, acyclic-at, edge-at, word-at, count-at, mark-at, component-at, node-at}
 use Rattle.move_try.specs.Areas.{registered}
 use Rattle.move_try.specs.Grown.{Free, is-write}
-
--- a set that has no atom makes no slot
-module _ {load : Load} {nodes sets : List ℕ} (p : Placing load nodes sets) (T : ℕ) where
-  empty : (e : ℕ) → fronts load nodes (sets ++ T ∷ []) e (length sets) ≡ false
-  unfolding members
-  empty e = rw (count-all-no (λ i. eqb (at nodes i) (length sets)) (load .A) (λ i b. ne-eqb (at nodes i) (length sets) (λ q. omega (arith, p .inside i b)))) (and-false (eqb (at (sets ++ T ∷ []) (length sets)) (2 ^ e)))
-
-  front-more : (e : ℕ) → front load nodes (sets ++ T ∷ []) e ≡ front load nodes sets e
-  unfolding front
-  front-more e =
-      ap (highest (fronts load nodes (sets ++ T ∷ []) e)) (snoc-length sets T)
-      ∙ highest-more (fronts load nodes (sets ++ T ∷ []) e) (length sets)
-      ∙ ap (λ t. cond t (length sets) (highest (fronts load nodes (sets ++ T ∷ []) e) (length sets))) (empty e)
-      ∙ highest-ext (fronts load nodes (sets ++ T ∷ []) e) (fronts load nodes sets e) (length sets) (λ x b. rw (snoc-old sets T x b) refl)
-
-  pub sources-more : sources load nodes (sets ++ T ∷ []) ≡ sources load nodes sets
-  unfolding sources source
-  sources-more =
-      tab-alike _ _ (load .D + load .E)
-      (λ k b. ap (λ f. cond (ltb k (load .D)) (at nodes (owner load k)) (face-source f (at (load .hosts) (k - load .D)))) (front-more (k - load .D)))
-
-  pub targets-more : targets load nodes (sets ++ T ∷ []) ≡ targets load nodes sets
-  unfolding targets target
-  targets-more =
-      tab-alike _ _ (load .D + load .E)
-      (λ k b. ap (λ f. cond (ltb k (load .D)) (at nodes (at (load .dependencies) k)) (face-target nodes f (at (load .hosts) (k - load .D)))) (front-more (k - load .D)))
-
-  pub sources-register : sources load nodes (register T sets) ≡ sources load nodes sets
-  sources-register = go (has T sets) refl
-    where
-      go : (t : Bool) → has T sets ≡ t → sources load nodes (register T sets) ≡ sources load nodes sets
-      go true q = rw (register-old T sets q) refl
-      go false q = rw (register-new T sets q) sources-more
-
-  pub targets-register : targets load nodes (register T sets) ≡ targets load nodes sets
-  targets-register = go (has T sets) refl
-    where
-      go : (t : Bool) → has T sets ≡ t → targets load nodes (register T sets) ≡ targets load nodes sets
-      go true q = rw (register-old T sets q) refl
-      go false q = rw (register-new T sets q) targets-more
 
 -- the words of two nodes in two lanes stand apart, and before the other lanes
 apart : (n i j x r : ℕ) → x < n → r < n → (x ≡ r → ⊥) → n * n + 24 + i * n + x ≡ n * n + 24 + j * n + r → ⊥
@@ -80,70 +35,72 @@ lane-below : (n j r : ℕ) → j < 8 → r < n → laneAt n j + r < laneAt n 8
 lane-below n j r h hr = omega (arith, mul-le-mul-right {m = j} {n = 7} n (omega arith))
 
 -- the cells after registering
-module _ (n r X : ℕ) (l : List ℕ) (hr : r < n) (room : atomAt n ≤ length l) where
+module _ (n count r X : ℕ) (l : List ℕ) (hr : r < n) (room : atomAt n ≤ length l) where
   abbrev words : List ℕ
   words = setLanes l (laneAt n 0 + r) n X
 
   abbrev counted : List ℕ
-  counted = set words (n * n) (r + 1)
+  counted = set words (n * n) count
 
   words-long : length words ≡ length l
   words-long = length-setStrided l (laneAt n 0 + r) n (parts 32 8 X)
 
-  pub registered-long : length (registered n r X l) ≡ length l
+  pub registered-long : length (registered n count r X l) ≡ length l
   unfolding registered
   registered-long = simp length-set words-long
 
-  pub registered-far : (k : ℕ) → Free n r k → getD (registered n r X l) k 0 ≡ getD l k 0
+  pub registered-far : (k : ℕ) → Free n r k → getD (registered n count r X l) k 0 ≡ getD l k 0
   unfolding registered
   registered-far k f =
-      getD-set-other counted (laneAt n 9 + r) k 0 0 (f .mark) ∙ getD-set-other words (n * n) k (r + 1) 0 (f .header)
+      getD-set-other counted (laneAt n 9 + r) k 0 0 (f .mark) ∙ getD-set-other words (n * n) k count 0 (f .header)
       ∙ setStrided-other l (laneAt n 0 + r) n (parts 32 8 X) k (λ j h e. f .word j (omega (arith, length-parts 32 8 X)) (omega arith))
 
-  pub registered-word : (j : ℕ) → j < 8 → getD (registered n r X l) (laneAt n j + r) 0 ≡ getD (parts 32 8 X) j 0
+  pub registered-word : (j : ℕ) → j < 8 → getD (registered n count r X l) (laneAt n j + r) 0 ≡ getD (parts 32 8 X) j 0
   unfolding registered
   registered-word j h =
       let b = lane-below n j r h hr in
       let e : laneAt n 0 + r + j * n ≡ laneAt n j + r = omega arith in
-      getD-set-other counted (laneAt n 9 + r) (laneAt n j + r) 0 0 (omega arith) ∙ getD-set-other words (n * n) (laneAt n j + r) (r + 1) 0 (omega arith)
+      getD-set-other counted (laneAt n 9 + r) (laneAt n j + r) 0 0 (omega arith) ∙ getD-set-other words (n * n) (laneAt n j + r) count 0 (omega arith)
       ∙ ap (λ i. getD words i 0) (sym e) ∙ setStrided-at l (laneAt n 0 + r) n (parts 32 8 X) j (omega arith) (omega (arith, length-parts 32 8 X)) (omega arith)
 
-  pub registered-count : getD (registered n r X l) (n * n) 0 ≡ r + 1
+  pub registered-count : getD (registered n count r X l) (n * n) 0 ≡ count
   unfolding registered
-  registered-count = getD-set-other counted (laneAt n 9 + r) (n * n) 0 0 (omega arith) ∙ getD-set-same words (n * n) (r + 1) 0 (omega (arith, words-long))
+  registered-count = getD-set-other counted (laneAt n 9 + r) (n * n) 0 0 (omega arith) ∙ getD-set-same words (n * n) count 0 (omega (arith, words-long))
 
-  pub registered-mark : getD (registered n r X l) (laneAt n 9 + r) 0 ≡ 0
+  pub registered-mark : getD (registered n count r X l) (laneAt n 9 + r) 0 ≡ 0
   unfolding registered
-  registered-mark = getD-set-same counted (laneAt n 9 + r) 0 0 (omega (arith, words-long, length-set words (n * n) (r + 1)))
+  registered-mark = getD-set-same counted (laneAt n 9 + r) 0 0 (omega (arith, words-long, length-set words (n * n) count))
 
--- one registered set more, without a mark
-abbrev pub with-set : Nodes → ℕ → Nodes
-with-set s T = record { sets = s .sets ++ T ∷ []; nodes = s .nodes; counter = s .counter; marks = set (s .marks) (length (s .sets)) 0 }
+-- the set T in place r, without a mark
+abbrev pub with-set : Nodes → ℕ → ℕ → Nodes
+with-set s r T = record { sets = put r T (s .sets); nodes = s .nodes; counter = s .counter; marks = set (s .marks) r 0 }
 
-module _ {load : Load} {N : ℕ} {s : Nodes} {l₀ l : List ℕ} (v : Stands load N s l₀ l) (T : ℕ) (new : has T (s .sets) ≡ false) (free : length (s .sets) < N) (wide : T < 2 ^ 256) where
-  abbrev r : ℕ
-  r = length (s .sets)
+-- T is unseen, and r is the next node or one that has no atom
+module _ {load : Load} {N : ℕ} {s : Nodes} {l₀ l : List ℕ} (v : Stands load N s l₀ l) (r T : ℕ) (new : has T (s .sets) ≡ false) (within : r ≤ length (s .sets))
+    (free : r < N) (empty : occupied load (s .nodes) r ≡ false) (wide : T < 2 ^ 256) where
+  abbrev sets′ : List ℕ
+  sets′ = put r T (s .sets)
 
   abbrev l′ : List ℕ
-  l′ = registered N r T l
+  l′ = registered N (length (put r T (s .sets))) r T l
 
-  few : length (s .sets ++ T ∷ []) ≡ r + 1
-  few = snoc-length (s .sets) T
+  few : length sets′ ≤ N
+  few = put-most r T (s .sets) within N (v .few) free
 
-  placing : Placing load (s .nodes) (s .sets ++ T ∷ [])
-  placing = subst (Placing load (s .nodes)) (register-new T (s .sets) new) (placing-register (v .placing) T (rw (register-new T (s .sets) new) (omega (arith, few, v .small))))
+  placing : Placing load (s .nodes) sets′
+  placing = placing-put (v .placing) r T within empty new (omega (arith, few, v .small))
 
   long : length (set (s .marks) r 0) ≡ N
   long = length-set (s .marks) r 0 ∙ v .long
 
-  sized : Sized N (load .A) (nodeBodies load N (with-set s T))
-  sized = nodes-sized load N (with-set s T) placing (omega (arith, few)) long
+  sized : Sized N (load .A) (nodeBodies load N (with-set s r T))
+  sized = nodes-sized load N (with-set s r T) placing few long
 
   space : atomAt N ≤ length l
   space = omega (arith, v .room, stands-long v)
 
   far : (k : ℕ) → Free N r k → getD l′ k 0 ≡ getD l k 0
-  far = registered-far N r T l free space
+  far = registered-far N (length sets′) r T l free space
 
   -- a lane that isn't one of words or marks is as before
   kept : (b k : ℕ) (w : List ℕ) → length w ≡ k → ((x : ℕ) → x < k → getD l (b + x) 0 ≡ getD w x 0) → ((x : ℕ) → x < k → Free N r (b + x)) → part b k l′ ≡ w
@@ -159,49 +116,52 @@ module _ {load : Load} {N : ℕ} {s : Nodes} {l₀ l : List ℕ} (v : Stands loa
   b₁ =
       record {
         edges = b₀ .edges;
-        registered = length (s .sets ++ T ∷ []);
+        registered = length (put r T (s .sets));
         counter = s .counter;
         acyclic = b₀ .acyclic;
-        words = λ j. tab (λ x. getD (parts 32 8 (at (s .sets ++ T ∷ []) x)) j 0) (length (s .sets ++ T ∷ []));
+        words = λ j. tab (λ x. getD (parts 32 8 (at (put r T (s .sets)) x)) j 0) (length (put r T (s .sets)));
         counts = b₀ .counts;
         marks = set (s .marks) r 0;
         component = b₀ .component;
         nodes = s .nodes;
       }
 
-  same : b₁ ≡ nodeBodies load N (with-set s T)
+  same : b₁ ≡ nodeBodies load N (with-set s r T)
   unfolding nodeBodies
-  same = rw (sources-more (v .placing) T, targets-more (v .placing) T) refl
+  same = rw (sources-put (v .placing) r T within empty, targets-put (v .placing) r T within empty) refl
 
-  word : (j : ℕ) → j < 8 → part (laneAt N j) (length (s .sets ++ T ∷ [])) l′ ≡ tab (λ x. getD (parts 32 8 (at (s .sets ++ T ∷ []) x)) j 0) (length (s .sets ++ T ∷ []))
-  word j h = is-tab _ _ _ (part-long (laneAt N j) _ l′) (λ x z. part-at (laneAt N j) (length (s .sets ++ T ∷ [])) l′ x z ∙ go x z (decLt x r))
+  word : (j : ℕ) → j < 8 → part (laneAt N j) (length sets′) l′ ≡ tab (λ x. getD (parts 32 8 (at sets′ x)) j 0) (length sets′)
+  word j h = is-tab _ _ _ (part-long (laneAt N j) _ l′) (λ x z. part-at (laneAt N j) (length sets′) l′ x z ∙ go x z (ℕ-discrete x r))
     where
-      go : (x : ℕ) → x < length (s .sets ++ T ∷ []) → Dec (x < r) → getD l′ (laneAt N j + x) 0 ≡ getD (parts 32 8 (at (s .sets ++ T ∷ []) x)) j 0
-      go x z (yes y) =
+      go : (x : ℕ) → x < length sets′ → Dec (x ≡ r) → getD l′ (laneAt N j + x) 0 ≡ getD (parts 32 8 (at sets′ x)) j 0
+      go x z (yes e) =
+          ap (λ i. getD l′ (laneAt N j + i) 0) e ∙ registered-word N (length sets′) r T l free space j h
+          ∙ ap (λ X. getD (parts 32 8 X) j 0) (sym (ap (at sets′) e ∙ put-same r T (s .sets) within))
+      go x z (no d) =
+          let o = put-other r T (s .sets) within x z d in
           far (laneAt N j + x) (record {
             header = λ e. omega arith;
-            mark = λ e. omega (arith, lane-below N j x h (omega arith));
-            word = λ i q e. apart N j i x r (omega arith) free (omega arith) e;
+            mark = λ e. omega (arith, lane-below N j x h (omega (arith, few)));
+            word = λ i q e. apart N j i x r (omega (arith, few)) free d e;
           })
-          ∙ word-at v x y j h ∙ ap (λ X. getD (parts 32 8 X) j 0) (sym (snoc-old (s .sets) T x y))
-      go x z (no y) =
-          let e : x ≡ r = omega (arith, few) in
-          ap (λ i. getD l′ (laneAt N j + i) 0) e ∙ registered-word N r T l free space j h ∙ ap (λ X. getD (parts 32 8 X) j 0) (sym (snoc-new (s .sets) T x e))
+          ∙ word-at v x (o .0) j h ∙ ap (λ X. getD (parts 32 8 X) j 0) (sym (o .1))
 
   marks : part (laneAt N 9) N l′ ≡ set (s .marks) r 0
   marks = ext-getD 0 (part (laneAt N 9) N l′) (set (s .marks) r 0) (part-long (laneAt N 9) N l′ ∙ sym long) (λ x z.
       let y : x < N = omega (arith, part-long (laneAt N 9) N l′) in part-at (laneAt N 9) N l′ x y ∙ go x y (ℕ-discrete x r))
     where
       go : (x : ℕ) → x < N → Dec (x ≡ r) → getD l′ (laneAt N 9 + x) 0 ≡ getD (set (s .marks) r 0) x 0
-      go x y (yes e) = ap (λ i. getD l′ (laneAt N 9 + i) 0) e ∙ registered-mark N r T l free space ∙ sym (ap (λ i. getD (set (s .marks) r 0) i 0) e ∙ getD-set-same (s .marks) r 0 0 (omega (arith, v .long)))
+      go x y (yes e) =
+          ap (λ i. getD l′ (laneAt N 9 + i) 0) e ∙ registered-mark N (length sets′) r T l free space
+          ∙ sym (ap (λ i. getD (set (s .marks) r 0) i 0) e ∙ getD-set-same (s .marks) r 0 0 (omega (arith, v .long)))
       go x y (no e) = far (laneAt N 9 + x) (lane-free 9 x (omega arith) (λ q. e (omega arith))) ∙ mark-at v x y ∙ sym (getD-set-other (s .marks) r x 0 0 e)
 
   whole : l′ ≡ write N b₁ l₀
   unfolding nodeBodies
   whole =
-      is-write N (load .A) b₀ b₁ (stands-sized v) (subst (Sized N (load .A)) (sym same) sized) (omega (arith, few)) l₀ l′ r (omega (arith, few)) free (registered-long N r T l free space ∙ stands-long v)
+      is-write N (load .A) b₀ b₁ (stands-sized v) (subst (Sized N (load .A)) (sym same) sized) (put-grows r T (s .sets) within) l₀ l′ r (put-there r T (s .sets) within) free (registered-long N (length sets′) r T l free space ∙ stands-long v)
       (kept 0 (N * N) (b₀ .edges) (tab-length _ (N * N)) (λ x h. ap (λ k. getD l k 0) (zero-add x) ∙ edge-at v x h ∙ sym (tab-at _ (N * N) x h)) (λ x h. record { header = λ e. omega arith; mark = λ e. omega arith; word = λ j q e. omega arith }))
-      (registered-count N r T l free space ∙ sym few)
+      (registered-count N (length sets′) r T l free space)
       (far (N * N + 1) (record { header = λ e. omega arith; mark = λ e. omega arith; word = λ j q e. omega arith }) ∙ counter-at v)
       (far (N * N + 2) (record { header = λ e. omega arith; mark = λ e. omega arith; word = λ j q e. omega arith }) ∙ acyclic-at v)
       word
@@ -211,23 +171,23 @@ module _ {load : Load} {N : ℕ} {s : Nodes} {l₀ l : List ℕ} (v : Stands loa
       (kept (atomAt N) (load .A) (s .nodes) (v .placing .atoms) (λ x h. node-at v x h) (λ x h. lane-free 24 x (omega arith) (λ e. omega arith)))
       (λ k h f. far k f ∙ ap (λ (u : List ℕ). getD u k 0) (v .is))
 
-  pub stands-registered : Stands load N (with-set s T) l₀ l′
+  pub stands-registered : Stands load N (with-set s r T) l₀ l′
   stands-registered =
       record {
         order = v .order;
         small = v .small;
         room = v .room;
         placing = placing;
-        few = omega (arith, few);
-        wide = λ x h. high x h (decLt x r);
+        few = few;
+        wide = λ x h. high x h (ℕ-discrete x r);
         long = long;
         marks = λ x h. low x h (ℕ-discrete x r);
         is = whole ∙ ap (λ b. write N b l₀) same;
       }
     where
-      high : (x : ℕ) → x < length (s .sets ++ T ∷ []) → Dec (x < r) → at (s .sets ++ T ∷ []) x < 2 ^ 256
-      high x h (yes y) = rw (snoc-old (s .sets) T x y) (v .wide x y)
-      high x h (no y) = rw (snoc-new (s .sets) T x (omega (arith, few))) wide
+      high : (x : ℕ) → x < length sets′ → Dec (x ≡ r) → at sets′ x < 2 ^ 256
+      high x h (yes e) = rw (e, put-same r T (s .sets) within) wide
+      high x h (no d) = let o = put-other r T (s .sets) within x h d in rw (o .1) (v .wide x (o .0))
 
       low : (x : ℕ) → x < N → Dec (x ≡ r) → at (set (s .marks) r 0) x ≤ s .counter
       low x h (yes e) = rw (e, getD-set-same (s .marks) r 0 0 (omega (arith, v .long))) (omega arith)

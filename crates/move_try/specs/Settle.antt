@@ -17,13 +17,11 @@ use Rattle.graph_walks.specs.Marks.{marking}
 use Rattle.layout.specs.Patch.{part, part-long, part-at}
 use Rattle.move_edges.specs.Matrix.{matrix}
 use Rattle.move_ledger.specs.Graph.{Load, at, members}
-use Rattle.move_ledger.specs.Ledger.{register}
 use Rattle.move_ledger.specs.LoadLaws.{Loadable}
-use Rattle.move_ledger.specs.MoveLaws.{register-old}
 use Rattle.move_ledger.specs.Nodes.{Placing, sources, targets, node-edge}
-use Rattle.move_ledger.specs.NodeMoves.{placing-set}
+use Rattle.move_ledger.specs.NodeMoves.{placing-set, moved-cyclic, moved-decides}
 use Rattle.move_slots.specs.SlotLaws.{Slotted, slotted-edge, slotted-ends, slotted-flat}
-use Rattle.move_ledger.specs.NodeWalks.{ends-nodes}
+use Rattle.move_ledger.specs.NodeWalks.{cyclic-nodes, ends-nodes}
 use Rattle.move_area.specs.Bodies.{atomAt}
 use Rattle.move_area.specs.Area.{setsIn}
 use Rattle.move_area.specs.Checked.{nodesIn, nodesState}
@@ -33,7 +31,7 @@ use Rattle.move_slots.specs.Filled.{CanFillOwn, Filled}
 use Rattle.move_try.specs.Stands.{Stands, stands-long, registered-at, counter-at, acyclic-at, edge-at, sets-in, mark-at, node-at, marks-part, nodes-part}
 use Rattle.move_try.specs.Areas.{counterIn, raised, committed}
 use Rattle.move_try.specs.Changes.{with-marks, with-node, with-raised, stands-marks, stands-raised, raised-fresh, stands-committed}
-use Rattle.move_try.specs.Outcome.{Trial, with-test, walk-marks, test-walk}
+use Rattle.move_try.specs.Outcome.{with-test, walk-marks}
 use Rattle.move_try.specs.Test.{CanTest, walk-area, closes, tested, marked-long}
 use Rattle.move_try.specs.Commit.{CanCommit}
 use Rattle.move_try.specs.Trial.{CanTrial}
@@ -81,25 +79,11 @@ module _ {load : Load} {N : ℕ} {s : Nodes} {l₀ l : List ℕ} (v : Stands loa
   unfolding closes
   closes-cyclic q ha hy = rw (q, flag) (go was refl)
     where
-      same : register (at (s .sets) y) (s .sets) ≡ s .sets
-      same = register-old (at (s .sets) y) (s .sets) (has-at (s .sets) y hy)
-
-      trial : Trial load N s a (at (s .sets) y) y
-      trial =
-          record {
-            order = v .order;
-            placing = v .placing;
-            small = v .small;
-            wide = rw same (v .few);
-            long = v .long;
-            atom = ha;
-            node = rw same hy;
-            set = rw same refl;
-          }
-
       go : (t : Bool) → was ≡ t → cond t (cyclic E (below N)) (via E (below N) y y) ≡ cyclic E (below N)
       go true h = refl
-      go false h = sym (rw same at (test-walk trial h))
+      go false h =
+          sym (moved-decides (v .order) (v .placing) refl a (at (s .sets) y) y hy refl N (v .few) ha (sym (cyclic-nodes (v .order) (v .placing) N (v .few)) ∙ h))
+          ∙ moved-cyclic (v .order) (v .placing) refl a (at (s .sets) y) y hy refl N (v .few)
 
 -- the area holds the state that it names, and the target is a registered node
 pub record CanSettle (load : Load) (n : ℕ) (area : List ℕ) (atom to : ℕ) : Type 0 where

@@ -4,18 +4,22 @@ use mathlib.Core.Bool.{Bool, true, false, not, cond, _&&_}
 use mathlib.Core.List.{List}
 use Prim.Native.Nat.{ℕ, _+_, _*_, _^_, _≤_, _<_}
 use native.Mathlib.Omega.{arith}
+use native.Mathlib.Decide.{decLt}
 use lib.Dec.{eqb}
 use lib.ListN.{length, getD, set}
-use borrow.Author.Tests.{eq-eqb, ne-eqb}
+use borrow.Author.Tests.{eqb-true, eq-eqb, ne-eqb}
 use Rattle.graphs.specs.Lists.{has, below}
 use Rattle.graphs.specs.Walk.{cyclic}
 use Rattle.entry_set.specs.Sets.{value, legal}
 use Rattle.entry_set.specs.SetLaws.{below-256}
 use Rattle.move_ledger.specs.Graph.{Load, at}
-use Rattle.move_ledger.specs.Answer.{Answer, refused, accepted, rejected}
-use Rattle.move_ledger.specs.Ledger.{register, step1, full, move}
+use Rattle.move_ledger.specs.Answer.{Answer, accepted, rejected}
+use Rattle.move_ledger.specs.Ledger.{put, step1, move}
+use Rattle.move_ledger.specs.Places.{put-inside, put-behind}
+use Rattle.move_ledger.specs.Evict.{Free, place-free}
 use Rattle.move_ledger.specs.LoadLaws.{Loadable}
 use Rattle.move_ledger.specs.Nodes.{placed, node-edge}
+use Rattle.move_ledger.specs.NodePlaces.{placing-apart, Kept, register-kept}
 use Rattle.set_order.specs.Order.{laneSet, First}
 use Rattle.set_order.specs.Steps.{CanFind}
 use Rattle.move_area.specs.Bodies.{laneAt, atomAt, write}
@@ -26,21 +30,19 @@ use Rattle.move_area.specs.Checked.{nodesIn, nodesState}
 use Rattle.move_area.specs.NodeBodies.{Nodes, nodeBodies}
 use Rattle.move_area.specs.Calls.{after}
 use Rattle.move_try.specs.declared.Tried.{Tried}
-use Rattle.move_try.specs.declared.Tried.the-variants.{Accepted, Rejected, Full}
+use Rattle.move_try.specs.declared.Tried.the-variants.{Accepted, Rejected}
 use Rattle.move_try.specs.Stands.{Stands, stands-sized, stands-long, registered-at, counter-at, sets-in, node-at, marks-part, nodes-part, stands-encode, consistent-stands}
-use Rattle.move_try.specs.Areas.{registered}
+use Rattle.move_try.specs.Areas.{registered, sets-with, CanRegister}
 use Rattle.move_try.specs.Changes.{with-node}
 use Rattle.move_try.specs.Grown.{write-over}
-use Rattle.move_try.specs.Registering.{sources-register, targets-register}
-use Rattle.move_try.specs.Outcome.{Trial, with-target, with-test, stands-target, trial-rejected, trial-accepted, early-rejected, early-full}
-use Rattle.move_try.specs.Early.{Place, outside-step1, target-new, target-node, room-full}
+use Rattle.move_try.specs.Outcome.{Trial, next-place, with-target-sets, with-target, target-area, with-test, stands-target, trial-rejected, trial-accepted, early-rejected}
+use Rattle.move_try.specs.Early.{CanPlace, Place, outside-step1, target-new, place-is, target-node, place-below}
 use Rattle.move_try.specs.Settle.{CanSettle, Settled}
 
--- the ledger's answer: `Full` is row 13
+-- the ledger's answer
 abbrev pub answerOf : Tried → Answer
 answerOf Accepted = accepted
 answerOf Rejected = rejected
-answerOf Full = refused 13
 
 -- the rows 1 to 6 and 9 to 12 don't fit
 pub record CanTry (load : Load) (n : ℕ) (area : List ℕ) (atom T : ℕ) : Type 0 where
@@ -135,35 +137,59 @@ module _ {load : Load} {n : ℕ} {area : List ℕ} {atom T : ℕ} (can : CanTry 
           numbers = omega (arith, try-stands .small);
         }
 
-    module _ {y : ℕ} (f : Place area n m T y) {r : Bool} (s1 : r ≡ step1 load (placed (nodesIn load n area) (setsIn n area)) atom) (left : r ≡ false) where
-      first : First (laneSet area (n * n + 24) n) (length (setsIn n area)) T y
-      first = subst (λ k. First (laneSet area (n * n + 24) n) k T y) registered-many (f .first)
+    pub try-place : CanPlace area n
+    try-place = record { small = try-stands .small; room = omega (arith, try-room) }
 
-      row13 : eqb y n ≡ full n (setsIn n area) T
-      row13 = room-full try-stands T y first
+    module _ {x : ℕ} (f : First (laneSet area (n * n + 24) n) m T x) {y : ℕ} (p : Place area n x y) {r : Bool} (s1 : r ≡ step1 load (placed (nodesIn load n area) (setsIn n area)) atom)
+        (left : r ≡ false) where
+      first : First (laneSet area (n * n + 24) n) (length (setsIn n area)) T x
+      first = subst (λ k. First (laneSet area (n * n + 24) n) k T x) registered-many f
 
-      -- row 13
-      pub try-full : y ≡ n → Answers load n area atom T (answerOf Full) area
-      unfolding decode
-      try-full h = record {
-        of = λ w e legal.
-            let z = early-full load n (decode load n area) atom w (can .there) legal (same w e) (sym s1 ∙ left) (rw e (sym row13 ∙ eq-eqb y n h)) in
-            (sym (z .0), sym (consistent-whole load n area (can .sane)) ∙ ap (λ u. encode load n u area) (sym (z .1)));
-      }
+      more : load .A < n
+      more = can .loadable .sizes .wide
 
-      module _ (free : y ≡ n → ⊥) {l₁ : List ℕ} (e₁ : l₁ ≡ cond (eqb y m) (registered n m T area) area) where
-        target : Stands load n (with-target st T) area l₁
-        target =
-            subst (Stands load n (with-target st T) area)
-            (sym (e₁ ∙ ap (λ k. cond (eqb y k) (registered n k T area) area) registered-many ∙ ap (λ b. cond b (registered n (length (setsIn n area)) T area) area) (target-new try-stands T y first) ∙ turned (has T (setsIn n area))))
-            (stands-target try-stands T (sym row13 ∙ ne-eqb y n free) (below-256 (can .loadable .sizes .bits) (can .range)))
+      node : (y < length (with-target-sets load n st T)) × (at (with-target-sets load n st T) y ≡ T)
+      node = target-node try-stands T x first more y p
+
+      pub try-register : CanRegister n m y area
+      try-register =
+          record {
+            within = place-below try-stands T x first more y p;
+            few = omega (arith, registered-many, try-stands .few);
+            small = try-stands .small;
+            room = omega (arith, try-room);
+          }
+
+      module _ {l₁ : List ℕ} (e₁ : l₁ ≡ cond (eqb x m) (registered n (sets-with m y) y T area) area) where
+        -- what `register` writes
+        written : l₁ ≡ target-area load n st T area
+        written = e₁ ∙ ap (λ b. cond b (registered n (sets-with m y) y T area) area) (ap (eqb x) registered-many ∙ target-new try-stands T x first) ∙ go (has T (setsIn n area)) refl
           where
-            turned : (b : Bool) → cond (not b) (registered n (length (setsIn n area)) T area) area ≡ cond b area (registered n (length (setsIn n area)) T area)
-            turned true = refl
-            turned false = refl
+            free : Free load n (placed (nodesIn load n area) (setsIn n area)) (setsIn n area) (next-place load n st)
+            free = place-free load n (placed (nodesIn load n area) (setsIn n area)) (setsIn n area) (placing-apart (try-stands .placing)) (try-stands .few) more
 
-        node : (y < length (register T (setsIn n area))) × (at (register T (setsIn n area)) y ≡ T)
-        node = target-node try-stands T y first
+            counted : (r : ℕ) → r ≤ length (setsIn n area) → sets-with m r ≡ length (put r T (setsIn n area))
+            counted r within = pick (decLt r (length (setsIn n area)))
+              where
+                pick : Dec (r < length (setsIn n area)) → sets-with m r ≡ length (put r T (setsIn n area))
+                pick (yes h) = rw (ne-eqb r m (omega (arith, registered-many))) (registered-many ∙ sym (put-inside r T (setsIn n area) within h))
+                pick (no h) =
+                    let e : r ≡ length (setsIn n area) = omega arith in
+                    rw (eq-eqb r m (e ∙ sym registered-many)) (ap (λ k. k + 1) registered-many ∙ sym (put-behind r T (setsIn n area) within e))
+
+            go : (b : Bool) → has T (setsIn n area) ≡ b → cond (not b) (registered n (sets-with m y) y T area) area ≡ cond b area (registered n (length (put (next-place load n st) T (setsIn n area))) (next-place load n st) T area)
+            go true q = refl
+            go false q =
+                let e : y ≡ next-place load n st = place-is try-stands T x first more y p (eqb-true x (length (setsIn n area)) (target-new try-stands T x first ∙ ap not q)) in
+                rw (e, counted (next-place load n st) (free .within)) refl
+
+        target : Stands load n (with-target load n st T) area l₁
+        target =
+            subst (Stands load n (with-target load n st T) area) (sym written)
+            (stands-target try-stands more T (below-256 (can .loadable .sizes .bits) (can .range)))
+
+        kept : Kept load n (nodesIn load n area) (setsIn n area) (with-target-sets load n st T)
+        kept = register-kept (try-stands .placing) (try-stands .few) more (omega (arith, try-stands .small)) T
 
         trial : Trial load n st atom T y
         trial =
@@ -171,14 +197,14 @@ module _ {load : Load} {n : ℕ} {area : List ℕ} {atom T : ℕ} (can : CanTry 
               order = try-stands .order;
               placing = try-stands .placing;
               small = try-stands .small;
-              wide = target .few;
-              long = try-stands .long;
+              few = try-stands .few;
+              more = more;
               atom = can .there;
               node = node .0;
               set = node .1;
             }
 
-        named : nodesState load n l₁ ≡ with-target st T
+        named : nodesState load n l₁ ≡ with-target load n st T
         named = stands-named target
 
         pub try-settle : CanSettle load n l₁ atom y
@@ -191,8 +217,8 @@ module _ {load : Load} {n : ℕ} {area : List ℕ} {atom T : ℕ} (can : CanTry 
             }
 
         -- the graph before is the same with the target registered
-        present : cyclic (node-edge load (nodesIn load n area) (register T (setsIn n area))) (below n) ≡ cyclic (node-edge load (nodesIn load n area) (setsIn n area)) (below n)
-        present = rw (sources-register (try-stands .placing) T, targets-register (try-stands .placing) T) refl
+        present : cyclic (node-edge load (nodesIn load n area) (with-target-sets load n st T)) (below n) ≡ cyclic (node-edge load (nodesIn load n area) (setsIn n area)) (below n)
+        present = rw (kept .sources, kept .targets) refl
 
         abbrev tested : Nodes → Nodes
         tested z = with-test load n z atom y (cyclic (node-edge load (z .nodes) (z .sets)) (below n))
@@ -202,26 +228,26 @@ module _ {load : Load} {n : ℕ} {area : List ℕ} {atom T : ℕ} (can : CanTry 
           unfolding decode
           try-accepted z = record {
             of = λ w e legal.
-                let x = trial-accepted trial w e legal (can .other) (sym s1 ∙ left) (sym row13 ∙ ne-eqb y n free) says in
+                let x = trial-accepted trial w e legal (can .other) (sym s1 ∙ left) says in
                 (sym (x .0), stands-encode held ∙ ap (λ u. encode load n u area) (rw present (sym (x .1))));
           }
             where
-              says : cyclic (node-edge load (set (nodesIn load n area) atom y) (register T (setsIn n area))) (below n) ≡ false
+              says : cyclic (node-edge load (set (nodesIn load n area) atom y) (with-target-sets load n st T)) (below n) ≡ false
               says = subst (λ z. cyclic (node-edge load (set (z .nodes) atom y) (z .sets)) (below n) ≡ false) named (z .says)
 
-              held : Stands load n (with-node (tested (with-target st T)) atom y) area l₂
+              held : Stands load n (with-node (tested (with-target load n st T)) atom y) area l₂
               held = stands-over target (subst (λ z. Stands load n (with-node (tested z) atom y) l₁ l₂) named (z .stands)) (omega arith)
 
           pub try-stays : Settled load n l₁ atom y false l₂ → Answers load n area atom T (answerOf Rejected) l₂
           unfolding decode
           try-stays z = record {
             of = λ w e legal.
-                let x = trial-rejected trial w e legal (can .other) (sym s1 ∙ left) (sym row13 ∙ ne-eqb y n free) says in
+                let x = trial-rejected trial w e legal (can .other) (sym s1 ∙ left) says in
                 (sym (x .0), stands-encode held ∙ ap (λ u. encode load n u area) (rw present (sym (x .1))));
           }
             where
-              says : cyclic (node-edge load (set (nodesIn load n area) atom y) (register T (setsIn n area))) (below n) ≡ true
+              says : cyclic (node-edge load (set (nodesIn load n area) atom y) (with-target-sets load n st T)) (below n) ≡ true
               says = subst (λ z. cyclic (node-edge load (set (z .nodes) atom y) (z .sets)) (below n) ≡ true) named (z .says)
 
-              held : Stands load n (tested (with-target st T)) area l₂
+              held : Stands load n (tested (with-target load n st T)) area l₂
               held = stands-over target (subst (λ z. Stands load n (tested z) l₁ l₂) named (z .stands)) (omega arith)

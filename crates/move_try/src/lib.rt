@@ -1,4 +1,4 @@
-// A move on a consistent area, after the checks up to row 12: steps 1 to 3 and row 13.
+// A move on a consistent area, after the checks up to row 12: steps 1 to 3.
 ghost use Rattle.move_ledger.specs.Graph.{lent};
 ghost use Rattle.entry_set.specs.Sets.{number};
 ghost use Rattle.move_try.specs.Tried.{answerOf, CanTry, Answers};
@@ -7,7 +7,6 @@ ghost use Rattle.move_try.specs.Tried.{answerOf, CanTry, Answers};
 pub enum Tried {
     Accepted,
     Rejected,
-    Full,
 }
 
 mod early;
@@ -34,16 +33,13 @@ pub fn try_checked(
 {
     let square = n * n;
     let from = area[square + 24 + 24 * n + atom] as usize;
-    let registered = area[square] as usize;
-    let to = early::place(area, n, registered, target);
-    let outside = early::outside(area, n, from);
-    if outside {
+    if early::outside(area, n, from) {
         return Tried::Rejected;
     }
-    if to == n {
-        return Tried::Full;
-    }
-    writes::register(area, n, registered, to, target);
+    let registered = area[square] as usize;
+    let node = early::find(area, n, registered, target);
+    let to = early::place(area, n, node);
+    writes::register(area, n, registered, node, to, target);
     if settle::settle(a, d, e, n, starts, dependencies, hosts, area, atom, to) {
         return Tried::Accepted;
     }

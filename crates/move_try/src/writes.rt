@@ -8,27 +8,45 @@ ghost use Rattle.entry_set.specs.Sets.{number};
 ghost use Rattle.move_area.specs.Calls.{next};
 ghost use Rattle.layout.specs.Patch.{patch, part};
 ghost use Rattle.move_edges.specs.Matrix.{matrix};
-ghost use Rattle.move_try.specs.Areas.{registered, counterIn, raised, committed, CanRegister};
+ghost use Rattle.move_try.specs.Areas.{registered, sets-with, counterIn, raised, committed, CanRegister};
 ghost use Rattle.move_try.specs.Commit.{CanFollow, CanCommit};
 
-// Step 2: the set becomes a node.
-fn add_node(area: &mut [u32], n: usize, r: usize, s: entry_set::EntrySet)
-    requires { ⌜ CanRegister n r (now area) ⌝ }
-    ensures { λ _. ⌜ now (area .exit) ≡ registered n r (number s) (now (area .entry)) ⌝ }
+// How many sets are registered once one has the place `to`, of m so far: one more where that is the next one.
+fn count_with(m: usize, to: usize) -> u32
+    requires { ⌜ m ≤ 1024 ⌝ }
+    ensures { λ r. ⌜ r ≡ sets-with m to ⌝ }
 {
-    let square = n * n;
-    entry_set::write_lanes(area, square + 24 + r, n, s);
-    area[square] = r as u32 + 1;
-    area[square + 24 + 9 * n + r] = 0;
+    if to == m {
+        return m as u32 + 1;
+    }
+    m as u32
 }
 
-// Step 2: the target's set is registered where its place `to` is the next free one, else it is a node already.
-pub fn register(area: &mut [u32], n: usize, r: usize, to: usize, s: entry_set::EntrySet)
-    requires { ⌜ CanRegister n to (now area) ⌝ }
-    ensures { λ _. ⌜ now (area .exit) ≡ cond (eqb to r) (registered n r (number s) (now (area .entry))) (now (area .entry)) ⌝ }
+// Step 2: the set becomes the node `to`, of m so far: the next one, or one that is empty.
+fn add_node(area: &mut [u32], n: usize, m: usize, to: usize, s: entry_set::EntrySet)
+    requires { ⌜ CanRegister n m to (now area) ⌝ }
+    ensures { λ _. ⌜ now (area .exit) ≡ registered n (sets-with m to) to (number s) (now (area .entry)) ⌝ }
 {
-    if to == r {
-        add_node(area, n, r, s);
+    let square = n * n;
+    entry_set::write_lanes(area, square + 24 + to, n, s);
+    area[square] = count_with(m, to);
+    area[square + 24 + 9 * n + to] = 0;
+}
+
+// Step 2: the target's set is registered at the place `to` where it is unseen, so that `node`, its node of m, is m.
+pub fn register(
+    area: &mut [u32],
+    n: usize,
+    m: usize,
+    node: usize,
+    to: usize,
+    s: entry_set::EntrySet,
+)
+    requires { ⌜ CanRegister n m to (now area) ⌝ }
+    ensures { λ _. ⌜ now (area .exit) ≡ cond (eqb node m) (registered n (sets-with m to) to (number s) (now (area .entry))) (now (area .entry)) ⌝ }
+{
+    if node == m {
+        add_node(area, n, m, to, s);
     }
 }
 

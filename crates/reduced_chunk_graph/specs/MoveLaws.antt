@@ -2,71 +2,47 @@
 use Prim.Native.Nat.{ℕ, _+_, _*_, _≤_, _<_}
 use native.Mathlib.Omega.{arith}
 use mathlib.Core.Path.{_≡_, refl, sym, ap, _∙_}
-use mathlib.Core.Bool.{Bool, true, false, not, cond, _&&_, true≢false}
+use mathlib.Core.Bool.{Bool, true, false, cond}
 use mathlib.Core.List.{List}
-use lib.Dec.{leb, ltb, eqb}
+use lib.Dec.{eqb}
 use lib.ListN.{length, getD}
-use borrow.Author.Tests.{le-leb, lt-leb, le-ltb, leb-true, eqb-true, eqb-false, eq-eqb, ne-eqb}
-use Rattle.graphs.specs.Walk.{cyclic}
+use borrow.Author.Tests.{le-leb, lt-leb, eqb-true, eqb-false, eq-eqb, ne-eqb}
 use Rattle.layout.specs.Patch.{part-at}
 use Rattle.entry_set.specs.Sets.{value, legal}
 use Rattle.entry_set.specs.SetLaws.{legal-below}
 use Rattle.entry_set.specs.Lanes.{lanes}
-use Rattle.move_ledger.specs.Graph.{Load, at, edge}
+use Rattle.move_ledger.specs.Graph.{Load, at}
 use Rattle.move_ledger.specs.Answer.{Answer, refused, is-refused}
-use Rattle.move_ledger.specs.Ledger.{step1, step2, step3, full, move}
-use Rattle.move_ledger.specs.MoveLaws.{steps}
+use Rattle.move_ledger.specs.Ledger.{decide, move}
 use Rattle.move_ledger.specs.LoadLaws.{first-row-none}
 use Rattle.move_ledger.specs.NodeLaws.{placed-at}
 use Rattle.move_area.specs.Bodies.{laneAt, atomAt}
 use Rattle.move_area.specs.Area.{State, encode, decode, consistent, setsIn}
 use Rattle.move_area.specs.Held.{consistent-whole}
 use Rattle.move_area.specs.Checked.{nodesIn, Ranged, consistent-ranged, ranged-placing, sets-at}
-use Rattle.move_area.specs.Calls.{tried, after}
+use Rattle.move_area.specs.Calls.{after}
 use Rattle.move_area.specs.Calls as calls
 use Rattle.move_rows.specs.Later.{later, turned-back, goes-on, later-legal, later-consistent}
 use Rattle.move_try.specs.Tried.{CanTry, Answers}
 use Rattle.reduced_chunk_graph.specs.Moves.{CanGoOn, GoesOn}
 
--- a refused move isn't tried
-module _ (load : Load) (N : ℕ) (st : State) (a : ℕ) (s : List ℕ) where
-  refused-untried : is-refused (move load N (st .ledger) a s .answer) ≡ true → tried load N (st .ledger) a s ≡ false
-  unfolding tried move steps
-  refused-untried h =
-      go (leb (load .A) a) (ltb a (load .A)) (legal (load .E) s) (eqb (value s) (at (st .ledger .place) a)) (step1 load (st .ledger .place) a) (full N (st .ledger .registered) (value s))
-      (cyclic (edge load (step3 (st .ledger) a (value s) .place)) (step3 (st .ledger) a (value s) .place)) (λ e. lt-not e) h
-    where
-      lt-not : leb (load .A) a ≡ true → ltb a (load .A) ≡ false
-      lt-not e = le-ltb a (load .A) (leb-true (load .A) a e)
-
-      go : (r10 b ok r12 s1 r13 s3 : Bool) → (r10 ≡ true → b ≡ false)
-          → is-refused (steps r10 (not ok) r12 s1 r13 s3 (st .ledger) (step2 (st .ledger) (value s)) (step3 (st .ledger) a (value s)) .answer) ≡ true
-          → (b && (ok && (not r12 && (not s1 && not r13)))) ≡ false
-      go true b ok r12 s1 r13 s3 e q = rw (e refl) refl
-      go false false ok r12 s1 r13 s3 e q = refl
-      go false true false r12 s1 r13 s3 e q = refl
-      go false true true true s1 r13 s3 e q = refl
-      go false true true false true r13 s3 e q = refl
-      go false true true false false true s3 e q = refl
-      go false true true false false false true e q = absurd (true≢false (sym q))
-      go false true true false false false false e q = absurd (true≢false (sym q))
-
-  refused-stays : is-refused (move load N (st .ledger) a s .answer) ≡ true → after load N st a s ≡ st
-  unfolding after
-  refused-stays h = rw (refused-untried h) refl
+-- a refused move leaves the state
+refused-stays : (load : Load) (N : ℕ) (st : State) (a : ℕ) (s : List ℕ) → is-refused (move load N (st .ledger) a s .answer) ≡ true → after load N st a s ≡ st
+unfolding after move
+refused-stays load N st a s h = rw h refl
 
 module _ {load : Load} {n : ℕ} {area : List ℕ} (can : CanGoOn load n area) (atom : ℕ) (bits : List ℕ) where
   -- the three rows
   pub goes-ten : load .A ≤ atom → GoesOn load n area atom bits (refused 10) area
-  unfolding move
+  unfolding move decide
   goes-ten h = record { answer = rw (le-leb (load .A) atom h) refl; area-after = refl }
 
   pub goes-eleven : atom < load .A → legal (load .E) bits ≡ false → GoesOn load n area atom bits (refused 11) area
-  unfolding move
+  unfolding move decide
   goes-eleven h q = record { answer = rw (lt-leb (load .A) atom h, q) refl; area-after = refl }
 
   pub goes-twelve : atom < load .A → legal (load .E) bits ≡ true → eqb (value bits) (at (decode load n area .ledger .place) atom) ≡ true → GoesOn load n area atom bits (refused 12) area
-  unfolding move
+  unfolding move decide
   goes-twelve h q e = record { answer = rw (lt-leb (load .A) atom h, q, e) refl; area-after = refl }
 
   -- and the move

@@ -38,7 +38,6 @@ fn go_on(
     match tried {
         move_try::Tried::Accepted => MoveAnswer::Accepted,
         move_try::Tried::Rejected => MoveAnswer::Rejected,
-        move_try::Tried::Full => MoveAnswer::Refused(13),
     }
 }
 

@@ -73,7 +73,7 @@ impl Runner<'_> {
             let a = random.below(1 << e) + 1;
             let a = if random.chance(3) { 0 } else { a.min(7) };
             let d = random.below(2 * a + 2);
-            let n = a + random.below(4);
+            let n = a + 1 + random.below(4);
             let calls = 1 + random.index(12);
             let shape = Shape { a, d, e, n, calls };
             self.run(&moves_made_up::random_case(random, shape, if round % 2 == 0 { 0 } else { 30 }))?;
@@ -88,8 +88,23 @@ impl Runner<'_> {
     fn long_moves(&mut self, random: &mut Random) -> Found {
         for _ in 0..self.amount.times(40) {
             let a = 8 + random.below(40);
-            let (d, e, n) = (random.below(3 * a), 4 + random.below(90), a + random.below(60));
+            let (d, e, n) = (random.below(3 * a), 4 + random.below(90), a + 1 + random.below(60));
             self.run(&moves_made_up::random_case(random, Shape { a, d, e, n, calls: 300 }, 4))?;
+        }
+        Ok(())
+    }
+
+    /// A server up for a month: thousands of moves to new sets with N = A + 1, none refused for want of room.
+    fn month_of_moves(&mut self, random: &mut Random) -> Found {
+        for a in [3, 17, 40] {
+            let (d, e) = (random.below(2 * a), 12 + random.below(60));
+            let before = self.counts.evicted;
+            self.run(&moves_made_up::month(random, Shape { a, d, e, n: a + 1, calls: 10_000 }))?;
+            let evicted = self.counts.evicted - before;
+            if evicted < 2_000 {
+                let what = format!("a month of moves has {evicted} evictions, expected thousands");
+                return Err(Disagreement { what, input: format!("{a} atoms") });
+            }
         }
         Ok(())
     }
@@ -98,6 +113,7 @@ impl Runner<'_> {
         let mut random = Random(self.amount.seed ^ 0x6d6f_7665);
         self.small_moves(&mut random)?;
         self.long_moves(&mut random)?;
+        self.month_of_moves(&mut random)?;
         for _ in 0..self.amount.times(1) {
             for shape in move_shapes(&mut random) {
                 self.run(&moves_made_up::random_case(&mut random, shape, 12))?;
@@ -164,13 +180,13 @@ fn move_shapes(random: &mut Random) -> Vec<Shape> {
             if a > 2 && e < 2 {
                 continue;
             }
-            let n = random.pick(&[a, a, a + 1, (a + 40).min(1024)]);
+            let n = random.pick(&[a + 1, a + 1, a + 2, (a + 40).min(1024)]);
             let d = random.pick(&[0, 1, a, 2 * a, 4 * a]);
             shapes.push(Shape { a, d, e, n, calls: if a > 100 { 6 } else { 20 } });
         }
     }
     shapes.push(Shape { a: 512, d: 8192, e: 256, n: 1024, calls: 5 });
-    shapes.push(Shape { a: 512, d: 8192, e: 64, n: 512, calls: 10 });
+    shapes.push(Shape { a: 512, d: 8192, e: 64, n: 513, calls: 10 });
     shapes.push(Shape { a: 512, d: 0, e: 256, n: 513, calls: 6 });
     shapes.push(Shape { a: 1, d: 0, e: 256, n: 1024, calls: 5 });
     shapes.push(Shape { a: 40, d: 8192, e: 16, n: 60, calls: 20 });

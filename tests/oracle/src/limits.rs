@@ -101,15 +101,23 @@ fn moves_past(case: &MoveCase) -> Vec<(Load, Vec<u64>)> {
     ]
 }
 
-/// Atom 0 goes from set to set until N are registered; then row 13 fits, and seen sets are still answered.
+/// Atom 0 goes from set to set until N are registered; then the smallest empty one gives up its place for each new one.
 fn every_set_registered() -> MoveCase {
     let go = |number: u64| MoveCall::Move { atom: 0, bits: set(number).to_vec() };
     let mut calls: Vec<MoveCall> = (1..1024).map(go).collect();
-    calls.extend([go(1024), go(1025), go(0), go(1023), MoveCall::AtomCount { bits: set(1024).to_vec() }]);
+    calls.extend([
+        go(1024),
+        go(1025),
+        go(0),
+        go(1023),
+        go(1),
+        go(1024),
+        MoveCall::AtomCount { bits: set(1024).to_vec() },
+    ]);
     move_case(1, 0, 1024, calls)
 }
 
-/// A, D, E and N at their limits and past them, N at A and below it, N sets registered.
+/// A, D, E and N at their limits and past them, N at A + 1 and below it, N sets registered.
 pub fn moves(library: Option<&dyn Library>, counts: &mut Counts) -> Result<(), Disagreement> {
     let mut check = |case: &MoveCase, row: u64| {
         let found = load_refusal(&case.load, Some(&case.sets), usize::MAX);
@@ -125,8 +133,8 @@ pub fn moves(library: Option<&dyn Library>, counts: &mut Counts) -> Result<(), D
         check(&MoveCase { load, sets, extra, calls: vec![], ..largest.clone() }, 1)?;
     }
     check(&largest, 0)?;
-    check(&move_case(512, 8192, 512, move_calls()), 0)?;
-    check(&move_case(512, 8192, 511, vec![]), 1)?;
+    check(&move_case(512, 8192, 513, move_calls()), 0)?;
+    check(&move_case(512, 8192, 512, vec![]), 1)?;
     check(&every_set_registered(), 0)
 }
 

@@ -5,7 +5,7 @@ use crate::moves_model::{Load, MoveState, NONE, entry_sets, load_refusal, whole}
 use crate::moves_views::{model_view, original_answer, original_lists};
 use crate::original::OriginalMoves;
 use crate::run::{Case, Counts, GUARD, Random, same, same_area, shorter};
-use crate::sets::width;
+use crate::sets::{Set, width};
 use crate::stand_ins::rolldown_utils::BitSet;
 use crate::views::MoveView;
 
@@ -168,7 +168,8 @@ impl Case for MoveCase {
         if let Some(state) = &self.crafted {
             state.encode(load, &mut area[..lent]);
             let (state, expected) = (state.clone(), area.clone());
-            let mut running = Running { library, original: None, view: None, state, area, expected };
+            let seen = state.registered.clone();
+            let mut running = Running { library, original: None, view: None, state, seen, area, expected };
             return self.check_calls(&mut running, counts);
         }
         let refusal = load_refusal(load, Some(&self.sets), lent);
@@ -192,12 +193,13 @@ impl Case for MoveCase {
         let lists = original_lists(load, &self.sets);
         let original = OriginalMoves::found(&lists);
         let state = MoveState::at_loading(load, &entry_sets(&self.sets, load.a as usize, width(load.e) as usize));
+        let seen = state.registered.clone();
         let view = original.as_ref().map(OriginalMoves::view);
         if let (Some(original), Some(view)) = (&original, &view) {
             same("original's loading against the model", &u64::from(!original.acyclic()), &reply.value)?;
-            same("original's state at loading against the model", view, &model_view(load, &state))?;
+            same("original's state at loading against the model", view, &model_view(load, &state, &seen))?;
         }
-        self.check_calls(&mut Running { library, original, view, state, area, expected }, counts)
+        self.check_calls(&mut Running { library, original, view, state, seen, area, expected }, counts)
     }
 
     fn smaller(&self) -> Box<dyn Iterator<Item = Self> + '_> {
@@ -212,8 +214,8 @@ impl Case for MoveCase {
         let atoms = upto(load.a).map(|atom| self.without_atom(atom));
         let dependencies = upto(load.d).map(|entry| self.without_dependency(entry));
         let hosts = (0..load.e as usize).filter(|&bit| load.hosts[bit] != NONE).map(|bit| self.without_host(bit));
-        let room =
-            (load.n > load.a && !fixed).then(|| Self { load: Load { n: load.n - 1, ..load.clone() }, ..self.clone() });
+        let room = (load.n > load.a + 1 && !fixed)
+            .then(|| Self { load: Load { n: load.n - 1, ..load.clone() }, ..self.clone() });
         let narrow = load.e > 0 && width(load.e) == width(load.e - 1) && !fixed;
         let bits = narrow.then(|| self.without_last_bit()).flatten();
         Box::new(cases.chain(atoms).chain(dependencies).chain(hosts).chain(room).chain(bits))
@@ -227,6 +229,8 @@ struct Running<'a> {
     /// What the original shows after its last move.
     view: Option<MoveView>,
     state: MoveState,
+    /// Every set that was ever registered, in that order.
+    seen: Vec<Set>,
     area: Vec<u32>,
     /// What the area must be.
     expected: Vec<u32>,
@@ -246,13 +250,22 @@ impl Running<'_> {
         self.expected.clone_from(&self.area);
     }
 
+    /// Notes a set seen for the first time, and one that gave up its place of those registered before.
+    fn note_registered(&mut self, before: &[Set], counts: &mut Counts) {
+        let new = self.state.registered.iter().find(|set| !before.contains(set));
+        if let Some(&set) = new.filter(|set| !self.seen.contains(set)) {
+            self.seen.push(set);
+        }
+        counts.evicted += u64::from(new.is_some() && before.len() == self.state.registered.len());
+    }
+
     /// The original's move against the model's.
     fn same_move(&mut self, load: &Load, atom: u32, bits: &[u64], value: u64) -> Result<(), String> {
         let Some(original) = &mut self.original else { return Ok(()) };
         let accepted = original.try_move(atom, &BitSet::from_words(bits));
         same("original against the model", &u64::from(accepted), &value)?;
         let theirs = original.view();
-        same("original's state against the model", &theirs, &model_view(load, &self.state))?;
+        same("original's state against the model", &theirs, &model_view(load, &self.state, &self.seen))?;
         same("original's counter", &original.mark(), &self.state.counter)?;
         self.view = Some(theirs);
         Ok(())
@@ -297,7 +310,9 @@ impl MoveCase {
                 }
                 continue;
             }
+            let sets = running.state.registered.clone();
             let answer = model_answer(load, &mut running.state, call);
+            running.note_registered(&sets, counts);
             counts.refused(answer.refusal());
             if let (MoveCall::Move { .. }, Answer::Reply(Reply { refusal: 0, value })) = (call, answer) {
                 if value == 1 { counts.accepted += 1 } else { counts.rejected += 1 }

@@ -1,7 +1,7 @@
 //! Move graph cases made up at random, and every small load.
 use crate::layout::MoveLayout;
 use crate::moves_cases::{Damage, MoveCall, MoveCase};
-use crate::moves_model::{Load, MoveState, NONE};
+use crate::moves_model::{Graph, Load, MoveState, NONE, entry_sets};
 use crate::run::Random;
 use crate::sets::{Set, width, words};
 
@@ -236,6 +236,23 @@ pub fn random_case(random: &mut Random, shape: Shape, damage: u64) -> MoveCase {
     MoveCase { load, sets: flat, extra, short: false, fill: random.next(), crafted: None, calls }
 }
 
+/// An acyclic load, and moves of atoms to sets drawn from all, so that most are new.
+pub fn month(random: &mut Random, shape: Shape) -> MoveCase {
+    let mut case = loop {
+        let case = random_case(random, Shape { calls: 0, ..shape }, 0);
+        let sets = entry_sets(&case.sets, shape.a as usize, width(shape.e) as usize);
+        if !Graph::new(&case.load, &sets).cyclic() {
+            break case;
+        }
+    };
+    for _ in 0..shape.calls {
+        let atom = random.below(shape.a) as u32;
+        let bits = words(random_set(random, shape.e), shape.e);
+        case.calls.push((MoveCall::Move { atom, bits }, Damage::default()));
+    }
+    case
+}
+
 /// A loading with one thing wrong, now and then two.
 pub fn refused_loading(random: &mut Random, shape: Shape) -> MoveCase {
     let mut case = random_case(random, Shape { calls: 2, ..shape }, 0);
@@ -299,7 +316,7 @@ fn small_dependencies(a: u64, graph: u64, counts: u64) -> (Vec<u32>, Vec<u32>) {
     (starts, dependencies)
 }
 
-/// Every load with A atoms and E = 2: sets, dependencies, hosts, N up to all four sets; `each` gets a case without calls.
+/// Every load with A atoms and E = 2: sets, dependencies, hosts, N from A + 1 up to all four sets; `each` gets a case without calls.
 pub fn every_small_load(a: u64, each: &mut dyn FnMut(MoveCase)) {
     let counts: u64 = if a < 3 { 3 } else { 2 };
     let graphs = counts.pow((a * a.saturating_sub(1)) as u32);
@@ -310,14 +327,14 @@ pub fn every_small_load(a: u64, each: &mut dyn FnMut(MoveCase)) {
         }
         for graph in 0..graphs {
             let (starts, dependencies) = small_dependencies(a, graph, counts);
-            for choice in 0..(a + 1) * (a + 1) * (5 - a) {
+            for choice in 0..(a + 1) * (a + 1) * (4 - a) {
                 let name = |number: u64| if number % (a + 1) == a { NONE } else { (number % (a + 1)) as u32 };
-                let host = choice / (5 - a);
+                let host = choice / (4 - a);
                 let load = Load {
                     a,
                     d: dependencies.len() as u64,
                     e: 2,
-                    n: a + choice % (5 - a),
+                    n: a + 1 + choice % (4 - a),
                     starts: starts.clone(),
                     dependencies: dependencies.clone(),
                     hosts: vec![name(host), name(host / (a + 1))],

@@ -1,4 +1,4 @@
-//! The move graph by document 01, worked out plainly: every answer is recounted from the load and the placement.
+//! The move graph by documents 01 and 02, worked out plainly: every answer is recounted from the load and the placement.
 use std::collections::{BTreeMap, BTreeSet};
 
 use crate::layout::MoveLayout;
@@ -32,7 +32,7 @@ impl Load {
 
 /// Rows 1 to 6, and 7 and 8 where entry sets are lent; 0 if none fits.
 pub fn load_refusal(load: &Load, sets: Option<&[u64]>, area: usize) -> u64 {
-    if load.a > 512 || load.d > 8192 || load.e > 256 || load.n < load.a || load.n > 1024 {
+    if load.a > 512 || load.d > 8192 || load.e > 256 || load.n < load.a + 1 || load.n > 1024 {
         return 1;
     }
     let (a, d, e) = (load.a as usize, load.d as usize, load.e as usize);
@@ -184,6 +184,18 @@ impl Ledger {
         Self { place: sets.to_vec(), registered: sets.to_vec() }
     }
 
+    /// "When N sets are registered and another is needed, the smallest empty one, as a number, gives up its place."
+    pub fn register(&mut self, load: &Load, target: Set) {
+        if (self.registered.len() as u64) < load.n {
+            self.registered.push(target);
+            return;
+        }
+        let empty = self.registered.iter().filter(|set| !self.place.contains(set)).min();
+        let gone = *empty.expect("N is above A");
+        let place = self.registered.iter().position(|&set| set == gone).unwrap();
+        self.registered[place] = target;
+    }
+
     /// A move, after rows 1 to 9.
     pub fn try_move(&mut self, load: &Load, atom: u32, bits: &[u64]) -> (Reply, Step) {
         if u64::from(atom) >= load.a {
@@ -200,10 +212,7 @@ impl Ledger {
             return (Reply::value(0), Step::Nothing);
         }
         if !self.registered.contains(&target) {
-            if self.registered.len() as u64 >= load.n {
-                return (Reply::refused(13), Step::Nothing);
-            }
-            self.registered.push(target);
+            self.register(load, target);
         }
         let mut moved = self.place.clone();
         moved[atom] = target;
@@ -329,12 +338,13 @@ impl MoveState {
         let mut ledger = self.ledger();
         let (reply, step) = ledger.try_move(load, atom, bits);
         let Step::Tried { acyclic, accepted } = step else { return reply };
-        for node in self.registered.len()..ledger.registered.len() {
-            self.marks[node] = 0;
-        }
-        self.registered = ledger.registered;
         let target = Set::from_words(bits);
+        let unseen = !self.registered.contains(&target);
+        self.registered = ledger.registered;
         let to = self.registered.iter().position(|&set| set == target).unwrap();
+        if unseen {
+            self.marks[to] = 0;
+        }
         let from = std::mem::replace(&mut self.node[atom as usize], to as u32);
         if acyclic {
             if self.counter == u32::MAX {

@@ -21,22 +21,23 @@ mod reduced_chunk_graph {
             for (bits, &node) in &graph.node_by_bits {
                 registered[node] = Set::from_words(bits.words());
             }
-            let mut edges: Vec<(u32, u32, u32)> = vec![];
+            let mut edges: Vec<(Set, Set, u32)> = vec![];
             for (from, dependencies) in graph.edges.dependencies.iter().enumerate() {
                 for (&to, &multiplicity) in dependencies {
                     assert!(graph.edges.dependents[to].contains(&from), "dependents without an edge");
-                    edges.push((from as u32, to as u32, multiplicity));
+                    edges.push((registered[from], registered[to], multiplicity));
                 }
             }
             let dependents: usize = graph.edges.dependents.iter().map(|nodes| nodes.len()).sum();
             assert_eq!(dependents, edges.len(), "dependents and dependencies differ");
             edges.sort_unstable();
-            let mut component: Vec<u32> = graph.cyclic_component.iter().map(|&node| node as u32).collect();
+            let mut component: Vec<Set> = graph.cyclic_component.iter().map(|&node| registered[node]).collect();
             component.sort_unstable();
+            let counts = registered.iter().copied().zip(graph.atom_count_by_node.iter().map(|&count| count as u32));
             MoveView {
+                place: graph.node_by_atom.iter().map(|&node| registered[node]).collect(),
+                counts: counts.filter(|&(_, count)| count > 0).collect(),
                 registered,
-                node: graph.node_by_atom.iter().map(|&node| node as u32).collect(),
-                count: graph.atom_count_by_node.iter().map(|&count| count as u32).collect(),
                 edges,
                 acyclic: graph.is_acyclic,
                 component: if graph.is_acyclic { vec![] } else { component },

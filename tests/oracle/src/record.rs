@@ -274,13 +274,23 @@ fn named() -> Vec<Vec<u64>> {
     let moves = [
         // P1 to P8.
         small(&[3, 1, 2], &[&[], &[0], &[0]], &[1, 2], 96, &[(0, 1), (1, 3)]),
-        small(&[], &[], &[NONE], 0, &[(0, 1)]),
+        small(&[], &[], &[NONE], 1, &[(0, 1)]),
         small(&[1, 2], &[&[1], &[0]], &[NONE, NONE], 4, &[(0, 2)]),
         small(&[1, 2, 4, 8], &[&[1], &[0], &[3], &[2]], &[NONE; 4], 6, &[(0, 2), (1, 4), (2, 8), (3, 5), (0, 1)]),
         small(&[3, 5], &[&[], &[0]], &[NONE, NONE, 1], 4, &[(0, 4)]),
         small(&[3, 5], &[&[], &[0]], &[NONE, NONE, NONE], 4, &[(0, 4)]),
         small(&[1, 2], &[&[1, 1], &[]], &[NONE, NONE], 3, &[(0, 3)]),
         small(&[1, 2], &[&[], &[]], &[NONE, NONE], 2, &[(0, 3)]),
+        // N = A + 1: sets give up their places, for rejected moves too.
+        small(
+            &[3, 5],
+            &[&[], &[0]],
+            &[NONE, NONE, 1],
+            3,
+            &[(0, 4), (0, 6), (1, 6), (0, 4), (0, 7), (0, 3), (0, 1), (1, 2), (0, 5), (1, 4)],
+        ),
+        // Step 1 evicts nothing.
+        small(&[1, 2, 4], &[&[1], &[0], &[]], &[NONE; 5], 4, &[(0, 8), (2, 16), (0, 16), (2, 8), (0, 2), (2, 8)]),
         // Walking only from the target while cyclic is not enough.
         small(&[3, 5, 4], &[&[1], &[0, 2], &[]], &[NONE, NONE, 0, NONE], 5, &[(2, 9)]),
         // An edge goes and comes back within one move.
@@ -296,17 +306,17 @@ fn at_limits(random: &mut Random) -> Vec<Vec<u64>> {
     let mut lines = vec![];
     for (a, d, e, n) in [
         (512, 1024, 64, 513),
-        (512, 512, 10, 512),
+        (512, 512, 10, 513),
         (48, 128, 16, 96),
-        (48, 96, 64, 48),
+        (48, 96, 64, 49),
         (48, 96, 65, 60),
         (47, 60, 63, 64),
         (40, 80, 128, 50),
         (40, 80, 129, 50),
         (30, 60, 255, 40),
         (30, 60, 256, 40),
-        (1, 0, 0, 1),
-        (0, 0, 0, 0),
+        (1, 0, 0, 2),
+        (0, 0, 0, 1),
         (1, 0, 1, 2),
         (3, 200, 3, 5),
     ] {
@@ -329,7 +339,7 @@ pub fn sample(count: usize, seed: u64) -> Vec<Vec<u64>> {
         if lines.len() % 2 == 0 {
             let e = 1 + random.below(5);
             let a = (1 + random.below(1 << e)).min(7);
-            let (d, n, calls) = (random.below(2 * a + 1), a + random.below(4), 3 + random.index(8));
+            let (d, n, calls) = (random.below(2 * a + 1), a + 1 + random.below(4), 3 + random.index(8));
             lines.push(record_moves(&moves_case(&mut random, moves_made_up::Shape { a, d, e, n, calls })));
         } else {
             let (c, m, l, e) = (2 + random.below(7), 1 + random.below(7), 2 + random.below(14), random.below(5));

@@ -57,6 +57,8 @@ pub struct Counts {
     pub cyclic: u64,
     pub accepted: u64,
     pub rejected: u64,
+    /// Moves for which an empty set gave up its place.
+    pub evicted: u64,
     pub warned: u64,
     pub unwarned: u64,
     pub merged: u64,
@@ -73,7 +75,7 @@ impl Counts {
     pub fn print(&self, name: &str) {
         println!("{name}: {} cases, {} calls", self.cases, self.calls);
         println!("  loads acyclic {}, cyclic {}", self.acyclic, self.cyclic);
-        println!("  moves accepted {}, rejected {}", self.accepted, self.rejected);
+        println!("  moves accepted {}, rejected {}, with an eviction {}", self.accepted, self.rejected, self.evicted);
         println!("  warnings yes {}, no {}", self.warned, self.unwarned);
         println!("  pass merged {}, created {}", self.merged, self.created);
         println!("  damaged areas refused {}, consistent {}", self.damaged_refused, self.damaged_consistent);

@@ -10,7 +10,7 @@ use crate::sets::{Set, lent_set, width};
 pub const HARMLESS: &str = "loading clears the flags of chunks not yet made";
 
 /// Bugs by name; the first two are none.
-pub const PLANTS: [&str; 49] = [
+pub const PLANTS: [&str; 54] = [
     "none",
     HARMLESS,
     "repeated dependency counted once",
@@ -21,10 +21,15 @@ pub const PLANTS: [&str; 49] = [
     "wrong order of edges",
     "multiplicities invented on listing",
     "a write beyond the area",
-    "a write at refusal 13",
+    "a write at refusal 12",
     "old edges after a move",
-    "13 with sets still free",
-    "13 before step 1",
+    "13 where all places are taken",
+    "as many sets as atoms let through",
+    "evicts with places still free",
+    "evicts before step 1",
+    "largest empty set evicted",
+    "smallest registered set evicted",
+    "emptiness judged after the move",
     "walk only from the target while cyclic",
     "component kept after acceptance",
     "two components stored",
@@ -92,6 +97,9 @@ impl Library for StandIn {
         if row == 1 && load.n == 1025 && self.planted("1,025 sets let through") {
             return Reply::value(0);
         }
+        if row == 1 && load.n == load.a && self.planted("as many sets as atoms let through") {
+            return Reply::value(0);
+        }
         if row != 0 {
             return Reply::refused(row);
         }
@@ -136,7 +144,7 @@ impl Library for StandIn {
             if self.planted("a write beyond the area") && area.len() > at.length() {
                 area[at.length()] = 0;
             }
-        } else if reply.refusal == 13 && self.planted("a write at refusal 13") {
+        } else if reply.refusal == 12 && self.planted("a write at refusal 12") {
             area[at.header(MoveLayout::COUNTER)] += 1;
         }
         reply

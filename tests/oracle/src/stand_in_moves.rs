@@ -84,6 +84,7 @@ impl StandIn {
         let mut load = load.clone();
         if let Some(trial) = Trial::new(&load, state, atom, bits) {
             self.spoil_load(&mut load, state, trial);
+            self.evict(&load, state, trial);
             let early = (self.early_answer(trial))
                 .or_else(|| self.two_components(&load, state, trial))
                 .or_else(|| self.walked_from_target(&load, state, trial))
@@ -107,8 +108,9 @@ impl StandIn {
 
     /// The load as a planted bug sees it for one move.
     fn spoil_load(&self, load: &mut Load, state: &MoveState, trial: Trial) {
-        if self.planted("13 with sets still free") && trial.unseen && !trial.stays() && load.n > load.a {
-            load.n -= 1;
+        let count = state.registered.len() as u64;
+        if self.planted("evicts with places still free") && trial.unseen && count > load.a {
+            load.n = count;
         }
         let occupied = state.ledger().place.contains(&trial.target);
         if self.planted("facade skipped when the target gets its first atom") && !occupied {
@@ -125,10 +127,42 @@ impl StandIn {
         if trial.stays() && self.planted("12 left out") {
             return Some(Reply::value(1));
         }
-        if self.planted("13 before step 1") && trial.unseen && trial.full && !trial.stays() {
+        if self.planted("13 where all places are taken") && trial.unseen && trial.full {
             return Some(Reply::refused(13));
         }
         (self.planted("rejects every move") && trial.has_room()).then_some(Reply::value(0))
+    }
+
+    /// Another set than the smallest empty one gives up its place, or one does although step 1 rejects the move.
+    fn evict(&self, load: &Load, state: &mut MoveState, trial: Trial) {
+        if !trial.unseen || !trial.full {
+            return;
+        }
+        let mut after = state.clone();
+        after.try_move(load, trial.atom, &words(trial.target, load.e));
+        let kept = after.registered == state.registered;
+        let mut place = state.ledger().place;
+        if self.planted("emptiness judged after the move") {
+            place[trial.atom as usize] = trial.target;
+        }
+        let mut empty: Vec<Set> = state.registered.iter().copied().filter(|set| !place.contains(set)).collect();
+        empty.sort_unstable();
+        let gone = if kept && self.planted("evicts before step 1") {
+            empty.first()
+        } else if !kept && self.planted("largest empty set evicted") {
+            empty.last()
+        } else if !kept && self.planted("smallest registered set evicted") {
+            state.registered.iter().min()
+        } else if !kept && self.planted("emptiness judged after the move") {
+            empty.first()
+        } else {
+            None
+        };
+        if let Some(&gone) = gone {
+            let node = state.registered.iter().position(|&set| set == gone).unwrap();
+            state.registered[node] = trial.target;
+            state.marks[node] = 0;
+        }
     }
 
     /// A set is registered although step 1 rejects the move.
@@ -212,7 +246,7 @@ impl Trial {
         self.target == self.present
     }
 
-    /// Neither row 12 nor row 13 fits.
+    /// Row 12 doesn't fit, and no set has to give up its place.
     fn has_room(self) -> bool {
         !self.stays() && !(self.unseen && self.full)
     }

@@ -1,18 +1,22 @@
 //! What is compared of the original's graphs, in its own terms.
+use std::collections::BTreeMap;
+
 use crate::sets::Set;
 use crate::stand_ins::rolldown_utils::BitSet;
 
-/// What is compared of a move graph: by node, in the order of registration.
+/// What is compared of a move graph, by sets: the original forgets none, so its nodes aren't the library's.
 #[derive(Clone, Debug, PartialEq, Eq)]
 pub struct MoveView {
+    /// Every set that was ever registered, in that order.
     pub registered: Vec<Set>,
-    pub node: Vec<u32>,
-    pub count: Vec<u32>,
+    pub place: Vec<Set>,
+    /// The atoms of each occupied set.
+    pub counts: BTreeMap<Set, u32>,
     /// (from, to, multiplicity), rising.
-    pub edges: Vec<(u32, u32, u32)>,
+    pub edges: Vec<(Set, Set, u32)>,
     pub acyclic: bool,
-    /// Empty while acyclic: the original keeps an old component there.
-    pub component: Vec<u32>,
+    /// Rising; empty while acyclic: the original keeps an old component there.
+    pub component: Vec<Set>,
 }
 
 /// The borrowed lists of an original move graph, as it wants them.

@@ -1,7 +1,7 @@
 -- `move_load_rows::over_limits` meets its contract. Assumes nothing.
 use native.Mathlib.Omega.{arith}
 use mathlib.Core.Path.{refl}
-use borrow.Author.Tests.{lt-ltb, le-ltb}
+use borrow.Author.Tests.{lt-ltb, le-ltb, le-leb, lt-leb}
 use Rattle.move_load_rows.proofs.over_limits.Statement.{statement}
 use Rattle.move_load_rows.proofs.over_limits.Tie as tie
 
@@ -15,10 +15,10 @@ returns-3 : tie.Need-returns-3
 returns-3 c = rw (le-ltb 512 (c .before .before .before .args .a) (omega arith), le-ltb 8192 (c .before .before .before .args .d) (omega arith), lt-ltb 256 (c .before .before .before .args .e) (omega arith)) refl
 
 returns-4 : tie.Need-returns-4
-returns-4 c = rw (le-ltb 512 (c .before .before .before .before .args .a) (omega arith), le-ltb 8192 (c .before .before .before .before .args .d) (omega arith), le-ltb 256 (c .before .before .before .before .args .e) (omega arith), lt-ltb (c .before .before .before .before .args .n) (c .before .before .before .before .args .a) (omega arith)) refl
+returns-4 c = rw (le-ltb 512 (c .before .before .before .before .args .a) (omega arith), le-ltb 8192 (c .before .before .before .before .args .d) (omega arith), le-ltb 256 (c .before .before .before .before .args .e) (omega arith), le-leb (c .before .before .before .before .args .n) (c .before .before .before .before .args .a) (omega arith)) refl
 
 returns-5 : tie.Need-returns-5
-returns-5 c = rw (le-ltb 512 (c .before .before .before .before .args .a) (omega arith), le-ltb 8192 (c .before .before .before .before .args .d) (omega arith), le-ltb 256 (c .before .before .before .before .args .e) (omega arith), le-ltb (c .before .before .before .before .args .n) (c .before .before .before .before .args .a) (omega arith)) refl
+returns-5 c = rw (le-ltb 512 (c .before .before .before .before .args .a) (omega arith), le-ltb 8192 (c .before .before .before .before .args .d) (omega arith), le-ltb 256 (c .before .before .before .before .args .e) (omega arith), lt-leb (c .before .before .before .before .args .n) (c .before .before .before .before .args .a) (omega arith)) refl
 
 pub over-limits-spec : {M : Type 1} → statement M
 over-limits-spec = tie.close (tie.spec returns returns-2 returns-3 returns-4 returns-5)

@@ -1,11 +1,11 @@
--- `move_try::try_checked` meets its contract. Assumes nothing.
-use mathlib.Core.Path.{refl}
+-- `try_checked` meets its contract. Assumes nothing.
 use Prim.Native.Nat.{_+_, _*_}
+use mathlib.Core.Path.{refl}
 use native.Mathlib.Omega.{arith}
 use lib.ListN.{getD}
-use Rattle.move_area.specs.Bodies.{atomAt}
-use Rattle.move_try.specs.Tried.{try-room, try-from, try-outside, try-rejected, try-find, try-full, try-settle, try-accepted, try-stays}
 use borrow.Author.Needs.{needs}
+use Rattle.move_area.specs.Bodies.{atomAt}
+use Rattle.move_try.specs.Tried.{try-room, try-from, try-outside, try-rejected, try-find, try-place, try-register, try-settle, try-accepted, try-stays}
 use Rattle.move_try.proofs.try_checked.Statement.{statement}
 use Rattle.move_try.proofs.try_checked.Tie as tie
 
@@ -31,7 +31,23 @@ slice-read-from : tie.Need-slice-read-from
 slice-read-from c = search needs
 
 cast-from : tie.Need-cast-from
-cast-from c = omega (arith, c .slice-known2 .given (atomAt (c .before .before .before .before .before .args .n) + c .before .before .before .before .before .args .atom))
+cast-from c = let a = c .before .before .before .before .before .args in omega (arith, c .slice-known2 .given (atomAt (a .n) + a .atom))
+
+outside-requires : tie.Need-outside-requires
+outside-requires c κs =
+    let a = c .before .before .before .before .before .before .args in
+    let can = c .before .before .before .before .before .before .pre in
+    (try-from can (getD (a .area .now) (atomAt (a .n) + a .atom) 0) refl, omega (arith, try-room can))
+
+same-length : tie.Need-same-length
+same-length c = search needs
+
+returns : tie.Need-returns
+returns c =
+    let a = c .before .before .before .before .before .before .before .before .args in
+    let can = c .before .before .before .before .before .before .before .before .pre in
+    let s1 = try-outside can (getD (a .area .now) (atomAt (a .n) + a .atom) 0) refl (c .before .outside .ensures) in
+    try-rejected can s1 (c .if1 .taken)
 
 mul-registered : tie.Need-mul-registered
 mul-registered c = search needs
@@ -40,63 +56,49 @@ slice-read-registered : tie.Need-slice-read-registered
 slice-read-registered c = search needs
 
 cast-registered : tie.Need-cast-registered
-cast-registered c = omega (arith, c .slice-known3 .given (c .before .before .before .before .before .before .args .n * c .before .before .before .before .before .before .args .n))
+cast-registered c = let a = c .before .before .before .before .before .before .before .before .before .args in omega (arith, c .slice-known3 .given (a .n * a .n))
+
+find-requires : tie.Need-find-requires
+find-requires c κs =
+    let a = c .before .before .before .before .before .before .before .before .before .before .args in
+    try-find (c .before .before .before .before .before .before .before .before .before .before .pre) (getD (a .area .now) (a .n * a .n) 0) refl
 
 place-requires : tie.Need-place-requires
-place-requires c κs = let a = c .before .before .before .before .before .before .before .args in try-find (c .before .before .before .before .before .before .before .pre) (getD (a .area .now) (a .n * a .n) 0) refl
+place-requires c κs = search needs
 
-outside-requires : tie.Need-outside-requires
-outside-requires c κs = let a = c .before .before .before .before .before .before .before .before .before .args in (try-from (c .before .before .before .before .before .before .before .before .before .pre) (getD (a .area .now) (atomAt (a .n) + a .atom) 0) refl, omega (arith, try-room (c .before .before .before .before .before .before .before .before .before .pre)))
+register-requires : tie.Need-register-requires
+register-requires c κs =
+    let a = c .before .before .before .before .before .before .before .before .before .before .before .before .before .before .args in
+    let can = c .before .before .before .before .before .before .before .before .before .before .before .before .before .before .pre in
+    let s1 = try-outside can (getD (a .area .now) (atomAt (a .n) + a .atom) 0) refl (c .before .before .before .before .before .before .before .outside .ensures) in
+    try-register can (getD (a .area .now) (a .n * a .n) 0) refl (c .before .before .before .find .ensures) (c .before .place .ensures) s1 (c .before .before .before .before .before .before .if1 .left)
 
-same-length : tie.Need-same-length
-same-length c = search needs
-
-returns : tie.Need-returns
-returns c =
-    let a = c .before .before .before .before .before .before .before .before .before .before .before .args in
-    let can = c .before .before .before .before .before .before .before .before .before .before .before .pre in
-    let s1 = try-outside can (getD (a .area .now) (atomAt (a .n) + a .atom) 0) refl (c .before .outside .ensures) in
-    try-rejected can s1 (c .if1 .taken)
+settle-requires : tie.Need-settle-requires
+settle-requires c κs =
+    let a = c .before .before .before .before .before .before .before .before .before .before .before .before .before .before .before .before .before .before .args in
+    let can = c .before .before .before .before .before .before .before .before .before .before .before .before .before .before .before .before .before .before .pre in
+    let s1 = try-outside can (getD (a .area .now) (atomAt (a .n) + a .atom) 0) refl (c .before .before .before .before .before .before .before .before .before .before .before .outside .ensures) in
+    try-settle can (getD (a .area .now) (a .n * a .n) 0) refl (c .before .before .before .before .before .before .before .find .ensures) (c .before .before .before .before .before .place .ensures) s1 (c .before .before .before .before .before .before .before .before .before .before .if1 .left) (c .before .before .before .register .ensures)
 
 same-length-2 : tie.Need-same-length-2
 same-length-2 c = search needs
 
 returns-2 : tie.Need-returns-2
 returns-2 c =
-    let a = c .before .before .before .before .before .before .before .before .before .before .before .before .args in
-    let can = c .before .before .before .before .before .before .before .before .before .before .before .before .pre in
-    let s1 = try-outside can (getD (a .area .now) (atomAt (a .n) + a .atom) 0) refl (c .before .before .outside .ensures) in
-    try-full can (getD (a .area .now) (a .n * a .n) 0) refl (c .before .before .before .before .place .ensures) s1 (c .before .if1 .left) (c .if2 .taken)
-
-register-requires : tie.Need-register-requires
-register-requires c κs = search needs
-
-settle-requires : tie.Need-settle-requires
-settle-requires c κs =
-    let a = c .before .before .before .before .before .before .before .before .before .before .before .before .before .before .before .before .before .args in
-    let can = c .before .before .before .before .before .before .before .before .before .before .before .before .before .before .before .before .before .pre in
-    let s1 = try-outside can (getD (a .area .now) (atomAt (a .n) + a .atom) 0) refl (c .before .before .before .before .before .before .before .outside .ensures) in
-    try-settle can (getD (a .area .now) (a .n * a .n) 0) refl (c .before .before .before .before .before .before .before .before .before .place .ensures) s1 (c .before .before .before .before .before .before .if1 .left) (c .before .before .before .before .before .if2 .left) (c .before .before .before .register .ensures)
+    let a = c .before .before .before .before .before .before .before .before .before .before .before .before .before .before .before .before .before .before .before .before .before .before .args in
+    let can = c .before .before .before .before .before .before .before .before .before .before .before .before .before .before .before .before .before .before .before .before .before .before .pre in
+    let s1 = try-outside can (getD (a .area .now) (atomAt (a .n) + a .atom) 0) refl (c .before .before .before .before .before .before .before .before .before .before .before .before .before .before .before .outside .ensures) in
+    try-accepted can (getD (a .area .now) (a .n * a .n) 0) refl (c .before .before .before .before .before .before .before .before .before .before .before .find .ensures) (c .before .before .before .before .before .before .before .before .before .place .ensures) s1 (c .before .before .before .before .before .before .before .before .before .before .before .before .before .before .if1 .left) (c .before .before .before .before .before .before .before .register .ensures) (rw (c .if2 .taken) at (c .before .before .before .settle .ensures))
 
 same-length-3 : tie.Need-same-length-3
 same-length-3 c = search needs
 
 returns-3 : tie.Need-returns-3
 returns-3 c =
-    let a = c .before .before .before .before .before .before .before .before .before .before .before .before .before .before .before .before .before .before .before .before .before .args in
-    let can = c .before .before .before .before .before .before .before .before .before .before .before .before .before .before .before .before .before .before .before .before .before .pre in
-    let s1 = try-outside can (getD (a .area .now) (atomAt (a .n) + a .atom) 0) refl (c .before .before .before .before .before .before .before .before .before .before .before .outside .ensures) in
-    try-accepted can (getD (a .area .now) (a .n * a .n) 0) refl (c .before .before .before .before .before .before .before .before .before .before .before .before .before .place .ensures) s1 (c .before .before .before .before .before .before .before .before .before .before .if1 .left) (c .before .before .before .before .before .before .before .before .before .if2 .left) (c .before .before .before .before .before .before .before .register .ensures) (rw (c .if3 .taken) at (c .before .before .before .settle .ensures))
-
-same-length-4 : tie.Need-same-length-4
-same-length-4 c = search needs
-
-returns-4 : tie.Need-returns-4
-returns-4 c =
-    let a = c .before .before .before .before .before .before .before .before .before .before .before .before .before .before .before .before .before .before .before .before .before .args in
-    let can = c .before .before .before .before .before .before .before .before .before .before .before .before .before .before .before .before .before .before .before .before .before .pre in
-    let s1 = try-outside can (getD (a .area .now) (atomAt (a .n) + a .atom) 0) refl (c .before .before .before .before .before .before .before .before .before .before .before .outside .ensures) in
-    try-stays can (getD (a .area .now) (a .n * a .n) 0) refl (c .before .before .before .before .before .before .before .before .before .before .before .before .before .place .ensures) s1 (c .before .before .before .before .before .before .before .before .before .before .if1 .left) (c .before .before .before .before .before .before .before .before .before .if2 .left) (c .before .before .before .before .before .before .before .register .ensures) (rw (c .if3 .left) at (c .before .before .before .settle .ensures))
+    let a = c .before .before .before .before .before .before .before .before .before .before .before .before .before .before .before .before .before .before .before .before .before .before .args in
+    let can = c .before .before .before .before .before .before .before .before .before .before .before .before .before .before .before .before .before .before .before .before .before .before .pre in
+    let s1 = try-outside can (getD (a .area .now) (atomAt (a .n) + a .atom) 0) refl (c .before .before .before .before .before .before .before .before .before .before .before .before .before .before .before .outside .ensures) in
+    try-stays can (getD (a .area .now) (a .n * a .n) 0) refl (c .before .before .before .before .before .before .before .before .before .before .before .find .ensures) (c .before .before .before .before .before .before .before .before .before .place .ensures) s1 (c .before .before .before .before .before .before .before .before .before .before .before .before .before .before .if1 .left) (c .before .before .before .before .before .before .before .register .ensures) (rw (c .if2 .left) at (c .before .before .before .settle .ensures))
 
 pub try-checked-spec : {M : Type 1} → statement M
 try-checked-spec =
@@ -110,18 +112,17 @@ try-checked-spec =
     mul-from-2
     slice-read-from
     cast-from
-    mul-registered
-    slice-read-registered
-    cast-registered
-    place-requires
     outside-requires
     same-length
     returns
-    same-length-2
-    returns-2
+    mul-registered
+    slice-read-registered
+    cast-registered
+    find-requires
+    place-requires
     register-requires
     settle-requires
+    same-length-2
+    returns-2
     same-length-3
-    returns-3
-    same-length-4
-    returns-4)
+    returns-3)

@@ -1,13 +1,12 @@
 -- `register` meets its contract. Assumes nothing.
 use mathlib.Core.Path.{refl}
-use native.Mathlib.Omega.{arith}
-use borrow.Author.Tests.{eq-eqb, ne-eqb}
 use borrow.Author.Needs.{needs}
+use borrow.Author.Tests.{eq-eqb, ne-eqb}
 use Rattle.move_try.proofs.writes.register.Statement.{statement}
 use Rattle.move_try.proofs.writes.register.Tie as tie
 
 add-node-requires : tie.Need-add-node-requires
-add-node-requires c κs = let can = c .before .before .before .pre in record { free = omega (arith, can .free, c .before .if1 .taken); small = can .small; room = can .room }
+add-node-requires c κs = search needs
 
 same-length : tie.Need-same-length
 same-length c = search needs

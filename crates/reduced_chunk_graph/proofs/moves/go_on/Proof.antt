@@ -68,9 +68,6 @@ enum-told c = search needs
 enum-told-2 : tie.Need-enum-told-2
 enum-told-2 c = search needs
 
-enum-told-3 : tie.Need-enum-told-3
-enum-told-3 c = search needs
-
 same-length-2 : tie.Need-same-length-2
 same-length-2 c = search needs
 
@@ -82,12 +79,6 @@ same-length-3 c = search needs
 
 returns-5 : tie.Need-returns-5
 returns-5 c = tried-goes (c .before .before .before .before .before .before .before .before .before .before .before .before .before .before .before .before .before .before .before .before .pre) _ _ (omega arith) (sym (c .before .before .before .before .before .before .before .before .before .before .before .before .before .is-legal .ensures) ∙ not-false _ (c .before .before .before .before .before .before .before .before .before .before .before .before .if2 .left)) _ _ _ refl (c .before .before .before .before .before .before .before .before .read-lanes .ensures .value) (c .before .before .before .before .before .before .before .before .before .before .before .from-list .ensures .value) _ _ (rw (c .enum-told2 .given .1) at (c .before .before .before .before .try-checked .ensures))
-
-same-length-4 : tie.Need-same-length-4
-same-length-4 c = search needs
-
-returns-6 : tie.Need-returns-6
-returns-6 c = tried-goes (c .before .before .before .before .before .before .before .before .before .before .before .before .before .before .before .before .before .before .before .before .pre) _ _ (omega arith) (sym (c .before .before .before .before .before .before .before .before .before .before .before .before .before .is-legal .ensures) ∙ not-false _ (c .before .before .before .before .before .before .before .before .before .before .before .before .if2 .left)) _ _ _ refl (c .before .before .before .before .before .before .before .before .read-lanes .ensures .value) (c .before .before .before .before .before .before .before .before .before .before .before .from-list .ensures .value) _ _ (rw (c .enum-told3 .given .1) at (c .before .before .before .before .try-checked .ensures))
 
 pub go-on-spec : {M : Type 1} → statement M
 go-on-spec =
@@ -113,10 +104,7 @@ go-on-spec =
     try-checked-requires
     enum-told
     enum-told-2
-    enum-told-3
     same-length-2
     returns-4
     same-length-3
-    returns-5
-    same-length-4
-    returns-6)
+    returns-5)

@@ -1,0 +1,2 @@
+-- What the scan for the smallest empty set finds. Assumes nothing.
+pub mod Least
