@@ -4,6 +4,7 @@ pub mod Areas
 pub mod Demand1
 pub mod Demand2
 pub mod Demand3
+pub mod Chain
 pub mod MergeRefused
 pub mod MergeKept
 pub mod MergeLoaded
