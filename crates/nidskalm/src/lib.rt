@@ -2,6 +2,7 @@
 mod merges;
 mod moves;
 mod replies;
+mod targets;
 
 // `refusal` is 0 or the number of the row that refuses the call, here and below; the other fields are 0 when refused.
 #[repr(C)]
