@@ -24,4 +24,9 @@ runner=tests/oracle/target/checked/oracle
 if [ "${#features[@]}" -gt 0 ] && [ "${1:-}" != --record ]; then
     "$runner" --replay tests/oracle/recorded.txt
 fi
+case "${1:-}" in
+    --record) ;;
+    --self-test) tests/oracle/target/checked/targets --self-test ;;
+    *) tests/oracle/target/checked/targets ;;
+esac
 exec "$runner" "$@"

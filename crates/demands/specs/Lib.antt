@@ -10,3 +10,4 @@ pub mod MergeLoaded
 pub mod MergeWarning
 pub mod MergeEither
 pub mod MergeSwap
+pub mod Choice

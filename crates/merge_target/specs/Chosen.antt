@@ -1,23 +1,23 @@
 -- The choice put together. Assumes nothing.
-use Prim.Native.Nat.{ℕ, zero, suc, _+_, _/_, _%_, _^_, _<_, _≤_}
+use Prim.Native.Nat.{ℕ, zero, suc, _/_, _%_, _^_, _<_, _≤_}
 use native.Mathlib.Omega.{arith}
 use mathlib.Core.Path.{_≡_, refl, sym, ap, _∙_}
-use mathlib.Core.Bool.{Bool, true, false, not, cond, _&&_, _||_}
+use mathlib.Core.Bool.{Bool, true, false, cond, _&&_, _||_}
 use mathlib.Core.List.{List}
 use lib.ListN.{getD, length}
 use lib.Dec.{ltb, eqb}
-use borrow.Author.Tests.{eq-eqb, ne-eqb, eqb-true, eqb-false, ltb-true}
-use Rattle.graphs.specs.Bools.{and-left, and-right, or-false, Same, it, other, same?}
+use borrow.Author.Tests.{eq-eqb, ne-eqb, ltb-true}
+use Rattle.graphs.specs.Bools.{and-left, Same, it, other, same?}
 use Rattle.merge_state.specs.State.{None}
 use Rattle.merge_state.specs.Table.{Answer, refused, chunk, nothing}
 use Rattle.merge_target.specs.declared.TargetAnswer as a
 use Rattle.merge_target.specs.Choice.{Lists, Lent, lists, bits, role, first-below, some-role, wins, first-target, unreached, leaks, strayed, polluted, guarded, user-target, dynamic-target, chosen, choice, built-in}
 use Rattle.merge_target.specs.Find.{row23, told, find}
-use Rattle.merge_target.specs.Spans.{Span, Spans}
+use Rattle.merge_target.specs.Spans.{Spans}
 use Rattle.merge_target.specs.Named.{reads, Named, CanSetRoles, named-all, bits-le}
 use Rattle.merge_target.specs.Search.{CanFirst}
 use Rattle.merge_target.specs.Guards.{CanReach, CanLeakFrom, CanStray, CanPollute}
-use Rattle.merge_target.specs.Rows.{Legal, legal}
+use Rattle.merge_target.specs.Rows.{Legal}
 
 -- what a call is lent, beside the kinds
 abbrev pub lent : List ℕ → List ℕ → List ℕ → List ℕ → List ℕ → List ℕ → List ℕ → List ℕ → List ℕ → List ℕ → List ℕ → List ℕ → Lent

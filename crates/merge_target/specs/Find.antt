@@ -1,5 +1,5 @@
 -- What the call answers, refused or not. Sentences quoted are document 02's, (i). Assumes nothing.
-use Prim.Native.Nat.{ℕ, _+_}
+use Prim.Native.Nat.{ℕ}
 use mathlib.Core.Bool.{Bool, not, cond, _&&_, _||_, false}
 use mathlib.Core.List.{List}
 use lib.ListN.{getD, length}

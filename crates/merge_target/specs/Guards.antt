@@ -1,19 +1,17 @@
 -- What bars a target, read from tables of marks. Assumes nothing.
-use Prim.Native.Nat.{ℕ, _+_, _<_, _≤_}
-use native.Mathlib.Omega.{arith}
+use Prim.Native.Nat.{ℕ, _<_, _≤_}
 use mathlib.Core.Path.{_≡_, refl, sym, ap, _∙_, fun-ext}
 use mathlib.Core.Bool.{Bool, true, false, not, cond, _&&_, _||_}
 use mathlib.Core.List.{List}
-use lib.ListN.{getD, length, replicate}
+use lib.ListN.{getD, length}
 use lib.Dec.{eqb}
 use borrow.Author.Tests.{eq-eqb, ne-eqb, eqb-true}
 use Rattle.graphs.specs.Bools.{alike, and-left, and-right, and-both}
 use Rattle.graphs.specs.Lists.{some-below, some-give, some-take}
-use Rattle.graphs.specs.Tab.{zeros}
 use Rattle.merge_state.specs.State.{flag}
 use Rattle.merge_target.specs.Choice.{lists, size, some-from, some-of, some-in, in-list, unreached, leaks, there, strayed, dynamic-module, pollutes, polluted}
 use Rattle.merge_target.specs.Spans.{Span}
-use Rattle.merge_target.specs.Marks.{Marked, hits, all, part, empty, dynamic, CanMarkList}
+use Rattle.merge_target.specs.Marks.{Marked, hits, all, part, empty, dynamic}
 use Rattle.merge_target.specs.Named.{reads}
 
 -- v stands in the table at y

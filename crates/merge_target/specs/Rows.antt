@@ -1,13 +1,12 @@
 -- The row that refuses a call, and what holds where it doesn't fit. Assumes nothing.
-use Prim.Native.Nat.{ℕ, _+_, _<_, _≤_}
-use native.Mathlib.Omega.{arith}
-use mathlib.Core.Path.{_≡_, refl, sym, ap, _∙_}
-use mathlib.Core.Bool.{Bool, true, false, not, _&&_, _||_}
+use Prim.Native.Nat.{ℕ, _<_, _≤_}
+use mathlib.Core.Path.{_≡_, sym, _∙_}
+use mathlib.Core.Bool.{Bool, true, false, not, _||_}
 use mathlib.Core.List.{List}
 use lib.ListN.{getD, length}
 use lib.Dec.{ltb, leb, eqb}
-use borrow.Author.Tests.{ltb-false, leb-false, eqb-true, eq-eqb, ne-eqb, not-false, not-true}
-use Rattle.graphs.specs.Bools.{or-false-left, or-false-right, and-both, fails}
+use borrow.Author.Tests.{ltb-false, leb-false, eqb-true, eq-eqb, ne-eqb, not-false}
+use Rattle.graphs.specs.Bools.{or-false-left, or-false-right}
 use Rattle.graphs.specs.Lists.{some-none}
 use Rattle.merge_state.specs.Table.{any-misfit, other-length}
 use Rattle.merge_state.specs.Kept.{no-misfit}

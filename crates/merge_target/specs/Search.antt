@@ -11,7 +11,7 @@ use borrow.Author.Tests.{eq-eqb, ne-eqb}
 use Rattle.graphs.specs.Bools.{Same, it, other, same?}
 use Rattle.graphs.specs.Lists.{some-below}
 use Rattle.merge_state.specs.State.{None}
-use Rattle.merge_target.specs.Choice.{lists, start, size, some-from, in-list, first-below, imports, wins, first-target}
+use Rattle.merge_target.specs.Choice.{lists, size, some-from, in-list, first-below, imports, wins}
 use Rattle.merge_target.specs.Spans.{Span}
 use Rattle.merge_target.specs.Marks.{Marked, hits, all, part, CanMarkList}
 use Rattle.merge_target.specs.Named.{reads}

@@ -9,7 +9,7 @@ use lib.Dec.{ltb, eqb}
 use borrow.Author.Tests.{ltb-false, eqb-true, not-false}
 use Rattle.graphs.specs.Bools.{or-false-left, or-false-right}
 use Rattle.graphs.specs.Lists.{some-none}
-use Rattle.merge_state.specs.Table.{bad-starts, falling, any-misfit}
+use Rattle.merge_state.specs.Table.{bad-starts, falling}
 use Rattle.merge_state.specs.Kept.{no-misfit}
 use Rattle.merge_target.specs.Choice.{lists}
 use Rattle.merge_target.specs.Find.{bad-lists}

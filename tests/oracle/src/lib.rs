@@ -22,3 +22,6 @@ pub mod stand_in_library;
 mod stand_in_merges;
 mod stand_in_moves;
 pub mod stand_ins;
+pub mod target_cases;
+pub mod target_model;
+pub mod target_original;
