@@ -30,7 +30,8 @@ fn large(named: u32, users: u32, last_wins: bool) -> Case {
             _ => vec![],
         })
         .collect();
-    let modules: Vec<Vec<u32>> = (0..k).map(|chunk| if chunk == target { (0..m).collect() } else { vec![chunk; 4] }).collect();
+    let modules: Vec<Vec<u32>> =
+        (0..k).map(|chunk| if chunk == target { (0..m).collect() } else { vec![chunk; 4] }).collect();
     let reached: Vec<Vec<u32>> =
         (0..k).map(|chunk| if chunk == target { (users..named).collect() } else { (300..307).collect() }).collect();
     let entries = Entries {
@@ -69,15 +70,23 @@ fn small() -> Case {
 fn row(name: &str, case: &Case, library: Option<Call>) {
     let original = Original::new(&case.entries, &case.candidate, case.set);
     let found = original.choose();
-    let theirs = best(CALLS, || (), |_, _| {
-        std::hint::black_box(original.choose());
-    });
+    let theirs = best(
+        CALLS,
+        || (),
+        |_, _| {
+            std::hint::black_box(original.choose());
+        },
+    );
     let ours = library.map(|call| {
         let told = call(case);
         assert_eq!(told, Reply::value(found.map_or(u64::from(u32::MAX), u64::from)), "{name}");
-        best(CALLS, || (), |_, _| {
-            std::hint::black_box(call(case));
-        })
+        best(
+            CALLS,
+            || (),
+            |_, _| {
+                std::hint::black_box(call(case));
+            },
+        )
     });
     let found = found.map_or("none".into(), |target| target.to_string());
     match ours {

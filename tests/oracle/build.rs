@@ -1,4 +1,5 @@
-//! Finds the original's files, checks that they are the ones meant, and cuts out the merge graph.
+//! Finds the original's files, checks that they are the ones meant, and cuts out the merge graph. Without them the library is compared with
+//! the model alone.
 use std::env;
 use std::fs;
 use std::path::{Path, PathBuf};
@@ -58,13 +59,10 @@ fn cut_choice(lines: &[&str]) {
     fs::write(out, format!("impl GenerateStage {{\n{cut}\n}}\n")).unwrap();
 }
 
-fn main() {
-    println!("cargo:rerun-if-env-changed=NIDSKALM_ORIGINAL");
-    println!("cargo:rerun-if-env-changed=NIDSKALM_LIB_DIR");
-    let repository = Path::new(&env::var("CARGO_MANIFEST_DIR").unwrap()).join("../..");
-    let docs = env::var_os("NIDSKALM_ORIGINAL").map_or_else(|| repository.join("../shared/docs/src"), PathBuf::from);
+/// Checks the original's files and hands them over.
+fn original(docs: &Path) {
+    println!("cargo:rustc-cfg=original");
     let stage = docs.join("src/stages/generate_stage");
-
     let reduced_path = stage.join("reduced_chunk_graph.rs");
     let reduced = read(&reduced_path);
     assert_eq!(sum(&reduced), REDUCED_SUM, "reduced_chunk_graph.rs is not the one of rolldown 1.2.16");
@@ -86,7 +84,26 @@ fn main() {
     let out = Path::new(&env::var("OUT_DIR").unwrap()).join("chunk_optimization_graph.rs");
     fs::write(out, cut).unwrap();
     cut_choice(&lines);
+}
 
+/// Where the original's files are: as NIDSKALM_ORIGINAL says, or beside the repository, if they are there.
+fn place(repository: &Path) -> Option<PathBuf> {
+    if let Some(docs) = env::var_os("NIDSKALM_ORIGINAL").filter(|docs| !docs.is_empty()) {
+        return Some(docs.into());
+    }
+    let docs = repository.join("../shared/docs/src");
+    println!("cargo:rerun-if-changed={}", docs.display());
+    docs.exists().then_some(docs)
+}
+
+fn main() {
+    println!("cargo:rustc-check-cfg=cfg(original)");
+    println!("cargo:rerun-if-env-changed=NIDSKALM_ORIGINAL");
+    println!("cargo:rerun-if-env-changed=NIDSKALM_LIB_DIR");
+    let repository = Path::new(&env::var("CARGO_MANIFEST_DIR").unwrap()).join("../..");
+    if let Some(docs) = place(&repository) {
+        original(&docs);
+    }
     if env::var_os("CARGO_FEATURE_OURS").is_some() {
         let library =
             env::var_os("NIDSKALM_LIB_DIR").map_or_else(|| repository.join("target/staticlib"), PathBuf::from);

@@ -5,9 +5,9 @@ use mathlib.Core.List.{List, [], _∷_}
 use Rattle.graphs.specs.Lists.{any, below}
 use Rattle.merge_state.specs.State.{misfit}
 use Rattle.merge_state.specs.Table.{Answer, refused, chunk, nothing, falling, bad-starts, any-misfit}
-use Rattle.merge_target.specs.Choice.{Lists, lists, some-in, some-from, bits, role, first-below, some-role, imports, wins, first-target, unreached, leaks, dynamic-module, pollutes, polluted, there, strayed, guarded, user-target, dynamic-target, chosen, choice}
-use Rattle.merge_target.specs.Find.{bad-lists, bad-entry, bad-lengths, bad-spans, bad-numbers, row23, find}
-use Rattle.merge_target.specs.Find as found
+use Rattle.merge_choice.specs.Choice.{Lists, lists, some-in, some-from, bits, role, first-below, some-role, imports, wins, first-target, unreached, leaks, dynamic-module, pollutes, polluted, there, strayed, guarded, user-target, dynamic-target, chosen, choice}
+use Rattle.merge_choice.specs.Find.{bad-lists, bad-entry, bad-lengths, bad-spans, bad-numbers, row23, find}
+use Rattle.merge_choice.specs.Find as found
 
 -- chunks 0 and 1 are user entries of modules 0 and 1, chunk 2 is a dynamic entry of module 2, and chunk 3 a common chunk, whose entry module
 -- isn't read; module 3 is in none

@@ -10,6 +10,7 @@ use merge_state::Sizes;
 ghost use Rattle.merge_state.specs.Table.{init-module-assignment, add-module-to-chunk, register-chunk-graph-index, to-temp-idx, calc-chunk-dependencies, would-create-circular-dependency, is-reachable, merge-chunk-dependencies, pass};
 ghost use Rattle.merge_area.specs.Calls.{Called, PassCalled};
 ghost use Rattle.chunk_optimizer.specs.Answers.{done-told, temp-told, said-told, pass-told, assigned};
+ghost use Rattle.chunk_optimizer.specs.Registering.{Standing};
 
 // What a call answers that is neither a question nor the pass.
 pub enum DoneAnswer {
@@ -81,6 +82,22 @@ pub fn add_module_to_chunk(
     DoneAnswer::Done
 }
 
+// Records the chunk of a key on an area that passed the rows 14, 15 and 21.
+fn register_made(sizes: Sizes, area: &mut [u32], key: ChunkIdx, chunk: ChunkIdx) -> DoneAnswer
+    requires { ⌜ Standing sizes (now area) ⌝ }
+    ensures { λ r. ⌜ Called sizes (now (area .entry)) (register-chunk-graph-index (key .0) (chunk .0)) (done-told r) (now (area .exit)) ⌝ }
+{
+    if sizes.chunks <= key.0 as usize {
+        return DoneAnswer::Refused(16);
+    }
+    let made = merge_area::header(sizes, area, 1);
+    if made <= chunk.0 {
+        return DoneAnswer::Refused(16);
+    }
+    merge_writes::register(sizes, area, key, chunk);
+    DoneAnswer::Done
+}
+
 // Records the chunk of a key, in place of any that it has.
 pub fn register_chunk_graph_index(
     sizes: Sizes,
@@ -90,12 +107,11 @@ pub fn register_chunk_graph_index(
 ) -> DoneAnswer
     ensures { λ r. ⌜ Called sizes (now (area .entry)) (register-chunk-graph-index (key .0) (chunk .0)) (done-told r) (now (area .exit)) ⌝ }
 {
-    let row = merge_rows::rows::register_row(sizes, area, key, chunk);
+    let row = merge_area::standing_row(sizes, false, false, area);
     if row != 0 {
         return DoneAnswer::Refused(row);
     }
-    merge_writes::register(sizes, area, key, chunk);
-    DoneAnswer::Done
+    register_made(sizes, area, key, chunk)
 }
 
 // The chunk registered for a key, or none.
@@ -131,7 +147,7 @@ pub fn calc_chunk_dependencies(
         return DoneAnswer::Refused(row);
     }
     let used = merge_area::header(sizes, area, 4) as usize;
-    merge_writes::calculate(sizes, area, starts, dependencies, used);
+    merge_dependencies::calculate(sizes, area, starts, dependencies, used);
     DoneAnswer::Done
 }
 
@@ -189,7 +205,7 @@ pub fn merge_chunk_dependencies(
     if row != 0 {
         return DoneAnswer::Refused(row);
     }
-    merge_writes::merge(sizes, area, target, source);
+    merge_dependencies::merge(sizes, area, target, source);
     DoneAnswer::Done
 }
 

@@ -12,9 +12,9 @@ use Rattle.graphs.specs.Bools.{and-left, and-right, or-cases, or-false-left, or
 use Rattle.graphs.specs.Lists.{some-none, none-below}
 use Rattle.merge_state.specs.State.{None, misfit}
 use Rattle.merge_state.specs.Table.{any-misfit}
-use Rattle.merge_target.specs.Choice.{Lent, bits, role, in-list, some-role, imports, wins, first-below, first-target, unreached, leaks, strayed, polluted, guarded, user-target, dynamic-target, chosen, choice}
-use Rattle.merge_target.specs.Named.{bits-le}
-use Rattle.merge_target.specs.Chosen.{first-in}
+use Rattle.merge_choice.specs.Choice.{Lent, bits, role, in-list, some-role, imports, wins, first-below, first-target, unreached, leaks, strayed, polluted, guarded, user-target, dynamic-target, chosen, choice}
+use Rattle.merge_choice.specs.Named.{bits-le}
+use Rattle.merge_choice.specs.Chosen.{first-in}
 
 -- what the bits of a set name: nothing, a dynamic entry, a user entry, a common chunk
 abbrev Roles : Type 0

@@ -1,4 +1,4 @@
--- The demands on the move graph, one file each; those on the merge graph, one file for each theorem; and what they speak of. Assumes nothing.
+-- The demands on the move graph, one file each; those on the merge graph and of later requests, one file for each theorem; and what they speak of. Assumes nothing.
 pub mod History
 pub mod Areas
 pub mod Demand1
@@ -10,4 +10,5 @@ pub mod MergeLoaded
 pub mod MergeWarning
 pub mod MergeEither
 pub mod MergeSwap
+pub mod Colours
 pub mod Choice

@@ -15,7 +15,7 @@ use Rattle.graph_neighbours.specs.Lists.{deg, nb, edge, listed}
 use Rattle.graph_depth_first.specs.Search.{Falls, size}
 use Rattle.graph_depth_first.specs.Steps.{at, CanDiscover, Discovered, Finished, CanVisit, Visited, Ready, Top, Kept, Stepped}
 use Rattle.graph_depth_first.proofs.Whites.{room-for}
-use Rattle.graph_depth_first.specs.Colours.{view, held, Next, Step, opens, passes, closes}
+use Rattle.graph_colours.specs.Colours.{view, held, Next, Step, opens, passes, closes}
 use Rattle.graph_depth_first.proofs.Views.{next-top, view-opens, view-passes, view-closes}
 use Rattle.graph_depth_first.proofs.Moves as moves
 use Rattle.graph_depth_first.proofs.Falling as falling

@@ -1,4 +1,4 @@
--- The laws that the proofs of `depth_first` cite. Assumes nothing.
+-- The laws that the proofs of `graph_depth_first` cite. Assumes nothing.
 pub mod Whites
 pub mod Moves
 pub mod Falling

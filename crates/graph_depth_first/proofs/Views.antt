@@ -7,25 +7,10 @@ use mathlib.Core.Logic.{_⊎_}
 use mathlib.Core.List.{List, [], _∷_}
 use lib.ListN.{getD, length, set}
 use lib.Seq.{getD-set-same, getD-set-other}
-use Rattle.graph_depth_first.specs.declared.State.{State}
-use Rattle.graph_depth_first.specs.declared.State.the-variants.{White, Gray, Black}
-use Rattle.graph_depth_first.specs.Colours.{next-state, state-of, View, Turns, Next, Opens, Passes, Closes, Step, Run, none, more, held, view}
+use Rattle.graph_colours.specs.declared.State.the-variants.{White, Gray, Black}
+use Rattle.graph_colours.specs.Colours.{next-state, state-of, View, Turns, Next, Opens, Passes, Closes, Step, Run, none, more, held, view}
+use Rattle.graph_colours.specs.States.{state-black, state-known}
 use Rattle.graph_depth_first.specs.Steps.{at}
-
-abbrev code : State → ℕ
-code White = 0
-code Gray = 1
-code Black = 2
-
-pub state-black : (c : ℕ) → 2 ≤ c → state-of c ≡ Black
-state-black zero h = absurd (omega arith)
-state-black (suc zero) h = absurd (omega arith)
-state-black (suc (suc k)) h = refl
-
-pub state-known : (c : ℕ) → (c ≡ 0 → ⊥) → state-of c ≡ White → ⊥
-state-known zero h q = h refl
-state-known (suc zero) h q = omega (arith, ap code q)
-state-known (suc (suc k)) h q = omega (arith, ap code q)
 
 held-more : (s : ℕ → ℕ) (p : ℕ) → held s (p + 1) ≡ s p ∷ held s p
 unfolding held

@@ -1,6 +1,4 @@
--- The definitions that the contracts of `depth_first` cite. Assumes nothing.
+-- The definitions that the contracts of `graph_depth_first` cite. Assumes nothing.
 pub mod Order
 pub mod Search
 pub mod Steps
-pub mod Colours
-pub mod Life

@@ -8,7 +8,7 @@ use Rattle.graphs.specs.Lists.{below}
 use Rattle.graphs.specs.Walk.{cyclic}
 use Rattle.graph_neighbours.specs.Lists.{deg, nb, edge, Graph}
 use Rattle.graph_depth_first.specs.Order.{Ordered}
-use Rattle.graph_depth_first.specs.Colours.{view, Step, Run}
+use Rattle.graph_colours.specs.Colours.{view, Step, Run}
 use Rattle.graph_depth_first.specs.Search.{Search, Falls, size}
 
 abbrev pub at : List ℕ → ℕ → ℕ

@@ -7,52 +7,8 @@ ghost use Rattle.graphs.specs.Lists.{below};
 ghost use Rattle.graphs.specs.Walk.{cyclic};
 ghost use Rattle.graph_neighbours.specs.Direction.{along};
 ghost use Rattle.graph_neighbours.specs.Lists.{deg, nb, edge};
-ghost use Rattle.graph_depth_first.specs.Colours.{next-state, state-of, number-of, view, Ran};
+ghost use Rattle.graph_colours.specs.Colours.{view, Ran};
 ghost use Rattle.graph_depth_first.specs.Steps.{CanDiscover, Discovered, CanFinish, Finished, CanVisit, Visited, Ready, Top, Stepped, Searched, CanWalk, Walked};
-
-// A node's state, as in the book: white till it is discovered, gray while its edges are gone through, black from then on.
-pub enum State {
-    White,
-    Gray,
-    Black,
-}
-
-// The state that a number of the list of colours stands for.
-fn state_of(c: u32) -> State
-    ensures { λ r. ⌜ r ≡ state-of c ⌝ }
-{
-    match c {
-        0 => State::White,
-        1 => State::Gray,
-        _ => State::Black,
-    }
-}
-
-// The next state of a node.
-fn next_state(s: State) -> State
-    ensures { λ r. ⌜ r ≡ next-state s ⌝ }
-{
-    match s {
-        // it is discovered
-        State::White => State::Gray,
-        // all its edges are gone through
-        State::Gray => State::Black,
-        // to the end
-        State::Black => State::Black,
-    }
-}
-
-// The number of a state, once fin nodes have finished.
-fn number_of(s: State, fin: usize) -> u32
-    requires { ⌜ fin < 2 ^ 31 ⌝ }
-    ensures { λ r. ⌜ r ≡ number-of s fin ⌝ }
-{
-    match s {
-        State::White => 0,
-        State::Gray => 1,
-        State::Black => fin as u32 + 2,
-    }
-}
 
 // Where a search stands: the stack's height, how many nodes have finished, and whether a gray neighbour was met.
 struct At {
@@ -67,8 +23,8 @@ fn discover(colour: &mut [u32], stack: &mut [u32], low: &mut [u32], sp: usize, y
     ensures { λ _. ⌜ Discovered (now (colour .entry)) (now (stack .entry)) (now (low .entry)) sp y fin (now (colour .exit)) (now (stack .exit)) (now (low .exit)) ⌝ }
 {
     let i = y as usize;
-    let s = state_of(colour[i]);
-    colour[i] = number_of(next_state(s), fin);
+    let s = graph_colours::state_of(colour[i]);
+    colour[i] = graph_colours::number_of(graph_colours::next_state(s), fin);
     stack[sp] = y;
     low[i] = fin as u32;
 }
@@ -78,8 +34,8 @@ fn finish(colour: &mut [u32], order: &mut [u32], t: usize, fin: usize)
     requires { ⌜ CanFinish (now colour) (now order) t fin ⌝ }
     ensures { λ _. ⌜ Finished (now (colour .entry)) (now (order .entry)) t fin (now (colour .exit)) (now (order .exit)) ⌝ }
 {
-    let s = state_of(colour[t]);
-    colour[t] = number_of(next_state(s), fin);
+    let s = graph_colours::state_of(colour[t]);
+    colour[t] = graph_colours::number_of(graph_colours::next_state(s), fin);
     order[fin] = t as u32;
 }
 

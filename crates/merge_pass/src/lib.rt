@@ -36,7 +36,7 @@ fn place(sizes: Sizes, area: &mut [u32], x: ChunkIdx, p: u32, b: u32) -> Placed
     ensures { λ r. ⌜ PlacedIn sizes (now (area .entry)) (x .0) p b r (now (area .exit)) ⌝ }
 {
     if may_merge(sizes, area, x, p, b) {
-        merge_writes::merge(sizes, area, ChunkIdx(p), x);
+        merge_dependencies::merge(sizes, area, ChunkIdx(p), x);
         return Placed { kind: 0, number: p };
     }
     let number = merge_area::header(sizes, area, 0) + merge_area::header(sizes, area, 2);

@@ -13,7 +13,7 @@ ghost use lib.ListN.{length};
 ghost use lib.Dec.{eqb, leb};
 ghost use Rattle.entry_set.specs.Sets.{value};
 ghost use Rattle.merge_state.specs.State.{None, chunk-of};
-ghost use Rattle.merge_state.specs.Table.{first-fitting, init-module-assignment, add-module-to-chunk, register-chunk-graph-index, calc-chunk-dependencies, would-create-circular-dependency, is-reachable, pass};
+ghost use Rattle.merge_state.specs.Table.{first-fitting, init-module-assignment, add-module-to-chunk, calc-chunk-dependencies, would-create-circular-dependency, is-reachable, pass};
 ghost use Rattle.merge_area.specs.Layout.{cell, head};
 ghost use Rattle.merge_area.specs.Read.{sets-in};
 ghost use Rattle.merge_area.specs.Within.{Headed};
@@ -90,23 +90,6 @@ pub fn add_row(sizes: Sizes, area: &[u32], m: ModuleIdx, x: ChunkIdx, effects: &
     0
 }
 
-// The row of `register_chunk_graph_index`.
-pub fn register_row(sizes: Sizes, area: &[u32], key: ChunkIdx, chunk: ChunkIdx) -> u32
-    ensures { λ r. ⌜ r ≡ refusal sizes (now (area .entry)) (register-chunk-graph-index (key .0) (chunk .0)) ⌝ }
-{
-    let row = merge_area::standing_row(sizes, false, false, area);
-    if row != 0 {
-        return row;
-    }
-    if sizes.chunks <= key.0 as usize {
-        return 16;
-    }
-    if is_unmade(sizes, area, chunk) {
-        return 16;
-    }
-    0
-}
-
 // The row of `calc_chunk_dependencies`.
 pub fn calc_row(sizes: Sizes, area: &[u32], starts: &[u32], dependencies: &[u32]) -> u32
     ensures { λ r. ⌜ r ≡ refusal sizes (now (area .entry)) (calc-chunk-dependencies (now (starts .entry)) (now (dependencies .entry))) ⌝ }
@@ -171,9 +154,9 @@ pub fn pass_row(
 ) -> u32
     ensures { λ r. ⌜ r ≡ refusal sizes (now (area .entry)) (pass (now (proposals .entry)) (now (bars .entry)) (now (kinds .entry)) (now (numbers .entry))) ⌝ }
 {
-    let row = merge_area::standing_row(sizes, false, false, area);
-    if row != 0 {
-        return row;
+    let standing = merge_area::standing_row(sizes, false, false, area);
+    if standing != 0 {
+        return standing;
     }
     let n = crate::checks::count_candidates(sizes, area);
     if crate::checks::is_other_length(n, proposals.len(), bars.len(), kinds.len(), numbers.len()) {

@@ -7,10 +7,10 @@ ghost use Prim.Native.Nat.{_<_, _≤_};
 ghost use lib.Dec.{eqb};
 ghost use lib.ListN.{length, getD};
 ghost use Rattle.graphs.specs.Lists.{some-below};
-ghost use Rattle.merge_target.specs.Choice.{lists, some-from, some-of, some-in, unreached, leaks, strayed, polluted};
-ghost use Rattle.merge_target.specs.Named.{reads};
-ghost use Rattle.merge_target.specs.Marks.{CanMark, CanMarkList};
-ghost use Rattle.merge_target.specs.Guards.{stands, unmarked, reaches-named, outside, polluting, CanReach, CanLeakFrom, CanStray, CanStrayList, CanPollute, CanPolluteBy};
+ghost use Rattle.merge_choice.specs.Choice.{lists, some-from, some-of, some-in, unreached, leaks, strayed, polluted};
+ghost use Rattle.merge_choice.specs.Named.{reads};
+ghost use Rattle.merge_choice.specs.Marks.{CanMark, CanMarkList};
+ghost use Rattle.merge_choice.specs.Guards.{stands, unmarked, reaches-named, outside, polluting, CanReach, CanLeakFrom, CanStray, CanStrayList, CanPollute, CanPolluteBy};
 
 // v stands in the table at one of the n numbers from `from` on.
 fn some_at(items: &[u32], from: usize, n: usize, table: &[u32], v: u32) -> bool

@@ -14,10 +14,11 @@ ghost use mathlib.Core.Path.{_≡_};
 ghost use mathlib.Core.Bool.{false};
 ghost use lib.ListN.{length};
 ghost use Rattle.entry_set.specs.Sets.{number};
-ghost use Rattle.merge_target.specs.Choice.{lists, user-target, dynamic-target, choice};
-ghost use Rattle.merge_target.specs.Find.{row23, told, find};
-ghost use Rattle.merge_target.specs.Named.{reads};
-ghost use Rattle.merge_target.specs.Chosen.{lent, target-told, Ready, CanGuard};
+ghost use Rattle.merge_choice.specs.Choice.{lists, user-target, dynamic-target, choice};
+ghost use Rattle.merge_choice.specs.Find.{row23, told, find};
+ghost use Rattle.merge_choice.specs.Named.{reads};
+ghost use Rattle.merge_choice.specs.Chosen.{lent, Ready, CanGuard};
+ghost use Rattle.merge_target.specs.Answers.{target-told};
 
 // How many chunks and modules there are.
 pub struct Counts {

@@ -4,9 +4,9 @@ ghost use mathlib.Core.Bool.{true, cond};
 ghost use Prim.Native.Nat.{_+_, _<_, _≤_};
 ghost use lib.Dec.{eqb};
 ghost use lib.ListN.{length, getD, set};
-ghost use Rattle.merge_target.specs.Choice.{lists, size};
-ghost use Rattle.merge_target.specs.Marks.{Marked, all, part, empty, dynamic, CanMark, CanMarkList, CanMarkFree, CanMarkEntries};
-ghost use Rattle.merge_target.specs.Named.{reads};
+ghost use Rattle.merge_choice.specs.Choice.{lists, size};
+ghost use Rattle.merge_choice.specs.Marks.{Marked, all, part, empty, dynamic, CanMark, CanMarkList, CanMarkFree, CanMarkEntries};
+ghost use Rattle.merge_choice.specs.Named.{reads};
 
 // v at y, where b holds.
 fn mark_if(marks: &mut [u32], b: bool, y: usize, v: u32)

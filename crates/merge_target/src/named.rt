@@ -5,8 +5,8 @@ ghost use Prim.Native.Nat.{_/_, _%_, _^_, _<_, _≤_};
 ghost use lib.ListN.{length};
 ghost use lib.Dec.{eqb};
 ghost use Rattle.entry_set.specs.Sets.{number};
-ghost use Rattle.merge_target.specs.Choice.{bits, role, some-role};
-ghost use Rattle.merge_target.specs.Named.{reads, CanName, CanSetRoles, Named};
+ghost use Rattle.merge_choice.specs.Choice.{bits, role, some-role};
+ghost use Rattle.merge_choice.specs.Named.{reads, CanName, CanSetRoles, Named};
 
 // How many of k chunks the bits of a set can name.
 pub fn bits(k: usize) -> usize

@@ -6,9 +6,9 @@ ghost use mathlib.Core.Path.{_≡_};
 ghost use Prim.Native.Nat.{_<_};
 ghost use lib.ListN.{length};
 ghost use Rattle.graphs.specs.Lists.{some-below};
-ghost use Rattle.merge_target.specs.Choice.{lists};
-ghost use Rattle.merge_target.specs.Find.{bad-lists, bad-entry, bad-lengths, bad-spans, bad-numbers, row23};
-ghost use Rattle.merge_target.specs.Chosen.{lent};
+ghost use Rattle.merge_choice.specs.Choice.{lists};
+ghost use Rattle.merge_choice.specs.Find.{bad-lists, bad-entry, bad-lengths, bad-spans, bad-numbers, row23};
+ghost use Rattle.merge_choice.specs.Chosen.{lent};
 
 // Too many chunks or modules, or a list of the wrong length.
 fn has_bad_lengths(

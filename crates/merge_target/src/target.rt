@@ -3,9 +3,9 @@ use merge_state::NONE;
 ghost use mathlib.Core.Path.{_≡_};
 ghost use Prim.Native.Nat.{_+_};
 ghost use Rattle.graphs.specs.Lists.{some-below};
-ghost use Rattle.merge_target.specs.Choice.{lists, first-target};
-ghost use Rattle.merge_target.specs.Named.{reads};
-ghost use Rattle.merge_target.specs.Search.{misses, CanMiss, CanWin, Won, CanFirst, Searching};
+ghost use Rattle.merge_choice.specs.Choice.{lists, first-target};
+ghost use Rattle.merge_choice.specs.Named.{reads};
+ghost use Rattle.merge_choice.specs.Search.{misses, CanMiss, CanWin, Won, CanFirst, Searching};
 
 // Chunk o has role v, and its entry module neither is e nor has the mark.
 fn is_missing(

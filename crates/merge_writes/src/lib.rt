@@ -1,4 +1,4 @@
-// What a call writes.
+// What a call writes, the dependencies apart (crates/merge_dependencies).
 use entry_set::EntrySet;
 use merge_area::places::entry_chunk_place;
 use merge_area::places::entry_module_place;
@@ -16,14 +16,14 @@ use merge_state::Sizes;
 ghost use mathlib.Core.Path.{_≡_};
 ghost use mathlib.Core.Bool.{_||_};
 ghost use Prim.Native.Nat.{_+_, _*_, _<_, _≤_};
-ghost use lib.ListN.{length, getD, set};
+ghost use lib.ListN.{length};
 ghost use Rattle.graphs.specs.Count.{ind};
 ghost use Rattle.entry_set.specs.Sets.{number};
 ghost use Rattle.merge_state.specs.State.{yes};
 ghost use Rattle.merge_area.specs.Layout.{room};
-ghost use Rattle.merge_area.specs.Writes.{register-area, append-area, open-area, init-area, link, linked, calc-area, union-cell, merged-rows, merge-area, create-area};
+ghost use Rattle.merge_area.specs.Writes.{register-area, append-area, open-area, init-area, create-area};
 ghost use Rattle.merge_area.specs.Within.{Within};
-ghost use Rattle.merge_laws.specs.Can.{CanAppend, CanOpen, CanAssign, CanLink, CanLinked, CanCalc, CanMerge, CanMergeArea, CanCreate};
+ghost use Rattle.merge_laws.specs.Can.{CanAppend, CanOpen, CanAssign, CanCreate};
 
 // Chunk x is registered for key k.
 pub fn register(sizes: Sizes, area: &mut [u32], k: ChunkIdx, x: ChunkIdx)
@@ -34,7 +34,7 @@ pub fn register(sizes: Sizes, area: &mut [u32], k: ChunkIdx, x: ChunkIdx)
 }
 
 // 1 where v isn't 0 or e holds.
-fn or_flag(v: u32, e: bool) -> u32
+pub fn or_flag(v: u32, e: bool) -> u32
     ensures { λ r. ⌜ r ≡ ind (yes v || e) ⌝ }
 {
     if v != 0 {
@@ -88,101 +88,6 @@ pub fn assign(sizes: Sizes, area: &mut [u32], m: ModuleIdx, x: u32, set: EntrySe
         return;
     }
     append(sizes, area, m, ChunkIdx(x), e);
-}
-
-// Chunk x depends on chunk y, if y isn't None nor x.
-fn add_link(sizes: Sizes, area: &mut [u32], x: u32, y: u32)
-    requires { ⌜ CanLink sizes (now area) x y ⌝ }
-    ensures { λ _. ⌜ now (area .exit) ≡ link sizes (now (area .entry)) x y ⌝ }
-{
-    if y == NONE {
-        return;
-    }
-    if x == y {
-        return;
-    }
-    let at = x as usize * sizes.chunks + y as usize;
-    area[at] = 1;
-}
-
-// Chunk x depends on the chunks of the n dependencies from `from` on.
-fn add_links(sizes: Sizes, area: &mut [u32], dependencies: &[u32], x: u32, from: usize, n: usize)
-    requires { ⌜ CanLinked sizes (now area) (now dependencies) x from n ⌝ }
-    ensures { λ _. ⌜ now (area .exit) ≡ linked sizes (now (dependencies .entry)) x from (now (area .entry)) n ⌝ }
-{
-    let mut j = 0;
-    while j < n {
-        let m = dependencies[from + j] as usize;
-        let y = area[home_place(sizes, m)];
-        add_link(sizes, area, x, y);
-        j += 1;
-    }
-}
-
-// Each listed module's chunk depends on the chunks of the module's dependencies.
-pub fn calculate(sizes: Sizes, area: &mut [u32], starts: &[u32], dependencies: &[u32], used: usize)
-    requires { ⌜ CanCalc sizes (now area) (now starts) (now dependencies) used ⌝ }
-    ensures { λ _. ⌜ now (area .exit) ≡ calc-area sizes (now (starts .entry)) (now (dependencies .entry)) (now (area .entry)) used ⌝ }
-{
-    let mut i = 0;
-    while i < used {
-        let m = area[entry_module_place(sizes, i)] as usize;
-        let from = starts[m] as usize;
-        let n = starts[m + 1] as usize - from;
-        let x = area[entry_chunk_place(sizes, i)];
-        add_links(sizes, area, dependencies, x, from, n);
-        i += 1;
-    }
-}
-
-// One number of the union of two rows, without the target itself.
-fn union_of(a: u32, b: u32, y: usize, target: usize) -> u32
-    ensures { λ r. ⌜ r ≡ union-cell a b y target ⌝ }
-{
-    if y == target {
-        return 0;
-    }
-    if a != 0 {
-        return 1;
-    }
-    if b != 0 {
-        return 1;
-    }
-    0
-}
-
-// Number y of both rows.
-fn merge_cell(flags: &mut [u32], c: usize, target: usize, source: usize, y: usize)
-    requires { ⌜ (target * c + y < length (now flags)) × (source * c + y < length (now flags)) ⌝ }
-    ensures { λ r. ⌜ now (flags .exit) ≡ set (set (now (flags .entry)) (target * c + y) (union-cell (getD (now (flags .entry)) (target * c + y) 0) (getD (now (flags .entry)) (source * c + y) 0) y target)) (source * c + y) 0 ⌝ }
-{
-    let v = union_of(flags[target * c + y], flags[source * c + y], y, target);
-    flags[target * c + y] = v;
-    flags[source * c + y] = 0;
-}
-
-// The target's row becomes the union without the target, the source's row empties.
-fn merge_rows(flags: &mut [u32], c: usize, target: usize, source: usize)
-    requires { ⌜ CanMerge (now flags) c target source ⌝ }
-    ensures { λ r. ⌜ now (flags .exit) ≡ merged-rows (now (flags .entry)) c target source ⌝ }
-{
-    let mut y = 0;
-    while y < c {
-        merge_cell(flags, c, target, source, y);
-        y += 1;
-    }
-}
-
-// The two rows, and the target's side effects.
-pub fn merge(sizes: Sizes, area: &mut [u32], target: ChunkIdx, source: ChunkIdx)
-    requires { ⌜ CanMergeArea sizes (now area) (target .0) (source .0) ⌝ }
-    ensures { λ _. ⌜ now (area .exit) ≡ merge-area sizes (now (area .entry)) (target .0) (source .0) ⌝ }
-{
-    let kept = side_place(sizes, target.0 as usize);
-    let taken = side_place(sizes, source.0 as usize);
-    let effects = or_flag(area[kept], area[taken] != 0);
-    merge_rows(area, sizes.chunks, target.0 as usize, source.0 as usize);
-    area[kept] = effects;
 }
 
 // Chunk x is registered for the next number.

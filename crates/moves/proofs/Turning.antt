@@ -1,20 +1,22 @@
 -- How the turns of the program's loop are told by what the interpreter and the turns before did. Assumes nothing.
 use mathlib.Core.Path.{_≡_, refl, sym, ap, subst, _∙_}
 use mathlib.Core.Bool.{Bool, true, false, true≢false}
-use mathlib.Core.List.{List, [], _++_}
-use Prim.Native.Nat.{ℕ, _+_, _-_, _≤_, _<_}
+use mathlib.Core.List.{List}
+use Prim.Native.Nat.{ℕ, _+_, _-_, _≤_, _<_, _%_, _^_}
 use native.Mathlib.Omega.{arith}
 use lib.ListN.{length, take, drop, length-drop}
 use lib.Seq.{length-take-le}
+use lib.IntN.{ℤ, pos, negsuc}
 use borrow.Author.Tests.{le-leb}
+use Rattle.io.specs.Counts.{clamped}
 use Rattle.moves_replies.specs.Room.{Put, put-as}
 use Rattle.moves_load_commands.specs.declared.Machine.{Machine}
 use Rattle.moves_commands.specs.Program.{areas, State, finish, fresh}
 use Rattle.moves_commands.specs.Fits.{Ready}
 use Rattle.moves_commands.specs.Feed.{reserve, feed, finished}
 use Rattle.moves_commands.specs.Steps.{FedAs}
-use Rattle.moves.specs.Bytes.{after, said, after-append, after-ready, feed-first, feed-some}
-use Rattle.moves.specs.Turns.{stopping, Took, Answered, TookAll, TookRead, Ran, StartsWith, put-taken, took-on}
+use Rattle.moves.specs.Bytes.{after, said, after-ready, feed-first, feed-some}
+use Rattle.moves.specs.Turns.{stopping, Took, Answered, TookAll, TookRead, Ran, begun, further, RanOut, StartsWith, put-taken, took-on, ran-all}
 
 -- a turn
 pub answered : {st st′ : State (List ℕ)} {input out out′ : List ℕ} {used written : ℕ} (room : ℕ) → Ready st → (0 < length input) × (reserve ≤ room)
@@ -71,35 +73,49 @@ module _ {st st′ : State (List ℕ)} {input : List ℕ} {at : ℕ} (t : Took s
   pub ends : length input ≤ at → TookAll st input st′ at true
   ends h = record { took = t; some = λ k. omega arith; all = λ e. omega (arith, t .inside, h) }
 
--- the reads so far
-pub ran-none : {st st′ : State (List ℕ)} → st′ ≡ st → Ran st st′ true
-unfolding after
-ran-none e = record { bytes = []; state = e }
+-- a read gives as many bytes as its list has room for, at most
+clamped-le : (got : ℤ) (most : ℕ) → clamped got most ≤ most
+clamped-le (pos k) most = omega arith
+clamped-le (negsuc k) most = omega arith
 
 -- a state that is stopped because the program doesn't go on has stopped
 going-on : (st : State (List ℕ)) (going : Bool) → stopping going st .reading .machine .stopped ≡ false → going ≡ true
 going-on st true h = refl
 going-on st false h = absurd (true≢false h)
 
-module _ {st st′ : State (List ℕ)} (w : Ran st st′ true) where
-  pub ran-ready : Ready st → Ready st′
-  ran-ready r = rw (w .state) (after-ready (w .bytes) st r)
+-- the reads so far, and the turns that are left
+pub record Reading (st st′ : State (List ℕ)) (bytes turns : ℕ) : Type 0 where
+  pub reads : ℕ
+  pub turned : reads + turns ≡ 9223372036854775808
+  pub ran : Ran st reads bytes st′ true
 
-  module _ {st″ : State (List ℕ)} {input : List ℕ} {used : ℕ} {going : Bool} (t : Took st′ input st″ used going) where
-    pub then-ran : Ran st st″ going
+pub reading-none : {st st′ : State (List ℕ)} → st′ ≡ st → Reading st st′ 0 9223372036854775808
+reading-none {st} e = record { reads = 0; turned = refl; ran = subst (λ (s : State (List ℕ)). Ran st 0 0 s true) (sym e) begun }
+
+module _ {st st′ : State (List ℕ)} {bytes turns : ℕ} (w : Reading st st′ bytes turns) where
+  pub reading-ready : Ready st → Ready st′
+  reading-ready r = let a = ran-all (w .ran) refl in rw (a .state) (after-ready (a .taken) st r)
+
+  -- the last turn
+  pub reading-out : turns ≡ 0 → RanOut st st′ bytes
+  reading-out h = record { reads = w .reads; going = true; ran = w .ran; most = λ _. omega (arith, w .turned, h) }
+
+  -- one read more: it gave n bytes
+  module _ {st″ : State (List ℕ)} {n used bytes′ : ℕ} {going : Bool} {out : List ℕ} (got : ℤ) (input : List ℕ) (t : TookRead st′ (take n input) st″ used going out)
+      (e : n ≡ clamped got (length input)) (b : bytes′ ≡ (bytes + n) % 2 ^ 64) where
+    then-ran : Ran st (w .reads + 1) bytes′ st″ going
     then-ran =
-        record {
-          bytes = w .bytes ++ take used input;
-          state =
-              t .state
-              ∙ ap (λ (s : State (List ℕ)). stopping going s)
-              (ap (λ (s : State (List ℕ)). after s (take used input)) (w .state) ∙ sym (after-append (w .bytes) (take used input) st));
-        }
+        subst (λ (m : ℕ). Ran st (w .reads + 1) m st″ going)
+        (sym (b ∙ ap (λ (m : ℕ). (bytes + m) % 2 ^ 64) (sym (length-take-le n input (omega (arith, e, clamped-le got (length input)))))))
+        (further (w .ran) t)
 
-    pub ran-on : st″ .reading .machine .stopped ≡ false → Ran st st″ true
-    ran-on h =
-        let e : going ≡ true = going-on (after st′ (take used input)) going (sym (ap (λ (s : State (List ℕ)). s .reading .machine .stopped) (t .state)) ∙ h) in
-        subst (Ran st st″) e then-ran
+    pub reading-ends : st″ .reading .machine .stopped ≡ true → RanOut st st″ bytes′
+    reading-ends h = record { reads = w .reads + 1; going = going; ran = then-ran; most = λ f. absurd (true≢false (sym h ∙ f)) }
+
+    pub reading-on : st″ .reading .machine .stopped ≡ false → 0 < turns → Reading st st″ bytes′ (turns - 1)
+    reading-on h p =
+        let go : going ≡ true = going-on (after st′ (take used (take n input))) going (sym (ap (λ (s : State (List ℕ)). s .reading .machine .stopped) (t .block .took .state)) ∙ h) in
+        record { reads = w .reads + 1; turned = omega (arith, w .turned, p); ran = subst (Ran st (w .reads + 1) bytes′ st″) go then-ran }
 
 pub fresh-ready : (area : List ℕ) → Ready (fresh area)
 fresh-ready area =

@@ -1,11 +1,11 @@
 -- What the turns of the program's loop do. Assumes nothing.
-use mathlib.Core.Path.{_≡_, sym, ap, _∙_}
+use mathlib.Core.Path.{_≡_, refl, sym, ap, _∙_}
 use mathlib.Core.Bool.{Bool, true, false, cond}
-use mathlib.Core.List.{List}
-use Prim.Native.Nat.{ℕ, _+_, _-_, _≤_, _<_}
+use mathlib.Core.List.{List, [], _++_}
+use Prim.Native.Nat.{ℕ, _+_, _-_, _≤_, _<_, _%_, _^_}
 use native.Mathlib.Omega.{arith}
-use lib.ListN.{length, take, drop, getD, length-drop}
-use lib.Seq.{length-take-le, take-add, take-take, getD-take, ext-getD}
+use lib.ListN.{length, take, drop, getD, length-drop, length-append}
+use lib.Seq.{length-take-le, take-length, take-add, take-take, getD-take, ext-getD}
 use Rattle.layout.specs.Patch.{patch, patch-in}
 use Rattle.moves_replies.specs.Room.{Put}
 use Rattle.moves_load_commands.specs.Machine.{halt}
@@ -55,10 +55,18 @@ pub record TookRead (st : State (List ℕ)) (input : List ℕ) (st′ : State (L
   pub block : TookAll st input st′ used going
   pub last : length input ≡ 0 → (going ≡ false) × StartsWith (finish (st .reading .machine)) out
 
--- the state after some bytes, each taken once and in order: which bytes they are is for the system's `read` to say
-pub record Ran (st st′ : State (List ℕ)) (going : Bool) : Type 0 where
-  pub bytes : List ℕ
-  pub state : st′ ≡ stopping going (after st bytes)
+-- so many reads, one after the other, and how many bytes they gave, modulo 2^64; which bytes is for the system's `read` to say
+pub data Ran (st : State (List ℕ)) : ℕ → ℕ → State (List ℕ) → Bool → Type 0 where
+  begun : Ran st 0 0 st true
+  further : {reads bytes used : ℕ} {st′ st″ : State (List ℕ)} {input out : List ℕ} {going : Bool} → Ran st reads bytes st′ true → TookRead st′ input st″ used going out
+      → Ran st (reads + 1) ((bytes + length input) % 2 ^ 64) st″ going
+
+-- the program's end: it reads until its machine has stopped, 2^63 times at most
+pub record RanOut (st st′ : State (List ℕ)) (bytes : ℕ) : Type 0 where
+  pub reads : ℕ
+  pub going : Bool
+  pub ran : Ran st reads bytes st′ going
+  pub most : st′ .reading .machine .stopped ≡ false → reads ≡ 2 ^ 63
 
 -- a turn after others: the bytes used of the rest are the next ones of the whole
 pub took-on : {st st′ st″ : State (List ℕ)} {input : List ℕ} {at used : ℕ} {going : Bool} → at ≤ length input → st′ ≡ after st (take at input)
@@ -77,9 +85,25 @@ took-on {st} {st′} {st″} {input} {at} {used} {going} h e t =
           ∙ ap (λ (u : List ℕ). after st u) (sym (take-add at used input)));
     }
 
--- a part of the block that was read
-pub took-part : {st st′ : State (List ℕ)} {input : List ℕ} {n used : ℕ} {going : Bool} → n ≤ length input
-    → Took st (take n input) st′ used going → Took st input st′ used going
-took-part {st} {st′} {input} {n} {used} {going} h t =
-    let k : used ≤ n = omega (arith, t .inside, length-take-le n input h) in
-    record { inside = omega (arith, h, k); state = t .state ∙ ap (λ (u : List ℕ). stopping going (after st u)) (take-take used n input k) }
+-- a read that the program goes on from was taken whole
+goes-whole : {st st′ : State (List ℕ)} {input out : List ℕ} {used : ℕ} → TookRead st input st′ used true out → st′ ≡ after st input
+goes-whole {st} {st′} {input} {out} {used} t =
+    let b = t .block in
+    b .took .state ∙ ap (λ (u : List ℕ). after st u) (ap (λ (k : ℕ). take k input) (b .all refl) ∙ take-length input)
+
+-- while the program goes on, its state is the one after as many bytes as the reads gave
+pub record AllTaken (st st′ : State (List ℕ)) (bytes : ℕ) : Type 0 where
+  pub taken : List ℕ
+  pub state : st′ ≡ after st taken
+  pub many : bytes ≡ length taken % 2 ^ 64
+
+pub ran-all : {st st′ : State (List ℕ)} {reads bytes : ℕ} {going : Bool} → Ran st reads bytes st′ going → going ≡ true → AllTaken st st′ bytes
+unfolding after
+ran-all begun e = record { taken = []; state = refl; many = refl }
+ran-all {st} (further {input = input} w t) e =
+    let a = ran-all w refl in
+    record {
+      taken = a .taken ++ input;
+      state = goes-whole (rw e at t) ∙ ap (λ (s : State (List ℕ)). after s input) (a .state) ∙ sym (after-append (a .taken) input st);
+      many = rw length-append (omega (arith, a .many));
+    }

@@ -1,15 +1,15 @@
 // The program `moves`: reads commands from standard input to its end, and writes the replies to standard output. Which bytes the system's `read` and `write`
 // move no contract can say: that they are called with the right lists is to be read in `read_block`, `feed_once` and `end`.
 ghost use mathlib.Core.Path.{_≡_};
-ghost use mathlib.Core.Bool.{Bool};
 ghost use Prim.Native.Nat.{_≤_, _<_};
 ghost use lib.ListN.{length, take};
+ghost use Rattle.io.specs.Counts.{clamped};
 ghost use Rattle.moves_load_commands.specs.Machine.{new-machine};
 ghost use Rattle.moves_commands.specs.Program.{finish, fresh};
 ghost use Rattle.moves_commands.specs.Fits.{Ready};
 ghost use Rattle.moves_commands.specs.Feed.{reserve};
 ghost use Rattle.moves_commands.specs.Steps.{held};
-ghost use Rattle.moves.specs.Turns.{Took, Answered, TookAll, TookRead, Ran, StartsWith};
+ghost use Rattle.moves.specs.Turns.{Answered, TookAll, TookRead, RanOut, StartsWith};
 use libc::STDIN_FILENO;
 use libc::STDOUT_FILENO;
 use moves_load_commands::Machine;
@@ -27,6 +27,21 @@ struct Block {
     machine: Machine,
     used: usize,
     going: bool,
+}
+
+// The same of a read: what the system answered to it, and how many bytes these are.
+struct Read {
+    got: isize,
+    read: usize,
+    machine: Machine,
+    used: usize,
+    going: bool,
+}
+
+// How the program ends: its machine, and how many bytes its reads gave, modulo 2^64.
+struct Ended {
+    machine: Machine,
+    bytes: u64,
 }
 
 // Feeds as much as there is room for the replies to, and writes them. The program goes on where they can be written.
@@ -170,7 +185,7 @@ fn feed_read(
     )
 }
 
-// Reads a block and feeds it. A read that fails is the end of the input.
+// Reads a block and feeds it, all that the read gave. A read that fails is the end of the input.
 fn read_block(
     m: Machine,
     sets: &mut [u64],
@@ -181,14 +196,15 @@ fn read_block(
     area: &mut [u32],
     input: &mut [u8],
     out: &mut [u8],
-) -> Block
+) -> Read
     requires { ⌜ Ready (held m (now sets) (now sources) (now dependencies) (now hosts) (now starts) (now area)) ⌝ }
     requires { ⌜ reserve ≤ length (now out) ⌝ }
-    ensures { λ r. ⌜ Took (held m (now (sets .entry)) (now (sources .entry)) (now (dependencies .entry)) (now (hosts .entry)) (now (starts .entry)) (now (area .entry))) (now (input .exit)) (held (r .machine) (now (sets .exit)) (now (sources .exit)) (now (dependencies .exit)) (now (hosts .exit)) (now (starts .exit)) (now (area .exit))) (r .used) (r .going) ⌝ }
+    ensures { λ r. ⌜ TookRead (held m (now (sets .entry)) (now (sources .entry)) (now (dependencies .entry)) (now (hosts .entry)) (now (starts .entry)) (now (area .entry))) (take (r .read) (now (input .exit))) (held (r .machine) (now (sets .exit)) (now (sources .exit)) (now (dependencies .exit)) (now (hosts .exit)) (now (starts .exit)) (now (area .exit))) (r .used) (r .going) (now (out .exit)) ⌝ }
+    ensures { λ r. ⌜ r .read ≡ clamped (r .got) (length (now (input .exit))) ⌝ }
 {
     let got = libc::read(STDIN_FILENO, input);
     let n = io::count(got, input);
-    feed_read(
+    let b = feed_read(
         m,
         sets,
         sources,
@@ -199,10 +215,19 @@ fn read_block(
         input,
         n,
         out,
-    )
+    );
+    let machine = b.machine;
+    Read {
+        got,
+        read: n,
+        machine,
+        used: b.used,
+        going: b.going,
+    }
 }
 
-// A proved loop has to end, and nothing says that the input does: the turns are counted down from a number that no run uses up.
+// Reads until the machine has stopped. A proved loop has to end, and nothing says that the input does: the turns are counted down from a number that no
+// run uses up.
 fn run(
     sets: &mut [u64],
     sources: &mut [u32],
@@ -212,12 +237,13 @@ fn run(
     area: &mut [u32],
     input: &mut [u8],
     out: &mut [u8],
-) -> Machine
+) -> Ended
     requires { ⌜ held new-machine (now sets) (now sources) (now dependencies) (now hosts) (now starts) (now area) ≡ fresh (now area) ⌝ }
     requires { ⌜ reserve ≤ length (now out) ⌝ }
-    ensures { λ r. ⌜ ((going : Bool) × Ran (fresh (now (area .entry))) (held r (now (sets .exit)) (now (sources .exit)) (now (dependencies .exit)) (now (hosts .exit)) (now (starts .exit)) (now (area .exit))) going) ⌝ }
+    ensures { λ r. ⌜ RanOut (fresh (now (area .entry))) (held (r .machine) (now (sets .exit)) (now (sources .exit)) (now (dependencies .exit)) (now (hosts .exit)) (now (starts .exit)) (now (area .exit))) (r .bytes) ⌝ }
 {
     let mut machine = moves_load_commands::fresh();
+    let mut bytes: u64 = 0;
     let mut turns: u64 = 9223372036854775808;
     while turns > 0 {
         let s = read_block(
@@ -232,12 +258,13 @@ fn run(
             out,
         );
         machine = s.machine;
+        bytes = std::num::wrapping_add_u64(bytes, s.read as u64);
         if machine.stopped {
-            return machine;
+            return Ended { machine, bytes };
         }
         turns -= 1;
     }
-    machine
+    Ended { machine, bytes }
 }
 
 fn main() {

@@ -1,5 +1,4 @@
 -- The laws that the proofs of `moves_commands` cite. Assumes nothing.
-pub mod Sets
 pub mod Lines
 pub mod Turns
 pub mod Feeds

@@ -1,3 +1,3 @@
--- The definitions that the contracts of `nidskalm` cite, and their laws. Assumes nothing.
-pub mod Replies
+-- The sizes of a call, and the laws of its reply. Assumes nothing.
+pub mod Sized
 pub mod ReplyLaws

@@ -1,9 +1,7 @@
 -- Replies of calls whose answers are known. Assumes nothing.
 use Prim.Native.Nat.{ℕ}
-use mathlib.Core.Path.{_≡_, refl, sym, ap, _∙_}
-use mathlib.Core.Bool.{Bool, true, false, cond}
+use mathlib.Core.Path.{_≡_, sym, ap, _∙_}
 use mathlib.Core.List.{List}
-use mir.Val.{boolByte}
 use Rattle.merge_state.specs.declared.Sizes.{Sizes}
 use Rattle.merge_state.specs.Loading.{Lent}
 use Rattle.merge_state.specs.Table.{Answer, Call}
@@ -12,13 +10,8 @@ use Rattle.merge_loading.specs.Loading.{Loaded, load-step}
 use Rattle.chunk_optimizer.specs.declared.PassAnswer.{PassAnswer}
 use Rattle.chunk_optimizer.specs.declared.PassAnswer.the-variants as passed
 use Rattle.chunk_optimizer.specs.Answers.{pass-told, assigned}
-use Rattle.nidskalm.specs.declared.Reply.{Reply}
-use Rattle.nidskalm.specs.Replies.{answering, merge-reply, pass-reply}
-
--- a cast makes 1 of true and 0 of false
-pub as-number : (t : Bool) → boolByte t ≡ cond t 1 0
-as-number true = refl
-as-number false = refl
+use Rattle.nidskalm_replies.specs.declared.Reply.{Reply}
+use Rattle.nidskalm_replies.specs.Replies.{answering, merge-reply, pass-reply}
 
 -- a call of the merge graph with sizes z, which are y, and reply r
 module _ {z y : Sizes} {a after : List ℕ} {c : Call} {told : Answer} {r : Reply} (e : z ≡ y) (called : Called z a c told after) (replied : r ≡ merge-reply told) where

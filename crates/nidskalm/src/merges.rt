@@ -3,15 +3,16 @@ ghost use mathlib.Core.Path.{_≡_};
 ghost use Rattle.merge_state.specs.Table.{init-module-assignment, add-module-to-chunk, register-chunk-graph-index, to-temp-idx, calc-chunk-dependencies, would-create-circular-dependency, is-reachable, merge-chunk-dependencies, pass};
 ghost use Rattle.merge_area.specs.Calls.{step, lists-after};
 ghost use Rattle.merge_loading.specs.Loading.{lent, load-step};
-ghost use Rattle.nidskalm.specs.Replies.{sized, merge-reply};
-use super::Reply;
-use super::replies::of_done;
-use super::replies::of_pass;
-use super::replies::of_said;
-use super::replies::of_temp;
+ghost use Rattle.nidskalm_replies.specs.Replies.{merge-reply};
+ghost use Rattle.nidskalm.specs.Sized.{sized};
 use merge_state::ChunkIdx;
 use merge_state::ModuleIdx;
 use merge_state::Sizes;
+use nidskalm_replies::Reply;
+use nidskalm_replies::of_done;
+use nidskalm_replies::of_pass;
+use nidskalm_replies::of_said;
+use nidskalm_replies::of_temp;
 
 // The four sizes in one.
 fn sizes(c: u64, m: u64, l: u64, e: u64) -> Sizes

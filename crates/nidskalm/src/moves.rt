@@ -3,15 +3,15 @@ ghost use mathlib.Core.Path.{_≡_};
 ghost use Rattle.move_ledger.specs.Graph.{lent};
 ghost use Rattle.move_ledger.specs.Ledger as ledger;
 ghost use Rattle.move_area.specs.Calls as calls;
-ghost use Rattle.nidskalm.specs.Replies.{move-reply, set-reply, edge-reply};
-use super::EdgeReply;
-use super::Reply;
-use super::SetReply;
-use super::replies::of_edge;
-use super::replies::of_load;
-use super::replies::of_move;
-use super::replies::of_number;
-use super::replies::of_set;
+ghost use Rattle.nidskalm_replies.specs.Replies.{move-reply, set-reply, edge-reply};
+use nidskalm_replies::EdgeReply;
+use nidskalm_replies::Reply;
+use nidskalm_replies::SetReply;
+use nidskalm_replies::of_edge;
+use nidskalm_replies::of_load;
+use nidskalm_replies::of_move;
+use nidskalm_replies::of_number;
+use nidskalm_replies::of_set;
 
 // Loads a graph: 0 where it is acyclic, 1 where it is cyclic.
 #[no_mangle]

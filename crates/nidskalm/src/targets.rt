@@ -2,13 +2,13 @@
 ghost use mathlib.Core.Path.{_≡_};
 ghost use mathlib.Core.List.{[], _∷_};
 ghost use Rattle.entry_set.specs.Sets.{value};
-ghost use Rattle.merge_target.specs.Find.{find};
-ghost use Rattle.merge_target.specs.Chosen.{lent};
-ghost use Rattle.nidskalm.specs.Replies.{merge-reply};
-use super::Reply;
-use super::replies::of_target;
+ghost use Rattle.merge_choice.specs.Find.{find};
+ghost use Rattle.merge_choice.specs.Chosen.{lent};
+ghost use Rattle.nidskalm_replies.specs.Replies.{merge-reply};
 use entry_set::EntrySet;
 use merge_target::Counts;
+use nidskalm_replies::Reply;
+use nidskalm_replies::of_target;
 
 // The chunk that a candidate may be merged into, or 4,294,967,295.
 #[no_mangle]

@@ -1,4 +1,4 @@
-//! The original built unchanged, a plain model of document 01, and the runs that compare them with the library.
+//! The original built unchanged where its files are, a plain model of document 01, and the runs that compare them with the library.
 pub mod inputs;
 pub mod layout;
 pub mod library;
@@ -11,6 +11,10 @@ pub mod moves_cases;
 pub mod moves_made_up;
 pub mod moves_model;
 pub mod moves_views;
+#[cfg(original)]
+pub mod original;
+#[cfg(not(original))]
+#[path = "no_original.rs"]
 pub mod original;
 #[path = "../../../rust/src/raw.rs"]
 pub mod raw;
@@ -24,4 +28,6 @@ mod stand_in_moves;
 pub mod stand_ins;
 pub mod target_cases;
 pub mod target_model;
+#[cfg(original)]
 pub mod target_original;
+pub mod views;

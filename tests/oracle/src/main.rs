@@ -4,6 +4,7 @@ use std::time::Instant;
 
 use oracle::inputs::{Amount, everything, merges};
 use oracle::library::Library;
+use oracle::original;
 use oracle::stand_in_library::{HARMLESS, PLANTS, StandIn};
 use oracle::{record, replay};
 
@@ -74,6 +75,10 @@ fn linked() -> Option<&'static dyn Library> {
 }
 
 fn print_record(cases: usize, seed: u64) -> ExitCode {
+    if !original::PRESENT {
+        eprintln!("--record needs the original");
+        return ExitCode::FAILURE;
+    }
     for line in record::sample(cases, seed) {
         let line: Vec<String> = line.iter().map(u64::to_string).collect();
         println!("{}", line.join(" "));
@@ -82,9 +87,14 @@ fn print_record(cases: usize, seed: u64) -> ExitCode {
 }
 
 fn compare(library: Option<&dyn Library>, name: &str, amount: Amount) -> ExitCode {
-    match library {
-        Some(_) => println!("comparing the original, the model and the {name} library"),
-        None => println!("comparing the original and the model; no library is linked"),
+    match (original::PRESENT, library) {
+        (true, Some(_)) => println!("comparing the original, the model and the {name} library"),
+        (true, None) => println!("comparing the original and the model; no library is linked"),
+        (false, Some(_)) => println!("comparing the model and the {name} library; THE ORIGINAL IS NOT THERE"),
+        (false, None) => {
+            println!("NOTHING TO COMPARE: neither the original nor a library is there");
+            return ExitCode::FAILURE;
+        }
     }
     let start = Instant::now();
     match everything(library, amount) {

@@ -2,8 +2,8 @@
 use std::collections::BTreeSet;
 
 use crate::layout::MergeLayout;
-use crate::original::MergeView;
 use crate::sets::Set;
+use crate::views::MergeView;
 
 pub const NONE: u32 = u32::MAX;
 

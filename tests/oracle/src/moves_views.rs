@@ -2,9 +2,9 @@
 use crate::library::{EdgeReply, Reply, SetReply};
 use crate::moves_cases::{Answer, MoveCall};
 use crate::moves_model::{Graph, Load, MoveState, NONE};
-use crate::original::{MoveLists, MoveView};
 use crate::sets::{Set, width};
 use crate::stand_ins::rolldown_utils::BitSet;
+use crate::views::{MoveLists, MoveView};
 
 /// What the original's fields answer to a question that isn't refused.
 pub fn original_answer(view: &MoveView, call: &MoveCall) -> Option<Answer> {

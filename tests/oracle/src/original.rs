@@ -1,5 +1,8 @@
 //! The original, compiled unchanged, and readers of its private fields.
-use crate::sets::Set;
+use crate::views::{MoveLists, MoveView};
+
+/// Whether there is an original to compare.
+pub const PRESENT: bool = true;
 
 /// `reduced_chunk_graph.rs`, whole.
 mod reduced_chunk_graph {
@@ -10,8 +13,8 @@ mod reduced_chunk_graph {
     /// Reads what is compared.
     pub mod read {
         use super::ReducedChunkGraph;
-        use crate::original::MoveView;
         use crate::sets::Set;
+        use crate::views::MoveView;
 
         pub fn view(graph: &ReducedChunkGraph) -> MoveView {
             let mut registered = vec![Set::default(); graph.node_by_bits.len()];
@@ -54,26 +57,6 @@ mod reduced_chunk_graph {
     }
 }
 
-/// What is compared of a move graph: by node, in the order of registration.
-#[derive(Clone, Debug, PartialEq, Eq)]
-pub struct MoveView {
-    pub registered: Vec<Set>,
-    pub node: Vec<u32>,
-    pub count: Vec<u32>,
-    /// (from, to, multiplicity), rising.
-    pub edges: Vec<(u32, u32, u32)>,
-    pub acyclic: bool,
-    /// Empty while acyclic: the original keeps an old component there.
-    pub component: Vec<u32>,
-}
-
-/// The borrowed lists of an original move graph, as it wants them.
-pub struct MoveLists {
-    pub bits: Vec<crate::stand_ins::rolldown_utils::BitSet>,
-    pub dependencies: Vec<Vec<usize>>,
-    pub hosts: Vec<Option<usize>>,
-}
-
 /// The original's move graph.
 pub struct OriginalMoves<'a> {
     graph: reduced_chunk_graph::ReducedChunkGraph<'a>,
@@ -83,6 +66,11 @@ impl<'a> OriginalMoves<'a> {
     pub fn new(lists: &'a MoveLists) -> Self {
         let graph = reduced_chunk_graph::ReducedChunkGraph::new(&lists.bits, &lists.dependencies, &lists.hosts);
         Self { graph }
+    }
+
+    /// The graph, since the original is there.
+    pub fn found(lists: &'a MoveLists) -> Option<Self> {
+        Some(Self::new(lists))
     }
 
     pub fn try_move(&mut self, atom: u32, bits: &crate::stand_ins::rolldown_utils::BitSet) -> bool {
@@ -121,9 +109,9 @@ mod chunk_optimizer {
     /// Reads what is compared, and the second pass around the original's methods.
     pub mod read {
         use super::{ChunkIdx, ChunkOptimizationGraph};
-        use crate::original::MergeView;
         use crate::sets::Set;
         use crate::stand_ins::oxc_index::Idx;
+        use crate::views::MergeView;
 
         pub fn view(graph: &ChunkOptimizationGraph, keys: u32) -> MergeView {
             MergeView {
@@ -188,31 +176,15 @@ mod chunk_optimizer {
     }
 }
 
-/// What is compared of a merge graph.
-#[derive(Clone, Debug, PartialEq, Eq)]
-pub struct MergeView {
-    /// By chunk, rising.
-    pub dependencies: Vec<Vec<u32>>,
-    pub side_effects: Vec<bool>,
-    pub needs_creation: Vec<bool>,
-    /// By chunk, in the order of appending.
-    pub modules: Vec<Vec<u32>>,
-    /// Rising by set.
-    pub sets: Vec<(Set, u32)>,
-    pub module_chunk: Vec<Option<u32>>,
-    /// By key below C.
-    pub registered: Vec<Option<u32>>,
-}
-
 pub use merges::OriginalMerges;
 
 mod merges {
-    use super::MergeView;
     use super::chunk_optimizer::{ChunkOptimizationGraph, read};
     use crate::stand_ins::oxc_index::{Idx, IndexVec};
     use crate::stand_ins::rolldown::{Chunk, ChunkGraph, LinkingMetadata};
     use crate::stand_ins::rolldown_common::{ChunkIdx, Module, ModuleIdx, ModuleTable, SideEffects};
     use crate::stand_ins::rolldown_utils::BitSet;
+    use crate::views::MergeView;
 
     fn chunk(number: u32) -> ChunkIdx {
         ChunkIdx::from_raw(number)
@@ -244,6 +216,11 @@ mod merges {
             let pairs = pairs.iter().map(|(words, number)| (BitSet::from_words(words), chunk(*number))).collect();
             let graph = ChunkOptimizationGraph::new(true, &outer, &pairs, &table(side_effects));
             Self { graph, keys, next_number: modules.len() as u32 }
+        }
+
+        /// The graph, since the original is there.
+        pub fn found(keys: u32, modules: &[Vec<u32>], pairs: &[(Vec<u64>, u32)], side_effects: &[u32]) -> Option<Self> {
+            Some(Self::new(keys, modules, pairs, side_effects))
         }
 
         pub fn init_module_assignment(&mut self, number: u32, words: &[u64], side_effects: &[u32]) {

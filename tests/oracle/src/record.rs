@@ -7,12 +7,15 @@ use crate::merges_model::{NONE, Size};
 use crate::moves_cases::{self, Answer, MoveCall, MoveCase};
 use crate::moves_made_up;
 use crate::moves_model::{Graph, Load, MoveState, entry_sets, load_refusal};
-use crate::original::MergeView;
 use crate::run::{Case, Counts, Random};
 use crate::sets::width;
+use crate::views::MergeView;
 
 pub const MOVE_CASE: u64 = 1;
 pub const MERGE_CASE: u64 = 2;
+
+/// What stands everywhere in a pass's answer lists before the call.
+pub const BEFORE: u32 = 7;
 
 fn numbers(list: &[u32]) -> impl Iterator<Item = u64> + '_ {
     list.iter().map(|&number| number.into())
@@ -110,12 +113,16 @@ fn merge_call_numbers(call: &MergeCall) -> Vec<u64> {
     }
 }
 
-/// A reply, with the value of calls that answer one, and the pass's kinds and numbers.
+/// A reply, with the value of calls that answer one, and the pass's kinds and numbers, which a refusal leaves as they were.
 fn merge_answer_numbers(call: &MergeCall, reply: Reply, lists: &[(u32, u32)]) -> Vec<u64> {
     let mut answer = vec![reply.refusal];
     match call {
         MergeCall::InitModule { .. } | MergeCall::AddModule { .. } | MergeCall::Register { .. } => {}
         MergeCall::Calc { .. } | MergeCall::Merge { .. } => {}
+        MergeCall::Pass { kinds, numbers, .. } if reply.refusal != 0 => {
+            answer.push(reply.value);
+            answer.extend(vec![u64::from(BEFORE); kinds + numbers]);
+        }
         _ => answer.push(reply.value),
     }
     answer.extend(lists.iter().map(|&(kind, _)| u64::from(kind)));
@@ -123,14 +130,27 @@ fn merge_answer_numbers(call: &MergeCall, reply: Reply, lists: &[(u32, u32)]) ->
     answer
 }
 
-/// What the area must show at the end: each chunk's two flags and its dependencies.
-fn merge_end_numbers(view: &MergeView) -> Vec<u64> {
+/// A list behind its length.
+fn counted(list: &[u32]) -> Vec<u64> {
+    std::iter::once(list.len() as u64).chain(numbers(list)).collect()
+}
+
+/// What the area must show at the end: each chunk's two flags, dependencies and modules, the chunk of each set of `w` numbers, and of
+/// each module. How many records they are.
+fn merge_end_numbers(view: &MergeView, w: usize) -> (u64, Vec<u64>) {
+    let chunks = view.dependencies.len();
     let mut line = vec![];
-    for (chunk, members) in view.dependencies.iter().enumerate() {
-        let flags = [view.side_effects[chunk].into(), view.needs_creation[chunk].into(), members.len() as u64];
-        line.extend([10, chunk as u64].into_iter().chain(flags).chain(numbers(members)));
+    for chunk in 0..chunks {
+        line.extend([10, chunk as u64, view.side_effects[chunk].into(), view.needs_creation[chunk].into()]);
+        line.extend(counted(&view.dependencies[chunk]));
+        line.extend(counted(&view.modules[chunk]));
     }
-    line
+    line.extend([11, view.sets.len() as u64]);
+    line.extend(view.sets.iter().flat_map(|(set, _)| set.0[..w].to_vec()));
+    line.extend(view.sets.iter().map(|&(_, chunk)| u64::from(chunk)));
+    line.push(12);
+    line.extend(view.module_chunk.iter().map(|chunk| u64::from(chunk.unwrap_or(NONE))));
+    (chunks as u64 + 2, line)
 }
 
 /// The numbers of a merge case whose lists have the right lengths and whose calls share the side effects.
@@ -152,9 +172,10 @@ pub fn record_merges(case: &MergeCase) -> Vec<u64> {
         calls.extend(merge_call_numbers(call));
         calls.extend(merge_answer_numbers(call, reply, &lists));
     }
-    line.extend([0, case.calls.len() as u64 + u64::from(state.made())]);
+    let (records, end) = merge_end_numbers(&state.view(), width(size.e) as usize);
+    line.extend([0, case.calls.len() as u64 + records]);
     line.extend(calls);
-    line.extend(merge_end_numbers(&state.view()));
+    line.extend(end);
     line
 }
 

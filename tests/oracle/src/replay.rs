@@ -3,7 +3,7 @@ use crate::layout::MergeLayout;
 use crate::library::{EdgeReply, Library, MergeLoad, Reply, SetReply};
 use crate::merges_model::Size;
 use crate::moves_model::Load;
-use crate::record::MOVE_CASE;
+use crate::record::{BEFORE, MOVE_CASE};
 use crate::sets::{Set, width};
 
 /// Reads a recorded case number by number.
@@ -28,6 +28,12 @@ impl Reader<'_> {
 
     fn smalls(&mut self, count: u64) -> Vec<u32> {
         (0..count).map(|_| self.small()).collect()
+    }
+
+    /// A list behind its length.
+    fn counted(&mut self) -> Vec<u32> {
+        let count = self.one();
+        self.smalls(count)
     }
 
     fn reply(&mut self) -> Reply {
@@ -128,27 +134,50 @@ impl Merging<'_> {
     fn pass(&mut self, place: usize, reader: &mut Reader) -> Result<(), String> {
         let count = reader.one();
         let (proposals, bars) = (reader.smalls(count), reader.smalls(count));
-        let (mut kinds, mut chosen) = (vec![0; count as usize], vec![0; count as usize]);
+        let (mut kinds, mut chosen) = (vec![BEFORE; count as usize], vec![BEFORE; count as usize]);
         let ours = self.library.pass(self.size, &mut self.area, &proposals, &bars, &mut kinds, &mut chosen);
         expect(place, ours, reader.reply())?;
-        if ours.refusal == 0 {
-            expect(place, kinds, reader.smalls(count))?;
-            expect(place, chosen, reader.smalls(count))?;
-        }
-        Ok(())
+        expect(place, kinds, reader.smalls(count))?;
+        expect(place, chosen, reader.smalls(count))
     }
 
-    /// A chunk's two flags and its dependencies, as the area shows them.
+    /// A chunk's two flags, its dependencies and its modules, as the area shows them.
     fn chunk(&self, place: usize, reader: &mut Reader) -> Result<(), String> {
         let at = self.size.layout();
         let chunk = reader.one() as usize;
         let flag = |lane| self.area[at.chunk_lane(lane, chunk)];
         expect(place, flag(MergeLayout::SIDE_EFFECTS), reader.small())?;
         expect(place, flag(MergeLayout::NEEDS_CREATION), reader.small())?;
-        let count = reader.one();
         let members: Vec<u32> =
             (0..self.size.c as u32).filter(|&to| self.area[at.dependency(chunk, to as usize)] == 1).collect();
-        expect(place, members, reader.smalls(count))
+        expect(place, members, reader.counted())?;
+        let entries = 0..self.area[at.header(MergeLayout::ENTRIES)] as usize;
+        let modules: Vec<u32> = entries
+            .filter(|&entry| self.area[at.entry_lane(MergeLayout::ENTRY_CHUNK, entry)] as usize == chunk)
+            .map(|entry| self.area[at.entry_lane(MergeLayout::ENTRY_MODULE, entry)])
+            .collect();
+        expect(place, modules, reader.counted())
+    }
+
+    /// Every set's chunk, rising by set.
+    fn sets(&self, place: usize, reader: &mut Reader) -> Result<(), String> {
+        let at = self.size.layout();
+        let count = reader.one();
+        let bits: Vec<Set> = (0..count).map(|_| reader.set(width(self.size.e))).collect();
+        let recorded: Vec<(Set, u32)> = bits.into_iter().zip(reader.smalls(count)).collect();
+        let word = |set, word| self.area[at.set_word(word, set)];
+        let mut sets: Vec<(Set, u32)> = (0..self.area[at.header(MergeLayout::SETS)] as usize)
+            .map(|set| (Set::from_halves(std::array::from_fn(|i| word(set, i))), word(set, MergeLayout::WORDS)))
+            .collect();
+        sets.sort_unstable();
+        expect(place, sets, recorded)
+    }
+
+    /// Every module's chunk.
+    fn module_chunks(&self, place: usize, reader: &mut Reader) -> Result<(), String> {
+        let at = self.size.layout();
+        let chunk = |module| self.area[at.module_lane(MergeLayout::MODULE_CHUNK, module)];
+        expect(place, (0..self.size.m as usize).map(chunk).collect(), reader.smalls(self.size.m))
     }
 }
 
@@ -175,6 +204,8 @@ fn replay_merges(library: &dyn Library, reader: &mut Reader) -> Result<(), Strin
             kind @ (4 | 6 | 7) => expect(place, merging.question(kind, reader), reader.reply())?,
             9 => merging.pass(place, reader)?,
             10 => merging.chunk(place, reader)?,
+            11 => merging.sets(place, reader)?,
+            12 => merging.module_chunks(place, reader)?,
             other => return Err(format!("no call {other}")),
         }
     }

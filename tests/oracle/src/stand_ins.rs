@@ -276,11 +276,13 @@ pub mod oxc_index {
         }
     }
 
+    #[cfg(original)]
     macro_rules! index_vec {
         ($item:expr; $count:expr) => {
             IndexVec::from_vec(vec![$item; $count])
         };
     }
+    #[cfg(original)]
     pub(crate) use index_vec;
 }
 

@@ -2,7 +2,6 @@
 use crate::library::Reply;
 use crate::run::Random;
 use crate::target_model::{Answer, Decided, Entries, Lists, Plant, choose};
-use crate::target_original;
 
 /// One call.
 #[derive(Clone, Debug)]
@@ -60,8 +59,9 @@ impl Case {
     /// What decided, or where the original, the model and the library differ.
     pub fn check(&self, library: Option<Call>) -> Result<Decided, String> {
         let (answer, decided) = choose(&self.entries, &self.candidate, self.set, "");
+        #[cfg(original)]
         if decided != Decided::Refused {
-            let original = target_original::choose(&self.entries, &self.candidate, self.set);
+            let original = crate::target_original::choose(&self.entries, &self.candidate, self.set);
             if Ok(original) != answer {
                 return Err(format!("the original says {original:?}, the model {answer:?}, for {self:?}"));
             }

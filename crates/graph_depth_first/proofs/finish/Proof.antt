@@ -2,16 +2,16 @@
 use Prim.Native.Nat.{ℕ}
 use mathlib.Core.Path.{refl, ap, _∙_}
 use lib.ListN.{set}
-use Rattle.graph_depth_first.specs.declared.State.{State}
-use Rattle.graph_depth_first.specs.Colours.{next-state, state-of, number-of}
+use Rattle.graph_colours.specs.declared.State.{State}
+use Rattle.graph_colours.specs.Colours.{next-state, state-of, number-of}
 use borrow.Author.Needs.{needs}
 use Rattle.graph_depth_first.proofs.finish.Statement.{statement}
 use Rattle.graph_depth_first.proofs.finish.Tie as tie
 use Rattle.graph_depth_first.proofs.finish.Reads as reads
 use Rattle.graph_depth_first.proofs.finish.Lts as lts
-use Rattle.graph_depth_first.proofs.next_state.Reads as next-state-reads
-use Rattle.graph_depth_first.proofs.number_of.Reads as number-of-reads
-use Rattle.graph_depth_first.proofs.state_of.Reads as state-of-reads
+use Rattle.graph_colours.proofs.next_state.Reads as next-state-reads
+use Rattle.graph_colours.proofs.number_of.Reads as number-of-reads
+use Rattle.graph_colours.proofs.state_of.Reads as state-of-reads
 
 -- src/lib.rt:81:22
 mul-state-of : tie.Need-mul-state-of

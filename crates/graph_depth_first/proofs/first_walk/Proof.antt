@@ -3,8 +3,9 @@ use Prim.Native.Nat.{_-_}
 use native.Mathlib.Omega.{arith}
 use mathlib.Core.Path.{_≡_, refl, ap, _∙_}
 use Rattle.graph_neighbours.specs.Lists.{deg, nb}
-use Rattle.graph_depth_first.specs.Colours.{view, Run, none, state-of}
-use Rattle.graph_depth_first.proofs.Views.{held-none, run-join, state-black}
+use Rattle.graph_colours.specs.Colours.{view, Run, none, state-of}
+use Rattle.graph_colours.specs.States.{state-black}
+use Rattle.graph_depth_first.proofs.Views.{held-none, run-join}
 use lib.ListN.{length}
 use Rattle.graph_neighbours.specs.Direction.{along}
 use Rattle.graph_depth_first.proofs.Rounds.{Round, cleared, round-first, round-more, round-done, round-black}

@@ -5,7 +5,7 @@ use lib.ListN.{length}
 use Rattle.graph_neighbours.specs.Direction.{along}
 use mathlib.Core.Logic.{inl}
 use Rattle.graph_neighbours.specs.Lists.{deg, nb}
-use Rattle.graph_depth_first.specs.Colours.{view, Run, none, more}
+use Rattle.graph_colours.specs.Colours.{view, Run, none, more}
 use Rattle.graph_depth_first.proofs.Views.{held-none, run-join}
 use Rattle.graph_depth_first.specs.Search.{size}
 use Rattle.graph_depth_first.specs.Steps.{at, Ready, Kept}

@@ -1,5 +1,5 @@
 -- `merge_target::answer` meets its contract. Assumes nothing.
-use Rattle.merge_target.specs.Chosen.{told-none, told-some}
+use Rattle.merge_choice.specs.Chosen.{told-none, told-some}
 use Rattle.merge_target.proofs.answer.Statement.{statement}
 use Rattle.merge_target.proofs.answer.Tie as tie
 

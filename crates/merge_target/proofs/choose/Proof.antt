@@ -1,8 +1,8 @@
 -- `merge_target::choose` meets its contract. Assumes nothing.
 use Rattle.graphs.specs.Tab.{zeros}
-use Rattle.merge_target.specs.Named.{bits-le}
-use Rattle.merge_target.specs.Rows.{legal}
-use Rattle.merge_target.specs.Chosen.{can-roles, ready, can-guard, common-chunk, among-users, among-dynamic}
+use Rattle.merge_choice.specs.Named.{bits-le}
+use Rattle.merge_choice.specs.Rows.{legal}
+use Rattle.merge_choice.specs.Chosen.{can-roles, ready, can-guard, common-chunk, among-users, among-dynamic}
 use native.Mathlib.Omega.{arith}
 use borrow.Author.Needs.{needs}
 use Rattle.merge_target.proofs.choose.Statement.{statement}

@@ -1,5 +1,5 @@
 -- `merge_target::dynamic_target` meets its contract. Assumes nothing.
-use Rattle.merge_target.specs.Chosen.{can-first, can-pollute, found-below, dynamic-none, dynamic-polluted, dynamic-found}
+use Rattle.merge_choice.specs.Chosen.{can-first, can-pollute, found-below, dynamic-none, dynamic-polluted, dynamic-found}
 use borrow.Author.Needs.{needs}
 use Rattle.merge_target.proofs.dynamic_target.Statement.{statement}
 use Rattle.merge_target.proofs.dynamic_target.Tie as tie

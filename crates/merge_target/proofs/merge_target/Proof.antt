@@ -1,6 +1,6 @@
 -- `merge_target::merge_target` meets its contract. Assumes nothing.
 use mathlib.Core.Path.{sym, _∙_}
-use Rattle.merge_target.specs.Chosen.{find-refused, find-told}
+use Rattle.merge_choice.specs.Chosen.{find-refused, find-told}
 use borrow.Author.Needs.{needs}
 use Rattle.merge_target.proofs.merge_target.Statement.{statement}
 use Rattle.merge_target.proofs.merge_target.Tie as tie

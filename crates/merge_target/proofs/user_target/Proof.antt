@@ -1,5 +1,5 @@
 -- `merge_target::user_target` meets its contract. Assumes nothing.
-use Rattle.merge_target.specs.Chosen.{can-first, can-reach, can-leak, can-stray, found-below, user-none, user-unreached, user-leaks, user-strays, user-found}
+use Rattle.merge_choice.specs.Chosen.{can-first, can-reach, can-leak, can-stray, found-below, user-none, user-unreached, user-leaks, user-strays, user-found}
 use native.Mathlib.Omega.{arith}
 use borrow.Author.Needs.{needs}
 use Rattle.merge_target.proofs.user_target.Statement.{statement}

@@ -1,5 +1,4 @@
 -- `moves::read_block` meets its contract. Assumes nothing.
-use Rattle.moves.specs.Turns.{took-part}
 use borrow.Author.Needs.{needs}
 use Rattle.moves.proofs.read_block.Statement.{statement}
 use Rattle.moves.proofs.read_block.Tie as tie
@@ -38,7 +37,7 @@ same-length-8 : tie.Need-same-length-8
 same-length-8 c = search needs
 
 returns : tie.Need-returns
-returns c = took-part (c .before .before .before .before .before .before .before .before .before .before .before .before .before .before .before .before .before .before .before .before .before .before .before .count .ensures .0 .0) (c .before .before .before .before .before .before .before .before .before .before .before .before .before .before .feed-read .ensures .block .took)
+returns c = (c .before .before .before .before .before .before .before .before .before .before .before .before .before .before .before .feed-read .ensures, c .before .before .before .before .before .before .before .before .before .before .before .before .before .before .before .before .before .before .before .before .before .before .before .before .count .ensures .1)
 
 pub read-block-spec : {M : Type 1} → statement M
 read-block-spec =

@@ -4,67 +4,69 @@ use native.Mathlib.Omega.{arith}
 use lib.ListN.{length}
 use Rattle.moves_commands.specs.Program.{fresh}
 use Rattle.moves_commands.specs.Steps.{held}
-use mathlib.Core.Bool.{true}
-use Rattle.moves.specs.Turns.{Ran}
 use Rattle.moves.proofs.Lengths.{Kept, kept-first}
-use Rattle.moves.proofs.Turning.{ran-none, ran-ready, then-ran, ran-on, fresh-ready}
+use Rattle.moves.proofs.Turning.{Reading, reading-none, reading-ready, reading-out, reading-ends, reading-on, fresh-ready}
+use borrow.Author.Needs.{needs}
 use Rattle.moves.proofs.run.Statement.{statement}
 use Rattle.moves.proofs.run.Tie as tie
 
 abbrev Inv-loop : tie.InvT-loop
-Inv-loop sets₀ sources₀ dependencies₀ starts₀ hosts₀ area₀ input₀ out₀ machine₀ turns₀ sets sources dependencies starts hosts area input out machine turns =
-    Ran (fresh area₀) (held machine sets sources dependencies hosts starts area) true
+Inv-loop sets₀ sources₀ dependencies₀ starts₀ hosts₀ area₀ input₀ out₀ machine₀ bytes₀ turns₀ sets sources dependencies starts hosts area input out machine bytes turns =
+    Reading (fresh area₀) (held machine sets sources dependencies hosts starts area) bytes turns
     × Kept (held machine₀ sets₀ sources₀ dependencies₀ hosts₀ starts₀ area₀) (held machine sets sources dependencies hosts starts area) out₀ out
     × (length input ≡ length input₀)
 
 abbrev μ-loop : tie.MeasureT-loop
-μ-loop sets₀ sources₀ dependencies₀ starts₀ hosts₀ area₀ input₀ out₀ machine₀ turns₀ sets sources dependencies starts hosts area input out machine turns =
+μ-loop sets₀ sources₀ dependencies₀ starts₀ hosts₀ area₀ input₀ out₀ machine₀ bytes₀ turns₀ sets sources dependencies starts hosts area input out machine bytes turns =
     turns
 
 fresh-requires : tie.Need-fresh-requires Inv-loop μ-loop
 fresh-requires c κs = tt
 
 loop-holds : tie.Need-loop-holds Inv-loop μ-loop
-loop-holds c = (ran-none (rw (c .fresh .ensures) (c .before .before .before .before .before .before .before .before .before .pre .0)), kept-first, refl)
+loop-holds c = (reading-none (rw (c .fresh .ensures) (c .before .before .before .before .before .before .before .before .before .pre .0)), kept-first, refl)
 
 read-block-requires : tie.Need-read-block-requires Inv-loop μ-loop
-read-block-requires c κs = let i = c .before .before .before .before .before .before .before .before .before .loop .inv in (ran-ready (i .0) (fresh-ready (c .before .before .before .before .before .before .before .before .before .before .before .before .before .before .before .before .before .before .before .args .area .now)), omega (arith, i .1 .out-long, c .before .before .before .before .before .before .before .before .before .before .before .before .before .before .before .before .before .before .before .pre .1))
+read-block-requires c κs = let i = c .before .before .before .before .before .before .before .before .before .loop .inv in (reading-ready (i .0) (fresh-ready (c .before .before .before .before .before .before .before .before .before .before .before .before .before .before .before .before .before .before .before .args .area .now)), omega (arith, i .1 .out-long, c .before .before .before .before .before .before .before .before .before .before .before .before .before .before .before .before .before .before .before .pre .1))
+
+wrapping-add-u64-requires : tie.Need-wrapping-add-u64-requires Inv-loop μ-loop
+wrapping-add-u64-requires c κs = search needs
 
 same-length : tie.Need-same-length Inv-loop μ-loop
-same-length c = let k = c .before .before .before .before .before .before .before .before .before .before .before .before .before .before .before .before .before .before .before .before .before .before .before .before .before .before .before .before .loop .inv in omega (arith, k .1, k .2)
+same-length c = let k = c .before .before .before .before .before .before .before .before .before .before .before .before .before .before .before .before .before .before .before .before .before .before .before .before .before .before .before .before .before .loop .inv in omega (arith, k .1, k .2)
 
 same-length-2 : tie.Need-same-length-2 Inv-loop μ-loop
-same-length-2 c = let k = c .before .before .before .before .before .before .before .before .before .before .before .before .before .before .before .before .before .before .before .before .before .before .before .before .before .before .before .before .loop .inv in omega (arith, k .1, k .2)
+same-length-2 c = let k = c .before .before .before .before .before .before .before .before .before .before .before .before .before .before .before .before .before .before .before .before .before .before .before .before .before .before .before .before .before .loop .inv in omega (arith, k .1, k .2)
 
 same-length-3 : tie.Need-same-length-3 Inv-loop μ-loop
-same-length-3 c = let k = c .before .before .before .before .before .before .before .before .before .before .before .before .before .before .before .before .before .before .before .before .before .before .before .before .before .before .before .before .loop .inv in omega (arith, k .1, k .2)
+same-length-3 c = let k = c .before .before .before .before .before .before .before .before .before .before .before .before .before .before .before .before .before .before .before .before .before .before .before .before .before .before .before .before .before .loop .inv in omega (arith, k .1, k .2)
 
 same-length-4 : tie.Need-same-length-4 Inv-loop μ-loop
-same-length-4 c = let k = c .before .before .before .before .before .before .before .before .before .before .before .before .before .before .before .before .before .before .before .before .before .before .before .before .before .before .before .before .loop .inv in omega (arith, k .1, k .2)
+same-length-4 c = let k = c .before .before .before .before .before .before .before .before .before .before .before .before .before .before .before .before .before .before .before .before .before .before .before .before .before .before .before .before .before .loop .inv in omega (arith, k .1, k .2)
 
 same-length-5 : tie.Need-same-length-5 Inv-loop μ-loop
-same-length-5 c = let k = c .before .before .before .before .before .before .before .before .before .before .before .before .before .before .before .before .before .before .before .before .before .before .before .before .before .before .before .before .loop .inv in omega (arith, k .1, k .2)
+same-length-5 c = let k = c .before .before .before .before .before .before .before .before .before .before .before .before .before .before .before .before .before .before .before .before .before .before .before .before .before .before .before .before .before .loop .inv in omega (arith, k .1, k .2)
 
 same-length-6 : tie.Need-same-length-6 Inv-loop μ-loop
-same-length-6 c = let k = c .before .before .before .before .before .before .before .before .before .before .before .before .before .before .before .before .before .before .before .before .before .before .before .before .before .before .before .before .loop .inv in omega (arith, k .1, k .2)
+same-length-6 c = let k = c .before .before .before .before .before .before .before .before .before .before .before .before .before .before .before .before .before .before .before .before .before .before .before .before .before .before .before .before .before .loop .inv in omega (arith, k .1, k .2)
 
 same-length-7 : tie.Need-same-length-7 Inv-loop μ-loop
-same-length-7 c = let k = c .before .before .before .before .before .before .before .before .before .before .before .before .before .before .before .before .before .before .before .before .before .before .before .before .before .before .before .before .loop .inv in omega (arith, k .1, k .2)
+same-length-7 c = let k = c .before .before .before .before .before .before .before .before .before .before .before .before .before .before .before .before .before .before .before .before .before .before .before .before .before .before .before .before .before .loop .inv in omega (arith, k .1, k .2)
 
 same-length-8 : tie.Need-same-length-8 Inv-loop μ-loop
-same-length-8 c = let k = c .before .before .before .before .before .before .before .before .before .before .before .before .before .before .before .before .before .before .before .before .before .before .before .before .before .before .before .before .loop .inv in omega (arith, k .1, k .2)
+same-length-8 c = let k = c .before .before .before .before .before .before .before .before .before .before .before .before .before .before .before .before .before .before .before .before .before .before .before .before .before .before .before .before .before .loop .inv in omega (arith, k .1, k .2)
 
 returns : tie.Need-returns Inv-loop μ-loop
-returns c = (_, then-ran (c .before .before .before .before .before .before .before .before .before .before .before .before .before .before .before .before .before .before .before .before .before .before .before .before .before .before .before .before .loop .inv .0) (c .before .before .before .before .before .before .before .before .before .before .before .before .before .before .before .before .before .before .read-block .ensures))
+returns c = let r = c .before .before .before .before .before .before .before .before .before .before .before .before .before .before .before .before .before .before .before .read-block .ensures in reading-ends (c .before .before .before .before .before .before .before .before .before .before .before .before .before .before .before .before .before .before .before .before .before .before .before .before .before .before .before .before .before .loop .inv .0) (c .before .before .before .before .before .before .before .before .before .before .before .before .before .before .before .before .before .before .before .read-block .result .got) _ (r .0) (r .1) (c .before .wrapping-add-u64 .ensures) (c .if1 .taken)
 
 sub-turns : tie.Need-sub-turns Inv-loop μ-loop
-sub-turns c = omega arith
+sub-turns c = omega (arith, c .before .before .before .before .before .before .before .before .before .before .before .before .before .before .before .before .before .before .before .before .before .before .before .before .before .before .before .before .loop-test .taken)
 
 loop-less : tie.Need-loop-less Inv-loop μ-loop
-loop-less c = omega arith
+loop-less c = omega (arith, c .before .before .before .before .before .before .before .before .before .before .before .before .before .before .before .before .before .before .before .before .before .before .before .before .before .before .before .before .loop-test .taken)
 
 loop-again : tie.Need-loop-again Inv-loop μ-loop
-loop-again c = let k = c .before .before .before .before .before .before .before .before .before .before .before .before .before .before .before .before .before .before .before .before .before .before .before .before .before .before .before .before .loop .inv in let l = k .1 in (ran-on (k .0) (c .before .before .before .before .before .before .before .before .before .before .before .before .before .before .before .before .before .before .read-block .ensures) (c .if1 .left), record { sets-long = omega arith; sources-long = omega arith; dependencies-long = omega arith; hosts-long = omega arith; starts-long = omega arith; area-long = omega arith; out-long = omega arith }, omega (arith, k .2))
+loop-again c = let k = c .before .before .before .before .before .before .before .before .before .before .before .before .before .before .before .before .before .before .before .before .before .before .before .before .before .before .before .before .before .loop .inv in let l = k .1 in let r = c .before .before .before .before .before .before .before .before .before .before .before .before .before .before .before .before .before .before .before .read-block .ensures in (reading-on (k .0) (c .before .before .before .before .before .before .before .before .before .before .before .before .before .before .before .before .before .before .before .read-block .result .got) _ (r .0) (r .1) (c .before .wrapping-add-u64 .ensures) (c .if1 .left) (c .before .before .before .before .before .before .before .before .before .before .before .before .before .before .before .before .before .before .before .before .before .before .before .before .before .before .before .before .loop-test .taken), record { sets-long = omega arith; sources-long = omega arith; dependencies-long = omega arith; hosts-long = omega arith; starts-long = omega arith; area-long = omega arith; out-long = omega arith }, omega (arith, k .2))
 
 same-length-9 : tie.Need-same-length-9 Inv-loop μ-loop
 same-length-9 c = c .before .loop .inv .1 .sets-long
@@ -91,7 +93,7 @@ same-length-16 : tie.Need-same-length-16 Inv-loop μ-loop
 same-length-16 c = c .before .loop .inv .1 .out-long
 
 returns-2 : tie.Need-returns-2 Inv-loop μ-loop
-returns-2 c = (true, c .before .loop .inv .0)
+returns-2 c = reading-out (c .before .loop .inv .0) (omega (arith, c .loop-test .left))
 
 pub run-spec : {M : Type 1} → statement M
 run-spec =
@@ -102,6 +104,7 @@ run-spec =
     fresh-requires
     loop-holds
     read-block-requires
+    wrapping-add-u64-requires
     same-length
     same-length-2
     same-length-3

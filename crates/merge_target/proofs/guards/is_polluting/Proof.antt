@@ -1,5 +1,5 @@
 -- `merge_target::guards::is_polluting` meets its contract. Assumes nothing.
-use Rattle.merge_target.specs.Guards.{own-module, no-exports, by-mark}
+use Rattle.merge_choice.specs.Guards.{own-module, no-exports, by-mark}
 use borrow.Author.Needs.{needs}
 use Rattle.merge_target.proofs.guards.is_polluting.Statement.{statement}
 use Rattle.merge_target.proofs.guards.is_polluting.Tie as tie

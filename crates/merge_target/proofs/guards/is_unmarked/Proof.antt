@@ -1,5 +1,5 @@
 -- `merge_target::guards::is_unmarked` meets its contract. Assumes nothing.
-use Rattle.merge_target.specs.Guards.{other-role, by-its-mark}
+use Rattle.merge_choice.specs.Guards.{other-role, by-its-mark}
 use borrow.Author.Needs.{needs}
 use Rattle.merge_target.proofs.guards.is_unmarked.Statement.{statement}
 use Rattle.merge_target.proofs.guards.is_unmarked.Tie as tie

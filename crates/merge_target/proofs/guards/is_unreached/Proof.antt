@@ -1,6 +1,6 @@
 -- `merge_target::guards::is_unreached` meets its contract. Assumes nothing.
 use Rattle.graphs.specs.Tab.{zeros}
-use Rattle.merge_target.specs.Guards.{unreached-is}
+use Rattle.merge_choice.specs.Guards.{unreached-is}
 use borrow.Author.Needs.{needs}
 use Rattle.merge_target.proofs.guards.is_unreached.Statement.{statement}
 use Rattle.merge_target.proofs.guards.is_unreached.Tie as tie

@@ -1,5 +1,5 @@
 -- `merge_target::guards::leaks` meets its contract. Assumes nothing.
-use Rattle.merge_target.specs.Guards.{no-leak, leak-is}
+use Rattle.merge_choice.specs.Guards.{no-leak, leak-is}
 use borrow.Author.Needs.{needs}
 use Rattle.merge_target.proofs.guards.leaks.Statement.{statement}
 use Rattle.merge_target.proofs.guards.leaks.Tie as tie

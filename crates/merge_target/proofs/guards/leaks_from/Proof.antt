@@ -1,5 +1,5 @@
 -- `merge_target::guards::leaks_from` meets its contract. Assumes nothing.
-use Rattle.merge_target.specs.Guards.{leak-self, leak-other}
+use Rattle.merge_choice.specs.Guards.{leak-self, leak-other}
 use borrow.Author.Needs.{needs}
 use Rattle.merge_target.proofs.guards.leaks_from.Statement.{statement}
 use Rattle.merge_target.proofs.guards.leaks_from.Tie as tie

@@ -1,6 +1,6 @@
 -- `merge_target::guards::pollutes` meets its contract. Assumes nothing.
 use Rattle.graphs.specs.Tab.{zeros}
-use Rattle.merge_target.specs.Guards.{polluted-is}
+use Rattle.merge_choice.specs.Guards.{polluted-is}
 use native.Mathlib.Omega.{arith}
 use borrow.Author.Needs.{needs}
 use Rattle.merge_target.proofs.guards.pollutes.Statement.{statement}

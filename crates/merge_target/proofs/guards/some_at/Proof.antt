@@ -5,8 +5,8 @@ use mathlib.Core.Bool.{false}
 use lib.ListN.{getD}
 use borrow.Author.Tests.{eq-eqb, ne-eqb}
 use Rattle.graphs.specs.Lists.{none-left, none-more, some-found, some-below, some-zero}
-use Rattle.merge_target.specs.Choice.{some-from}
-use Rattle.merge_target.specs.Guards.{stands}
+use Rattle.merge_choice.specs.Choice.{some-from}
+use Rattle.merge_choice.specs.Guards.{stands}
 use native.Mathlib.Omega.{arith}
 use Rattle.merge_target.proofs.guards.some_at.Statement.{statement}
 use Rattle.merge_target.proofs.guards.some_at.Tie as tie

@@ -4,8 +4,8 @@ use mathlib.Core.Path.{_≡_, sym, _∙_}
 use mathlib.Core.Bool.{false}
 use lib.ListN.{getD, length}
 use Rattle.graphs.specs.Lists.{none-left, none-more, some-found, some-below, some-zero}
-use Rattle.merge_target.specs.Choice.{some-in}
-use Rattle.merge_target.specs.Guards.{polluting}
+use Rattle.merge_choice.specs.Choice.{some-in}
+use Rattle.merge_choice.specs.Guards.{polluting}
 use native.Mathlib.Omega.{arith}
 use Rattle.merge_target.proofs.guards.some_polluting.Statement.{statement}
 use Rattle.merge_target.proofs.guards.some_polluting.Tie as tie

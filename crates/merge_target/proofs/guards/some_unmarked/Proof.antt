@@ -3,7 +3,7 @@ use Prim.Native.Nat.{_-_, _≤_}
 use mathlib.Core.Path.{_≡_, sym, _∙_}
 use mathlib.Core.Bool.{false}
 use Rattle.graphs.specs.Lists.{none-left, none-more, some-found, some-below, some-zero}
-use Rattle.merge_target.specs.Guards.{unmarked}
+use Rattle.merge_choice.specs.Guards.{unmarked}
 use native.Mathlib.Omega.{arith}
 use Rattle.merge_target.proofs.guards.some_unmarked.Statement.{statement}
 use Rattle.merge_target.proofs.guards.some_unmarked.Tie as tie

@@ -1,7 +1,7 @@
 -- `merge_target::marks::is_empty` meets its contract. Assumes nothing.
 use lib.ListN.{getD}
 use Prim.Native.Nat.{_+_}
-use Rattle.merge_target.specs.Marks.{none-between}
+use Rattle.merge_choice.specs.Marks.{none-between}
 use borrow.Author.Needs.{needs}
 use Rattle.merge_target.proofs.marks.is_empty.Statement.{statement}
 use Rattle.merge_target.proofs.marks.is_empty.Tie as tie

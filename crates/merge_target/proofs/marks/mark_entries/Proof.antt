@@ -1,8 +1,8 @@
 -- `merge_target::marks::mark_entries` meets its contract. Assumes nothing.
 use Prim.Native.Nat.{_-_, _≤_}
 use borrow.Author.Tests.{eqb-true}
-use Rattle.merge_target.specs.Marks.{Marked, dynamic, marked-none, marked-more, marked-end}
-use Rattle.merge_target.specs.Named.{reads}
+use Rattle.merge_choice.specs.Marks.{Marked, dynamic, marked-none, marked-more, marked-end}
+use Rattle.merge_choice.specs.Named.{reads}
 use native.Mathlib.Omega.{arith}
 use Rattle.merge_target.proofs.marks.mark_entries.Statement.{statement}
 use Rattle.merge_target.proofs.marks.mark_entries.Tie as tie

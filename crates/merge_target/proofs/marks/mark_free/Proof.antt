@@ -1,8 +1,8 @@
 -- `merge_target::marks::mark_free` meets its contract. Assumes nothing.
 use Prim.Native.Nat.{_-_, _≤_}
 use lib.ListN.{length}
-use Rattle.merge_target.specs.Marks.{Marked, empty, marked-none, marked-more, marked-end, put-by}
-use Rattle.merge_target.specs.Named.{reads}
+use Rattle.merge_choice.specs.Marks.{Marked, empty, marked-none, marked-more, marked-end, put-by}
+use Rattle.merge_choice.specs.Named.{reads}
 use native.Mathlib.Omega.{arith}
 use Rattle.merge_target.proofs.marks.mark_free.Statement.{statement}
 use Rattle.merge_target.proofs.marks.mark_free.Tie as tie

@@ -1,6 +1,6 @@
 -- `merge_target::marks::mark_if` meets its contract. Assumes nothing.
 use lib.ListN.{set}
-use Rattle.merge_target.specs.Marks.{is-first, is-second}
+use Rattle.merge_choice.specs.Marks.{is-first, is-second}
 use borrow.Author.Tests.{not-true, not-false}
 use native.Mathlib.Omega.{arith}
 use borrow.Author.Needs.{needs}

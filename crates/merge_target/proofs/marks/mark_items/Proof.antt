@@ -2,7 +2,7 @@
 use Prim.Native.Nat.{_+_}
 use Prim.Native.Nat.{_-_, _≤_}
 use mathlib.Core.Path.{refl}
-use Rattle.merge_target.specs.Marks.{Marked, all, part, marked-none, marked-more, marked-end}
+use Rattle.merge_choice.specs.Marks.{Marked, all, part, marked-none, marked-more, marked-end}
 use native.Mathlib.Omega.{arith}
 use Rattle.merge_target.proofs.marks.mark_items.Statement.{statement}
 use Rattle.merge_target.proofs.marks.mark_items.Tie as tie

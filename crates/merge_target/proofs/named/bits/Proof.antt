@@ -1,5 +1,5 @@
 -- `merge_target::named::bits` meets its contract. Assumes nothing.
-use Rattle.merge_target.specs.Named.{bits-many, bits-few}
+use Rattle.merge_choice.specs.Named.{bits-many, bits-few}
 use native.Mathlib.Omega.{arith}
 use Rattle.merge_target.proofs.named.bits.Statement.{statement}
 use Rattle.merge_target.proofs.named.bits.Tie as tie

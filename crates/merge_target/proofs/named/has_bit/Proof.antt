@@ -1,5 +1,5 @@
 -- `merge_target::named::has_bit` meets its contract. Assumes nothing.
-use Rattle.merge_target.specs.Named.{bit-of}
+use Rattle.merge_choice.specs.Named.{bit-of}
 use borrow.Author.Needs.{needs}
 use Rattle.merge_target.proofs.named.has_bit.Statement.{statement}
 use Rattle.merge_target.proofs.named.has_bit.Tie as tie

@@ -1,7 +1,7 @@
 -- `merge_target::named::role` meets its contract. Assumes nothing.
 use borrow.Author.Tests.{not-true, not-false}
 use mathlib.Core.Path.{sym, _∙_}
-use Rattle.merge_target.specs.Named.{role-unnamed, role-common, role-user, role-dynamic}
+use Rattle.merge_choice.specs.Named.{role-unnamed, role-common, role-user, role-dynamic}
 use borrow.Author.Needs.{needs}
 use Rattle.merge_target.proofs.named.role.Statement.{statement}
 use Rattle.merge_target.proofs.named.role.Tie as tie

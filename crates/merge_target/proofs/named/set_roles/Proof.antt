@@ -3,7 +3,7 @@ use Prim.Native.Nat.{_-_, _≤_}
 use mathlib.Core.Path.{ap}
 use lib.ListN.{set}
 use Rattle.entry_set.specs.Sets.{number}
-use Rattle.merge_target.specs.Named.{Named, named-none, named-more, named-end, can-name}
+use Rattle.merge_choice.specs.Named.{Named, named-none, named-more, named-end, can-name}
 use native.Mathlib.Omega.{arith}
 use Rattle.merge_target.proofs.named.set_roles.Statement.{statement}
 use Rattle.merge_target.proofs.named.set_roles.Tie as tie

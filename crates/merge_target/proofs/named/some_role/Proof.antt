@@ -5,8 +5,8 @@ use mathlib.Core.Bool.{false}
 use lib.Dec.{eqb}
 use borrow.Author.Tests.{eq-eqb, ne-eqb}
 use Rattle.graphs.specs.Lists.{none-left, none-more, some-found, some-below, some-zero}
-use Rattle.merge_target.specs.Choice.{some-role}
-use Rattle.merge_target.specs.Named.{reads}
+use Rattle.merge_choice.specs.Choice.{some-role}
+use Rattle.merge_choice.specs.Named.{reads}
 use native.Mathlib.Omega.{arith}
 use Rattle.merge_target.proofs.named.some_role.Statement.{statement}
 use Rattle.merge_target.proofs.named.some_role.Tie as tie

@@ -1,7 +1,7 @@
 -- `merge_target::row::are_bad_lists` meets its contract. Assumes nothing.
 use mathlib.Core.Path.{sym, _∙_}
-use Rattle.merge_target.specs.Find.{bad-lists}
-use Rattle.merge_target.specs.Rows.{here, next}
+use Rattle.merge_choice.specs.Find.{bad-lists}
+use Rattle.merge_choice.specs.Rows.{here, next}
 use borrow.Author.Needs.{needs}
 use Rattle.merge_target.proofs.row.are_bad_lists.Statement.{statement}
 use Rattle.merge_target.proofs.row.are_bad_lists.Tie as tie

@@ -4,7 +4,7 @@ use mathlib.Core.Path.{_≡_, sym, _∙_}
 use mathlib.Core.Bool.{false}
 use lib.ListN.{length}
 use Rattle.graphs.specs.Lists.{none-left, none-more, some-found, some-below, some-zero}
-use Rattle.merge_target.specs.Find.{bad-entry}
+use Rattle.merge_choice.specs.Find.{bad-entry}
 use native.Mathlib.Omega.{arith}
 use Rattle.merge_target.proofs.row.has_bad_entry.Statement.{statement}
 use Rattle.merge_target.proofs.row.has_bad_entry.Tie as tie

@@ -1,8 +1,8 @@
 -- `merge_target::row::has_bad_lengths` meets its contract. Assumes nothing.
 use mathlib.Core.Path.{refl}
 use borrow.Author.Tests.{lt-ltb, le-ltb}
-use Rattle.merge_target.specs.Find.{bad-lengths}
-use Rattle.merge_target.specs.Rows.{here, next, other, same}
+use Rattle.merge_choice.specs.Find.{bad-lengths}
+use Rattle.merge_choice.specs.Rows.{here, next, other, same}
 use Rattle.merge_target.proofs.row.has_bad_lengths.Statement.{statement}
 use Rattle.merge_target.proofs.row.has_bad_lengths.Tie as tie
 

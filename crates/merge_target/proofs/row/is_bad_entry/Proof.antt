@@ -1,5 +1,5 @@
 -- `merge_target::row::is_bad_entry` meets its contract. Assumes nothing.
-use Rattle.merge_target.specs.Rows.{entry-unread, entry-read}
+use Rattle.merge_choice.specs.Rows.{entry-unread, entry-read}
 use native.Mathlib.Omega.{arith}
 use borrow.Author.Needs.{needs}
 use Rattle.merge_target.proofs.row.is_bad_entry.Statement.{statement}

@@ -1,7 +1,7 @@
 -- `merge_target::row::is_refused` meets its contract. Assumes nothing.
 use mathlib.Core.Path.{sym, _∙_}
-use Rattle.merge_target.specs.Find.{row23}
-use Rattle.merge_target.specs.Rows.{here, next, equal-lengths}
+use Rattle.merge_choice.specs.Find.{row23}
+use Rattle.merge_choice.specs.Rows.{here, next, equal-lengths}
 use borrow.Author.Needs.{needs}
 use Rattle.merge_target.proofs.row.is_refused.Statement.{statement}
 use Rattle.merge_target.proofs.row.is_refused.Tie as tie

@@ -1,5 +1,5 @@
 -- `moves::reduced_chunk_graph_atom_count` meets its contract. Assumes nothing.
-use Rattle.nidskalm.specs.Replies.{move-reply}
+use Rattle.nidskalm_replies.specs.Replies.{move-reply}
 use mathlib.Core.Path.{_∙_, ap}
 use borrow.Author.Needs.{needs}
 use Rattle.nidskalm.proofs.moves.reduced_chunk_graph_atom_count.Statement.{statement}

@@ -1,5 +1,5 @@
 -- `moves::reduced_chunk_graph_atom_set` meets its contract. Assumes nothing.
-use Rattle.nidskalm.specs.Replies.{set-reply}
+use Rattle.nidskalm_replies.specs.Replies.{set-reply}
 use mathlib.Core.Path.{_∙_, ap}
 use borrow.Author.Needs.{needs}
 use Rattle.nidskalm.proofs.moves.reduced_chunk_graph_atom_set.Statement.{statement}

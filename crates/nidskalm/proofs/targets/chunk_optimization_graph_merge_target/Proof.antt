@@ -1,6 +1,6 @@
 -- `nidskalm::targets::chunk_optimization_graph_merge_target` meets its contract. Assumes nothing.
 use mathlib.Core.Path.{_∙_, ap}
-use Rattle.nidskalm.specs.Replies.{merge-reply}
+use Rattle.nidskalm_replies.specs.Replies.{merge-reply}
 use borrow.Author.Needs.{needs}
 use Rattle.nidskalm.proofs.targets.chunk_optimization_graph_merge_target.Statement.{statement}
 use Rattle.nidskalm.proofs.targets.chunk_optimization_graph_merge_target.Tie as tie

@@ -1,0 +1,3 @@
+-- What the replies say, and a law. Assumes nothing.
+pub mod Replies
+pub mod ReplyLaws

@@ -1,0 +1,17 @@
+#!/usr/bin/env bash
+# Everything but the proofs, on what `rt ci` or `rt check` proved: the program moves and its model, C programs and the Rust crate over the
+# static library, and the original, the model and the library compared.
+set -euo pipefail
+cd "$(dirname "$0")/.."
+
+part() { # WHAT COMMAND..
+    echo "tests: $1"
+    "${@:2}" || { echo "tests: FAILED: $1"; exit 1; }
+}
+
+part "the program and the static library are built" bash tests/build.sh
+part "the program's recorded output is the model's" python3 tests/moves_model.py --check
+part "an input of several blocks through the program" python3 tests/moves_model.py --large target/bin/moves
+part "C programs over the library" bash tests/drivers.sh
+part "the Rust crate over the library" cargo test --manifest-path rust/Cargo.toml --offline -j1 --quiet
+part "the original, the model and the library" env NIDSKALM_LIB_DIR=target/staticlib bash tests/oracle/run.sh
