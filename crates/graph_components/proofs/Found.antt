@@ -18,9 +18,9 @@ use Rattle.graphs.specs.Walk.{Walk, one, more, via, only}
 use Rattle.graphs.specs.Walks.{sources-below, join, sound, complete, walk-from, only-walk}
 use Rattle.graph_neighbours.specs.Lists.{edge, Listed, listed, listed-to}
 use Rattle.graph_depth_first.specs.Order.{Ordered}
-use Rattle.graph_depth_first.specs.Steps.{at, Walked}
+use Rattle.graph_depth_first.specs.Steps.{at}
 use Rattle.graph_components.specs.Components.{turn, twinned, Split, CanWalkBack}
-use Rattle.graph_components.specs.Only.{flagged, Met, Inner, CanMeet, Flagged, CanAsk}
+use Rattle.graph_components.specs.Only.{flagged, Met, Inner, CanMeet, Flagged, CanFlagOnly}
 
 -- the law of the flags
 module _ {e : ℕ → ℕ → Bool} {n : ℕ} {d : ℕ → ℕ} {f : ℕ → ℕ → ℕ} {c : ℕ → ℕ} (G : Listed e n d f) (s : Split e n c) where
@@ -120,22 +120,21 @@ flag-more {w} {n} {found} {l₀} {x} {l} {l′} v b h q = record {
 }
 
 -- from one walk to the next
-module _ {g l h q : List ℕ} {n : ℕ} {colour cursor stack low order flags : List ℕ} (can : CanAsk g l h q n colour cursor stack low order flags) where
-  pub back-can : {colour′ stack′ order′ : List ℕ} {met : Bool} → Walked (edge g l n) n order′ met → length colour′ ≡ length colour → length stack′ ≡ length stack → length order′ ≡ length order
-      → CanWalkBack h q n order′ colour′ stack′
-  back-can {order′} w a b c = record {
+module _ {g l h q : List ℕ} {n : ℕ} {order label stack flags : List ℕ} (can : CanFlagOnly g l h q n order label stack flags) where
+  pub back-can : CanWalkBack h q n order label stack
+  back-can = record {
     graph = can .turned;
-    places = omega (arith, can .orders);
-    cells = omega (arith, can .colours);
-    room = omega (arith, can .places);
+    places = can .places;
+    cells = can .cells;
+    room = can .space;
     small = can .small;
-    ordered = subst (λ (f : ℕ → ℕ → Bool). Ordered f n (at order′)) (can .same) (w .ordered);
+    ordered = subst (λ (f : ℕ → ℕ → Bool). Ordered f n (at order)) (can .same) (can .ordered);
   }
 
-  pub meet-can : {label : List ℕ} → Split (turn (edge h q n)) n (at label) → length label ≡ length colour → CanMeet g l n label
-  meet-can {label} s a = record {
+  pub meet-can : {label′ : List ℕ} → Split (turn (edge h q n)) n (at label′) → length label′ ≡ length label → CanMeet g l n label′
+  meet-can {label′} s a = record {
     graph = can .graph;
-    split = subst (λ (f : ℕ → ℕ → Bool). Split f n (at label)) (sym (can .same)) s;
-    long = omega (arith, can .colours);
+    split = subst (λ (f : ℕ → ℕ → Bool). Split f n (at label′)) (sym (can .same)) s;
+    long = omega (arith, can .cells);
     small = can .small;
   }

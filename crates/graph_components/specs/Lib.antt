@@ -1,3 +1,3 @@
--- The definitions that the contracts of `components` cite. Assumes nothing.
+-- The definitions that the contracts of `graph_components` cite. Assumes nothing.
 pub mod Components
 pub mod Only

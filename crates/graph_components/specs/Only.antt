@@ -11,6 +11,7 @@ use Rattle.graphs.specs.Lists.{below}
 use Rattle.graphs.specs.Tab.{tab}
 use Rattle.graphs.specs.Walk.{only}
 use Rattle.graph_neighbours.specs.Lists.{deg, nb, edge, Graph}
+use Rattle.graph_depth_first.specs.Order.{Ordered}
 use Rattle.graph_depth_first.specs.Steps.{at}
 use Rattle.graph_components.specs.Components.{turn, Split}
 
@@ -55,15 +56,14 @@ pub record Flagged (label : List ℕ) (n found : ℕ) (flags : List ℕ) (x : �
   pub is : (i : ℕ) → i < x → getD flags′ i 0 ≡ ind (eqb (getD label i 0) found)
   pub beyond : (i : ℕ) → n ≤ i → getD flags′ i 0 ≡ getD flags i 0
 
--- neighbour lists of the edges and of the edges turned round, scratch and flags
-pub record CanAsk (g l h q : List ℕ) (n : ℕ) (colour cursor stack low order flags : List ℕ) : Type 0 where
+-- neighbour lists of the edges and of the edges turned round, the post-order, scratch and flags
+pub record CanFlagOnly (g l h q : List ℕ) (n : ℕ) (order label stack flags : List ℕ) : Type 0 where
   pub graph : Graph g l n
   pub turned : Graph h q n
   pub same : edge g l n ≡ turn (edge h q n)
-  pub colours : n ≤ length colour
-  pub cursors : n ≤ length cursor
-  pub places : n ≤ length stack
-  pub lows : n ≤ length low
-  pub orders : n ≤ length order
+  pub ordered : Ordered (edge g l n) n (at order)
+  pub places : n ≤ length order
+  pub cells : n ≤ length label
+  pub space : n ≤ length stack
   pub small : n < 2 ^ 31
   pub room : n ≤ length flags

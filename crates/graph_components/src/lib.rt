@@ -8,7 +8,7 @@ ghost use Rattle.graph_neighbours.specs.Direction.{along};
 ghost use Rattle.graph_neighbours.specs.Lists.{edge};
 ghost use Rattle.graph_depth_first.specs.Steps.{at};
 ghost use Rattle.graph_components.specs.Components.{turn, CanGather, Gathered, Parting, CanWalkBack, Split};
-ghost use Rattle.graph_components.specs.Only.{flagged, meetOf, Met, Inner, CanMeet, CanFlag, Flagged, CanAsk};
+ghost use Rattle.graph_components.specs.Only.{flagged, meetOf, Met, Inner, CanMeet, CanFlag, Flagged, CanFlagOnly};
 
 // Gives the label l to the nodes that reach `root` over nodes with no label.
 fn gather<'a>(
@@ -189,43 +189,30 @@ fn flag_all(label: &[u32], n: usize, found: u32, flags: &mut [u32])
     }
 }
 
-// Flags the nodes of the only component with a closed walk; none where there are two such components.
+// Flags the nodes of the only component with a closed walk; none where there are two such components. `order` has the nodes in the post-order of
+// a first walk; `label` and `stack` are scratch.
 pub fn only_cyclic_component<'a>(
     starts: &[u32],
     dependencies: &'a [u32],
     turned: &[u32],
     dependents: &'a [u32],
     n: usize,
-    colour: &mut [u32],
-    cursor: &mut [u32],
+    order: &[u32],
+    label: &mut [u32],
     stack: &mut [u32],
-    low: &mut [u32],
-    order: &mut [u32],
     flags: &mut [u32],
 )
-    requires { ⌜ CanAsk (now starts) (now dependencies) (now turned) (now dependents) n (now colour) (now cursor) (now stack) (now low) (now order) (now flags) ⌝ }
+    requires { ⌜ CanFlagOnly (now starts) (now dependencies) (now turned) (now dependents) n (now order) (now label) (now stack) (now flags) ⌝ }
     ensures { λ _. ⌜ now (flags .exit) ≡ flagged (edge (now (starts .entry)) (now (dependencies .entry)) n) n (now (flags .entry)) ⌝ }
 {
-    graph_depth_first::first_walk(
-        graph_neighbours::Direction::Dependencies,
-        starts,
-        dependencies,
-        dependents,
-        n,
-        colour,
-        cursor,
-        stack,
-        low,
-        order,
-    );
-    second_walk(turned, dependencies, dependents, n, order, colour, stack);
+    second_walk(turned, dependencies, dependents, n, order, label, stack);
     let found = within(
         graph_neighbours::Direction::Dependencies,
         starts,
         dependencies,
         dependents,
         n,
-        colour,
+        label,
     );
-    flag_all(colour, n, found, flags);
+    flag_all(label, n, found, flags);
 }

@@ -1,2 +1,2 @@
--- The laws that the proofs of `slot_graph` cite. Assumes nothing.
-pub mod Grouped
+-- The laws that the proofs of `graph_slots` cite. Assumes nothing.
+pub mod Turned

@@ -1,2 +1,3 @@
--- The definitions that the contracts of `slot_graph` cite. Assumes nothing.
+-- The definitions that the contracts of `graph_slots` cite. Assumes nothing.
 pub mod Asked
+pub mod Listing

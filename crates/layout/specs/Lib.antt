@@ -1,6 +1,7 @@
--- Lists laid over a list as fields, and the laws of it. Assumes nothing.
+-- Lists laid over a list as fields, tests on a part of a list, and the laws of both. Assumes nothing.
 pub mod Patch
 pub mod Fields
 pub mod Change
 pub mod Lent
 pub mod Steps
+pub mod Compare

@@ -1,9 +1,15 @@
-// Lists written over a part of a list.
+// Lists written over a part of a list, and tests on a part of a list.
 ghost use mathlib.Core.Path.{_≡_};
 ghost use Prim.Native.Nat.{_+_, _≤_};
 ghost use lib.ListN.{length, replicate};
 ghost use Rattle.layout.specs.Patch.{patch, part};
 ghost use Rattle.layout.specs.Steps.{CanCopy};
+
+mod compare;
+
+pub use compare::all_below;
+pub use compare::none_above;
+pub use compare::same_numbers;
 
 // k numbers of `from`, from `start` on, are written at `at`.
 pub fn copy(area: &mut [u32], at: usize, from: &[u32], start: usize, k: usize)

@@ -8,21 +8,22 @@ use lib.ListN.{length, getD}
 use Rattle.graphs.specs.Bools.{fails, alike}
 use Rattle.move_ledger.specs.Graph.{Load}
 use Rattle.move_ledger.specs.LoadLaws.{Loadable, first-row-none}
+use Rattle.move_slots.specs.Slots.{bounds}
 use Rattle.move_area.specs.Bodies.{atomAt}
 use Rattle.move_area.specs.Area.{consistent}
 use Rattle.move_area.specs.Checked.{Ranged, checked-consistent, consistent-ranged, consistent-worked}
-use Rattle.move_consistency.specs.Ranges.{bounds, CanRange, RangeTold}
-use Rattle.move_consistency.specs.Ready.{CanWork, WorkTold, CanCheck, Told}
+use Rattle.move_consistency.specs.Ranges.{CanRange, RangeTold}
+use Rattle.move_consistency.specs.Ready.{CanWorkOn, WorkTold, CanCheck, Told}
 
-module _ {load : Load} {n : ℕ} {area counts sources targets heads list row degrees turned back cursor stack low finish flags order : List ℕ} (can : CanCheck load n area counts sources targets heads list row degrees turned back cursor stack low finish flags order) where
+module _ {load : Load} {n : ℕ} {area degrees order : List ℕ} (can : CanCheck load n area degrees order) where
   loadable : Loadable load n true (length area)
   loadable = first-row-none load n true (length area) (can .passes)
 
   room : atomAt n + load .A ≤ length area
   room = omega (arith, loadable .sizes .area)
 
-  pub check-ranges : CanRange (load .A) n area order row
-  check-ranges = record { nodes = loadable .sizes .sets; room = room; order-long = can .order-long; spare-long = can .walks .colour-long }
+  pub check-ranges : CanRange (load .A) n area order degrees
+  check-ranges = record { nodes = loadable .sizes .sets; room = room; order-long = can .order-long; spare-long = can .degrees-long }
 
   -- the ranges ask for the atoms and the entry bits alone
   wide : Ranged (bounds (load .A) (load .E)) n area → Ranged load n area
@@ -32,33 +33,18 @@ module _ {load : Load} {n : ℕ} {area counts sources targets heads list row deg
   narrow r = record { few = r .few; nodes = r .nodes; distinct = r .distinct; range = r .range; marks = r .marks }
 
   module _ {order′ : List ℕ} {q : Bool} (t : RangeTold (load .A) (load .E) n area order′ q) where
-    pub check-no : {counts′ sources′ targets′ degrees′ : List ℕ} → q ≡ false → Told load n area counts′ sources′ targets′ degrees′ order′ false
+    pub check-no : {degrees′ : List ℕ} → q ≡ false → Told load n area degrees′ order′ false
     check-no h = record {
       says = sym (fails _ (λ c. t .says .wrong h (narrow (consistent-ranged load n area (loadable .order) (loadable .sizes .sets) room c))));
       ready = λ z. absurd (true≢false (sym z));
     }
 
     module _ (h : q ≡ true) where
-      pub check-work : {row′ : List ℕ} → length row′ ≡ length row → CanWork load n area counts sources targets heads list row′ degrees turned back cursor stack low finish flags
-      check-work e = record {
-        loadable = loadable;
-        ranged = wide (t .says .right h);
-        room = can .room;
-        walks = record {
-          turned-long = can .walks .turned-long;
-          back-long = can .walks .back-long;
-          back-short = can .walks .back-short;
-          colour-long = omega (arith, can .walks .colour-long);
-          cursor-long = can .walks .cursor-long;
-          stack-long = can .walks .stack-long;
-          low-long = can .walks .low-long;
-          finish-long = can .walks .finish-long;
-          flags-long = can .walks .flags-long;
-        };
-      }
+      pub check-work : {degrees′ : List ℕ} → length degrees′ ≡ length degrees → CanWorkOn load n area degrees′
+      check-work e = record { loadable = loadable; ranged = wide (t .says .right h); degrees-long = omega (arith, can .degrees-long) }
 
-      pub check-done : {counts′ sources′ targets′ degrees′ : List ℕ} {r : Bool} → ((i : ℕ) → getD area i 0 < 2 ^ 32) → WorkTold load n area counts′ sources′ targets′ degrees′ r
-          → Told load n area counts′ sources′ targets′ degrees′ order′ r
+      pub check-done : {degrees′ : List ℕ} {r : Bool} → ((i : ℕ) → getD area i 0 < 2 ^ 32) → WorkTold load n area degrees′ r
+          → Told load n area degrees′ order′ r
       check-done {r = r} cells w = record {
         says =
             alike r (consistent load n area)
@@ -68,7 +54,6 @@ module _ {load : Load} {n : ℕ} {area counts sources targets heads list row deg
           loadable = loadable;
           ranged = wide (t .says .right h);
           worked = w .says .right z;
-          filled = w .filled;
           degree-at = w .degree-at z;
           ordered = t .ordered h;
         };

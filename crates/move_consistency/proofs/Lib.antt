@@ -1,6 +1,5 @@
--- Laws that the proofs of `consistency` share. Assumes nothing.
+-- Laws that the proofs of `move_consistency` share. Assumes nothing.
 pub mod Ranging
-pub mod Filling
 pub mod Matching
 pub mod Flagging
 pub mod Working

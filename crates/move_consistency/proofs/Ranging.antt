@@ -8,7 +8,7 @@ use lib.ListN.{getD}
 use Rattle.graphs.specs.Bools.{Decides, no-decides, same-decides, both-decides}
 use Rattle.entry_set.specs.Lanes.{lanes}
 use Rattle.move_ledger.specs.Graph.{at}
-use Rattle.move_slots.specs.Compare.{PartUpTo, PartBelow}
+use Rattle.layout.specs.Compare.{PartUpTo, PartBelow}
 use Rattle.set_order.specs.Order.{laneSet, Distinct}
 use Rattle.move_area.specs.Bodies.{laneAt, atomAt}
 use Rattle.move_area.specs.Area.{setsIn}

@@ -1,6 +1,5 @@
--- The definitions that the contracts of `consistency` cite. Assumes nothing.
+-- The definitions that the contracts of `move_consistency` cite. Assumes nothing.
 pub mod Ranges
-pub mod Filled
 pub mod Matched
-pub mod Graph
+pub mod Flags
 pub mod Ready

@@ -1,12 +1,12 @@
 -- What the tests on the ranges of an area's numbers decide. Assumes nothing.
 use mathlib.Core.Path.{_≡_}
 use mathlib.Core.Bool.{Bool, true}
-use mathlib.Core.List.{List, []}
+use mathlib.Core.List.{List}
 use Prim.Native.Nat.{ℕ, _+_, _*_, _^_, _≤_, _<_}
 use lib.ListN.{length, getD}
 use Rattle.graphs.specs.Bools.{Decides}
 use Rattle.entry_set.specs.Lanes.{lanes}
-use Rattle.move_ledger.specs.Graph.{Load, lent}
+use Rattle.move_slots.specs.Slots.{bounds}
 use Rattle.set_order.specs.Order.{laneSet, Ordered}
 use Rattle.move_area.specs.Bodies.{atomAt}
 use Rattle.move_area.specs.Checked.{Ranged}
@@ -14,10 +14,6 @@ use Rattle.move_area.specs.Checked.{Ranged}
 -- each of `registered` sets from `from` on has no bit at or above e
 abbrev pub SetsBelow : List ℕ → ℕ → ℕ → ℕ → ℕ → Type 0
 SetsBelow area from stride registered e = (x : ℕ) → x < registered → lanes area (from + x) stride < 2 ^ e
-
--- a load of atoms and entry bits alone: the ranges and the entry sets ask no more
-abbrev pub bounds : ℕ → ℕ → Load
-bounds a e = lent a 0 e [] [] []
 
 -- the area has its header and lanes, and there is room to sort the nodes
 pub record CanRange (a n : ℕ) (area order spare : List ℕ) : Type 0 where

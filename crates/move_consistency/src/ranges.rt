@@ -48,8 +48,8 @@ pub fn in_ranges(
         return false;
     }
     let lanes = header + 24;
-    let nodes_fit = move_slots::all_below(area, lanes + 24 * n, a, area[header]);
-    let marks_fit = move_slots::none_above(area, lanes + 9 * n, n, area[header + 1]);
+    let nodes_fit = layout::all_below(area, lanes + 24 * n, a, area[header]);
+    let marks_fit = layout::none_above(area, lanes + 9 * n, n, area[header + 1]);
     let sets_fit = sets_in_range(area, lanes, n, registered, e);
     set_order::sort(area, lanes, n, registered, order, spare);
     let apart = set_order::distinct(area, lanes, n, registered, order);

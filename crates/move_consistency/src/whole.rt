@@ -1,9 +1,87 @@
 // Row 9 of the table of refusals, decided exactly.
+use super::worked::is_worked;
+ghost use Prim.Native.Nat.{_≤_};
 ghost use Rattle.move_ledger.specs.Graph.{lent};
-ghost use Rattle.move_consistency.specs.Ready.{CanCheck, Told};
+ghost use Rattle.move_consistency.specs.Ready.{CanWorkOn, WorkTold, CanCheck, Told};
 
-// Whether the area is consistent: the numbers in range first, then all that is worked out from them. If so, the lists have the atom counts,
-// the slots, how many edges start at each node, and the registered nodes by rising sets; the other lists are scratch.
+// Whether the rest is worked out from the load and the placement, for a small load.
+fn worked_small(
+    a: usize,
+    d: usize,
+    e: usize,
+    n: usize,
+    starts: &[u32],
+    dependencies: &[u32],
+    hosts: &[u32],
+    area: &[u32],
+    degrees: &mut [u32],
+) -> bool
+    requires { ⌜ CanWorkOn (lent a d e (now starts) (now dependencies) (now hosts)) n (now area) (now degrees) × (n ≤ 128) × (d ≤ 768) ⌝ }
+    ensures { λ r. ⌜ WorkTold (lent a d e (now (starts .entry)) (now (dependencies .entry)) (now (hosts .entry))) n (now (area .entry)) (now (degrees .exit)) r ⌝ }
+{
+    let mut sources = [0u32; 1024];
+    let mut targets = [0u32; 1024];
+    let mut heads = [0u32; 129];
+    let mut list = [0u32; 1024];
+    let mut row = [0u32; 128];
+    is_worked(
+        a,
+        d,
+        e,
+        n,
+        starts,
+        dependencies,
+        hosts,
+        area,
+        &mut sources,
+        &mut targets,
+        &mut heads,
+        &mut list,
+        &mut row,
+        degrees,
+    )
+}
+
+// The same for a load of any size within the limits.
+fn worked_large(
+    a: usize,
+    d: usize,
+    e: usize,
+    n: usize,
+    starts: &[u32],
+    dependencies: &[u32],
+    hosts: &[u32],
+    area: &[u32],
+    degrees: &mut [u32],
+) -> bool
+    requires { ⌜ CanWorkOn (lent a d e (now starts) (now dependencies) (now hosts)) n (now area) (now degrees) ⌝ }
+    ensures { λ r. ⌜ WorkTold (lent a d e (now (starts .entry)) (now (dependencies .entry)) (now (hosts .entry))) n (now (area .entry)) (now (degrees .exit)) r ⌝ }
+{
+    let mut sources = [0u32; 8448];
+    let mut targets = [0u32; 8448];
+    let mut heads = [0u32; 1025];
+    let mut list = [0u32; 8448];
+    let mut row = [0u32; 1024];
+    is_worked(
+        a,
+        d,
+        e,
+        n,
+        starts,
+        dependencies,
+        hosts,
+        area,
+        &mut sources,
+        &mut targets,
+        &mut heads,
+        &mut list,
+        &mut row,
+        degrees,
+    )
+}
+
+// Whether the area is consistent: the numbers in range first, then all that is worked out from them. If so, `degrees` has how many edges start at
+// each node, and `order` the registered nodes by rising sets.
 pub fn consistent(
     a: usize,
     d: usize,
@@ -13,50 +91,17 @@ pub fn consistent(
     dependencies: &[u32],
     hosts: &[u32],
     area: &[u32],
-    counts: &mut [u32],
-    sources: &mut [u32],
-    targets: &mut [u32],
-    heads: &mut [u32],
-    list: &mut [u32],
-    row: &mut [u32],
     degrees: &mut [u32],
-    turned: &mut [u32],
-    back: &mut [u32],
-    cursor: &mut [u32],
-    stack: &mut [u32],
-    low: &mut [u32],
-    finish: &mut [u32],
-    flags: &mut [u32],
     order: &mut [u32],
 ) -> bool
-    requires { ⌜ CanCheck (lent a d e (now starts) (now dependencies) (now hosts)) n (now area) (now counts) (now sources) (now targets) (now heads) (now list) (now row) (now degrees) (now turned) (now back) (now cursor) (now stack) (now low) (now finish) (now flags) (now order) ⌝ }
-    ensures { λ r. ⌜ Told (lent a d e (now (starts .entry)) (now (dependencies .entry)) (now (hosts .entry))) n (now (area .entry)) (now (counts .exit)) (now (sources .exit)) (now (targets .exit)) (now (degrees .exit)) (now (order .exit)) r ⌝ }
+    requires { ⌜ CanCheck (lent a d e (now starts) (now dependencies) (now hosts)) n (now area) (now degrees) (now order) ⌝ }
+    ensures { λ r. ⌜ Told (lent a d e (now (starts .entry)) (now (dependencies .entry)) (now (hosts .entry))) n (now (area .entry)) (now (degrees .exit)) (now (order .exit)) r ⌝ }
 {
-    if !super::ranges::in_ranges(a, e, n, area, order, row) {
+    if !super::ranges::in_ranges(a, e, n, area, order, degrees) {
         return false;
     }
-    super::worked::is_worked(
-        a,
-        d,
-        e,
-        n,
-        starts,
-        dependencies,
-        hosts,
-        area,
-        counts,
-        sources,
-        targets,
-        heads,
-        list,
-        row,
-        degrees,
-        turned,
-        back,
-        cursor,
-        stack,
-        low,
-        finish,
-        flags,
-    )
+    if move_slots::is_small(n, d) {
+        return worked_small(a, d, e, n, starts, dependencies, hosts, area, degrees);
+    }
+    worked_large(a, d, e, n, starts, dependencies, hosts, area, degrees)
 }

@@ -17,18 +17,18 @@ use Rattle.graph_components.specs.Only.{flagged}
 use Rattle.move_ledger.specs.Graph.{Load}
 use Rattle.move_area.specs.Bodies.{laneAt}
 use Rattle.move_area.specs.Area.{setsIn}
-use Rattle.move_area.specs.Checked.{nodesIn, ranged-placing, sets-length}
-use Rattle.move_consistency.specs.Filled.{CanFillOwn, Filled}
-use Rattle.move_consistency.specs.Graph.{slotCount, Counted, counted-ends, counted-le}
-use Rattle.move_loading.specs.Steps.{GraphWritten, componentLane, CanWriteFlags, FlagsWritten}
+use Rattle.move_area.specs.Checked.{nodesIn, Ranged, ranged-placing, sets-length}
+use Rattle.move_slots.specs.Filled.{CanFillOwn, Filled}
+use Rattle.move_slots.specs.Counted.{slotCount, Counted, counted-ends, counted-le}
+use Rattle.move_loading.specs.Steps.{GraphWritten, componentLane, FlagsWritten}
 
-module _ {load : Load} {n : ℕ} {l counts facade s₀ t₀ : List ℕ} (can : CanFillOwn load n l counts facade s₀ t₀) {counts′ s t : List ℕ} (f : Filled load n (nodesIn load n l) (setsIn n l) counts′ s t)
+module _ {load : Load} {n : ℕ} {l counts s₀ t₀ : List ℕ} (can : CanFillOwn load n l counts s₀ t₀) (ranged : Ranged load n l) {counts′ s t : List ℕ} (f : Filled load n (nodesIn load n l) (setsIn n l) counts′ s t)
     {m : ℕ} (q : m ≡ slotCount n (load .D) (load .E)) where
   own-counted : Counted load (nodesIn load n l) (setsIn n l) s t n m
   own-counted = record {
     order = can .loadable .order;
-    placing = ranged-placing (can .loadable .sizes .sets) (can .ranged);
-    few = omega (arith, sets-length n l, can .ranged .few);
+    placing = ranged-placing (can .loadable .sizes .sets) ranged;
+    few = omega (arith, sets-length n l, can .few);
     slots = f .slots;
     many = q;
   }
@@ -49,7 +49,7 @@ module _ {load : Load} {n : ℕ} {l counts facade s₀ t₀ : List ℕ} (can : C
   graph-written e₁ e₂ = record { filled = f; many = q; area = e₂ ∙ ap (patch 0 (matrix s t n m)) e₁ }
 
 -- the flags of the first n nodes
-pub flags-part : (edge : ℕ → ℕ → Bool) (n : ℕ) (l : List ℕ) {flags : List ℕ} → n ≤ length l → flags ≡ flagged edge n l → part 0 n flags ≡ componentLane edge n
+flags-part : (edge : ℕ → ℕ → Bool) (n : ℕ) (l : List ℕ) {flags : List ℕ} → n ≤ length l → flags ≡ flagged edge n l → part 0 n flags ≡ componentLane edge n
 unfolding flagged
 flags-part edge n l {flags} b e =
     is-tab (part 0 n flags) n _ (part-long 0 n flags) (λ x h.
@@ -57,31 +57,9 @@ flags-part edge n l {flags} b e =
     ∙ rw (lt-ltb x n h) refl)
 
 -- the two ways out
-pub flags-none : {edge : ℕ → ℕ → Bool} {n : ℕ} {l : List ℕ} {r : Bool} → r ≡ cyclic edge (below n) → r ≡ false → FlagsWritten edge n l false (set l (n * n + 2) 1)
-flags-none e h = record { says = sym h ∙ e; some = λ z. absurd (true≢false (sym z)); none = λ z. refl }
+module _ {edge : ℕ → ℕ → Bool} {n : ℕ} {l : List ℕ} {r : Bool} (e : r ≡ cyclic edge (below n)) where
+  pub flags-none : r ≡ false → FlagsWritten edge n l false (set l (n * n + 2) 1)
+  flags-none h = record { says = sym h ∙ e; some = λ z. absurd (true≢false (sym z)); none = λ z. refl }
 
-pub flags-some : {edge : ℕ → ℕ → Bool} {n : ℕ} {l l′ : List ℕ} {r : Bool} → r ≡ cyclic edge (below n) → r ≡ true → l′ ≡ patch (laneAt n 10) (componentLane edge n) l → FlagsWritten edge n l true l′
-flags-some e h q = record { says = sym h ∙ e; some = λ z. q; none = λ z. absurd (true≢false z) }
-
--- lists of the same lengths do for the next walk
-pub flags-again : {area : List ℕ} {n m : ℕ} {s t heads list turned back colour cursor stack low order flags : List ℕ}
-    → CanWriteFlags area n m s t heads list turned back colour cursor stack low order flags → {heads′ list′ colour′ cursor′ stack′ low′ order′ : List ℕ} → length heads′ ≡ length heads
-    → length list′ ≡ length list → length colour′ ≡ length colour → length cursor′ ≡ length cursor → length stack′ ≡ length stack → length low′ ≡ length low
-    → length order′ ≡ length order → CanWriteFlags area n m s t heads′ list′ turned back colour′ cursor′ stack′ low′ order′ flags
-flags-again can a b c d e f g = record {
-  room = can .room;
-  nodes = can .nodes;
-  ask = record {
-    slots = can .ask .slots;
-    lists = record { rows = omega (arith, can .ask .lists .rows); room = omega (arith, can .ask .lists .room); short = omega (arith, can .ask .lists .short) };
-    others = can .ask .others;
-    scratch = record {
-      colours = omega (arith, can .ask .scratch .colours);
-      cursors = omega (arith, can .ask .scratch .cursors);
-      places = omega (arith, can .ask .scratch .places);
-      lows = omega (arith, can .ask .scratch .lows);
-      orders = omega (arith, can .ask .scratch .orders);
-    };
-    room = can .ask .room;
-  };
-}
+  pub flags-some : {l′ : List ℕ} (flags : List ℕ) {flags′ : List ℕ} → r ≡ true → n ≤ length flags → flags′ ≡ flagged edge n flags → l′ ≡ patch (laneAt n 10) (part 0 n flags′) l → FlagsWritten edge n l true l′
+  flags-some flags h b k q = record { says = sym h ∙ e; some = λ z. q ∙ ap (λ (u : List ℕ). patch (laneAt n 10) u l) (flags-part edge n flags b k); none = λ z. absurd (true≢false z) }

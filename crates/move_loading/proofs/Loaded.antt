@@ -25,9 +25,9 @@ use Rattle.move_area.specs.BodyLaws.{write-long, read-registered, read-counter,
 use Rattle.move_area.specs.Area.{encode}
 use Rattle.move_area.specs.Calls.{first}
 use Rattle.move_area.specs.NodeBodies.{Nodes, nodeBodies, stateOf, encode-nodes}
-use Rattle.move_consistency.specs.Filled.{Filled}
-use Rattle.move_consistency.specs.Graph.{Counted, counted-ends, counted-le, counted-flat, counted-edge, counted-cyclic}
-use Rattle.move_consistency.specs.Ranges.{bounds}
+use Rattle.move_slots.specs.Filled.{Filled}
+use Rattle.move_slots.specs.Counted.{Counted, counted-ends, counted-le, counted-flat, counted-edge, counted-cyclic}
+use Rattle.move_slots.specs.Slots.{bounds}
 use Rattle.move_loading.specs.Start.{startBodies}
 use Rattle.move_loading.specs.Steps.{GraphWritten, componentLane, CanWriteFlags, FlagsWritten, CanLoad}
 use Rattle.move_loading.proofs.Reading.{same-sets, room-is, startOf, start-sized, start-long, sets-are, nodes-are}
@@ -164,31 +164,24 @@ module _ (load : Load) (n : ℕ) (sets l : List ℕ) (r : Loadable-sets load n s
             ∙ whole (sym (ap (λ b. ind (not b)) (flag false h))) (is-tab (replicate n 0) n _ (length-replicate n 0) (λ x b. zeros n x ∙ sym (ap ind (acyclic-none edges n x (flag false h) b))))
 
 -- what the code's start and graph make
-module _ {load : Load} {n : ℕ} {sets area counts facade sources targets heads list turned back colour cursor stack low order flags : List ℕ}
-    (can : CanLoad load n sets area counts facade sources targets heads list turned back colour cursor stack low order flags) where
+module _ {load : Load} {n : ℕ} {sets area sources targets heads list : List ℕ} (can : CanLoad load n sets area sources targets heads list) where
   pub start-is : {l : List ℕ} → l ≡ write n (startBodies (load .A) n (entry-sets (bounds (load .A) (load .E)) sets) area) area → l ≡ write n (startOf load n sets area (can .loadable)) area
   start-is e = e ∙ ap (λ (X : List ℕ). write n (startBodies (load .A) n X area) area) (same-sets load sets)
 
-  pub flags-can : {l counts′ s t : List ℕ} {m : ℕ} {l′ : List ℕ} → l ≡ write n (startOf load n sets area (can .loadable)) area → GraphWritten load n l counts′ s t m l′
-      → length s ≡ length sources → length t ≡ length targets → CanWriteFlags l′ n m s t heads list turned back colour cursor stack low order flags
-  flags-can {l} {counts′} {s} {t} {m} {l′} e g a b =
+  pub flags-can : {l heads′ s t : List ℕ} {m : ℕ} {l′ : List ℕ} → l ≡ write n (startOf load n sets area (can .loadable)) area → GraphWritten load n l heads′ s t m l′
+      → length heads′ ≡ length heads → length s ≡ length sources → length t ≡ length targets → CanWriteFlags l′ n m s t heads′ list
+  flags-can {l} {heads′} {s} {t} {m} {l′} e g h a b =
       let q = counted load n sets area (can .loadable) l e g in
       let z = counted-le q in
       let y : length l′ ≡ length area = ap length (g .area) ∙ patch-long 0 _ _ ∙ patch-long (laneAt n 8) _ l ∙ start-long load n sets area (can .loadable) l e in
       record {
         room = omega (arith, can .loadable .loadable .sizes .area);
-        nodes = can .loadable .loadable .sizes .sets;
-        ask = record {
-          slots = record {
-            slots = omega (arith, can .loadable .loadable .sizes .entries, can .loadable .loadable .sizes .bits);
-            sources = omega (arith, can .room .sources-long);
-            targets = omega (arith, can .room .targets-long);
-            ends = counted-ends q;
-            small = omega (arith, can .loadable .loadable .sizes .sets);
-          };
-          lists = record { rows = can .room .lists .rows; room = omega (arith, can .room .lists .room); short = can .room .lists .short };
-          others = record { rows = can .room .others .rows; room = omega (arith, can .room .others .room); short = can .room .others .short };
-          scratch = can .room .scratch;
-          room = can .room .flags-long;
+        slots = record {
+          slots = omega (arith, can .loadable .loadable .sizes .entries, can .loadable .loadable .sizes .bits);
+          sources = omega (arith, can .sources-long);
+          targets = omega (arith, can .targets-long);
+          ends = counted-ends q;
+          nodes = can .loadable .loadable .sizes .sets;
         };
+        lists = record { rows = omega (arith, can .lists .rows); room = omega (arith, can .lists .room); short = can .lists .short };
       }

@@ -18,8 +18,8 @@ use Rattle.move_area.specs.Bodies.{laneAt, atomAt, Bodies, write, Sized}
 use Rattle.move_area.specs.BodyLaws.{write-long, read-registered, read-words, read-marks, read-nodes}
 use Rattle.move_area.specs.Area.{setsIn}
 use Rattle.move_area.specs.Checked.{nodesIn, Ranged}
-use Rattle.move_consistency.specs.Filled.{CanFillOwn}
-use Rattle.move_consistency.specs.Ranges.{bounds}
+use Rattle.move_slots.specs.Filled.{CanFillOwn}
+use Rattle.move_slots.specs.Slots.{bounds}
 use Rattle.move_loading.specs.Start.{startBodies, CanStart}
 use Rattle.move_loading.specs.Steps.{CanLoad}
 
@@ -89,8 +89,7 @@ module _ (load : Load) (n : ℕ) (sets l : List ℕ) (r : Loadable-sets load n s
         }
 
 -- what the steps ask
-module _ {load : Load} {n : ℕ} {sets area counts facade sources targets heads list turned back colour cursor stack low order flags : List ℕ}
-    (can : CanLoad load n sets area counts facade sources targets heads list turned back colour cursor stack low order flags) where
+module _ {load : Load} {n : ℕ} {sets area sources targets heads list : List ℕ} (can : CanLoad load n sets area sources targets heads list) where
   pub start-can : CanStart area (load .A) (load .E) n sets
   start-can = record {
     room = room-is load n sets area (can .loadable);
@@ -101,12 +100,15 @@ module _ {load : Load} {n : ℕ} {sets area counts facade sources targets heads 
     lent = eqb-true _ _ (can .loadable .loadable .lengths);
   }
 
-  pub graph-can : {l : List ℕ} → l ≡ write n (startOf load n sets area (can .loadable)) area → CanFillOwn load n l counts facade sources targets
+  pub ranged : {l : List ℕ} → l ≡ write n (startOf load n sets area (can .loadable)) area → Ranged load n l
+  ranged {l} e = start-ranged load n sets area (can .loadable) l e
+
+  pub graph-can : {l : List ℕ} → l ≡ write n (startOf load n sets area (can .loadable)) area → CanFillOwn load n l heads sources targets
   graph-can {l} e = record {
     loadable = subst (Loadable load n true) (sym (start-long load n sets area (can .loadable) l e)) (passes load n sets area (can .loadable));
-    ranged = start-ranged load n sets area (can .loadable) l e;
-    counts-long = can .room .counts-long;
-    facade-long = can .room .facade-long;
-    sources-long = can .room .sources-long;
-    targets-long = can .room .targets-long;
+    few = ranged e .few;
+    inside = ranged e .nodes;
+    counts-long = omega (arith, can .lists .rows);
+    sources-long = can .sources-long;
+    targets-long = can .targets-long;
   }

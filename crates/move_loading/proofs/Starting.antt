@@ -5,7 +5,7 @@ use Prim.Native.Nat.{ℕ, _+_, _*_, _≤_, _<_}
 use native.Mathlib.Omega.{arith}
 use native.Mathlib.Nat.{mul-le-mul-right}
 use lib.ListN.{length, getD, set, length-set, replicate}
-use Rattle.move_consistency.specs.Ranges.{bounds}
+use Rattle.move_slots.specs.Slots.{bounds}
 use Rattle.graphs.specs.Tab.{tab, tab-alike}
 use Rattle.graphs.specs.Square.{row-in}
 use Rattle.layout.specs.Patch.{patch, part, part-long, patch-set, patch-none, patch-same}

@@ -15,9 +15,9 @@ use Rattle.move_ledger.specs.LoadLaws.{Loadable-sets}
 use Rattle.move_area.specs.Bodies.{laneAt, atomAt}
 use Rattle.move_area.specs.Area.{setsIn}
 use Rattle.move_area.specs.Checked.{nodesIn}
-use Rattle.move_consistency.specs.Graph.{slotCount}
-use Rattle.move_consistency.specs.Filled.{Filled}
-use Rattle.graph_slots.specs.Asked.{Room, Scratch, CanAsk}
+use Rattle.move_slots.specs.Counted.{slotCount}
+use Rattle.move_slots.specs.Filled.{Filled}
+use Rattle.graph_slots.specs.Asked.{Slots, ListRoom}
 
 -- the slots and the atom counts of the placement that l names are worked out; l′ is l with the counts and the edges
 pub record GraphWritten (load : Load) (n : ℕ) (l counts sources targets : List ℕ) (m : ℕ) (l′ : List ℕ) : Type 0 where
@@ -29,11 +29,11 @@ pub record GraphWritten (load : Load) (n : ℕ) (l counts sources targets : List
 abbrev pub componentLane : (ℕ → ℕ → Bool) → ℕ → List ℕ
 componentLane edge n = tab (λ x. ind (only edge (below n) x)) n
 
--- m slots between n nodes, an area with the lanes, and room for the walks
-pub record CanWriteFlags (area : List ℕ) (n m : ℕ) (sources targets heads list turned back colour cursor stack low order flags : List ℕ) : Type 0 where
+-- m slots between n nodes, an area with the lanes, and room to group the slots
+pub record CanWriteFlags (area : List ℕ) (n m : ℕ) (sources targets heads list : List ℕ) : Type 0 where
   pub room : atomAt n ≤ length area
-  pub nodes : n ≤ 1024
-  pub ask : CanAsk sources targets m n heads list turned back colour cursor stack low order flags
+  pub slots : Slots sources targets m n
+  pub lists : ListRoom m n heads list
 
 -- r tells whether there is a cycle; l′ is l with the component where there is one, else with the acyclic flag
 pub record FlagsWritten (edge : ℕ → ℕ → Bool) (n : ℕ) (l : List ℕ) (r : Bool) (l′ : List ℕ) : Type 0 where
@@ -41,18 +41,9 @@ pub record FlagsWritten (edge : ℕ → ℕ → Bool) (n : ℕ) (l : List ℕ) (
   pub some : r ≡ true → l′ ≡ patch (laneAt n 10) (componentLane edge n) l
   pub none : r ≡ false → l′ ≡ set l (n * n + 2) 1
 
--- lists lent for n nodes, m slots and e entry bits
-pub record LoadRoom (n m e : ℕ) (counts facade sources targets heads list turned back colour cursor stack low order flags : List ℕ) : Type 0 where
-  pub counts-long : n ≤ length counts
-  pub facade-long : e ≤ length facade
-  pub sources-long : m ≤ length sources
-  pub targets-long : m ≤ length targets
-  pub lists : Room m n heads list
-  pub others : Room m n turned back
-  pub scratch : Scratch n colour cursor stack low order
-  pub flags-long : n ≤ length flags
-
--- no row from 1 to 8 fits, and the lists are long enough
-pub record CanLoad (load : Load) (n : ℕ) (sets area counts facade sources targets heads list turned back colour cursor stack low order flags : List ℕ) : Type 0 where
+-- no row from 1 to 8 fits, and the lists are long enough for n nodes and D + E slots
+pub record CanLoad (load : Load) (n : ℕ) (sets area sources targets heads list : List ℕ) : Type 0 where
   pub loadable : Loadable-sets load n sets (length area)
-  pub room : LoadRoom n (load .D + load .E) (load .E) counts facade sources targets heads list turned back colour cursor stack low order flags
+  pub sources-long : load .D + load .E ≤ length sources
+  pub targets-long : load .D + load .E ≤ length targets
+  pub lists : ListRoom (load .D + load .E) n heads list

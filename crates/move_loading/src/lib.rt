@@ -14,9 +14,9 @@ mod start;
 
 pub use local::load;
 
-// The load and the sets passed the rows 1 to 8. Writes the first state, each atom in a node of its own, and tells whether it is cyclic. All lists
-// from `counts` on are scratch.
-pub fn write_loaded(
+// The load and the sets passed the rows 1 to 8. Writes the first state, each atom in a node of its own, and tells whether it is cyclic. The slots stand
+// in `sources` and `targets`, grouped in `heads` and `list`; `heads` has the atom counts first.
+fn write_loaded(
     a: usize,
     d: usize,
     e: usize,
@@ -26,28 +26,17 @@ pub fn write_loaded(
     hosts: &[u32],
     sets: &[u64],
     area: &mut [u32],
-    counts: &mut [u32],
-    facade: &mut [u32],
     sources: &mut [u32],
     targets: &mut [u32],
     heads: &mut [u32],
     list: &mut [u32],
-    turned: &mut [u32],
-    back: &mut [u32],
-    colour: &mut [u32],
-    cursor: &mut [u32],
-    stack: &mut [u32],
-    low: &mut [u32],
-    order: &mut [u32],
-    flags: &mut [u32],
 ) -> bool
-    requires { ⌜ CanLoad (lent a d e (now starts) (now dependencies) (now hosts)) n (now sets) (now area) (now counts) (now facade) (now sources) (now targets) (now heads) (now list) (now turned) (now back) (now colour) (now cursor) (now stack) (now low) (now order) (now flags) ⌝ }
+    requires { ⌜ CanLoad (lent a d e (now starts) (now dependencies) (now hosts)) n (now sets) (now area) (now sources) (now targets) (now heads) (now list) ⌝ }
     ensures { λ r. ⌜ r ≡ cyclic (edge (lent a d e (now (starts .entry)) (now (dependencies .entry)) (now (hosts .entry))) (entry-sets (lent a d e (now (starts .entry)) (now (dependencies .entry)) (now (hosts .entry))) (now (sets .entry)))) (entry-sets (lent a d e (now (starts .entry)) (now (dependencies .entry)) (now (hosts .entry))) (now (sets .entry))) ⌝ }
     ensures { λ _. ⌜ now (area .exit) ≡ encode (lent a d e (now (starts .entry)) (now (dependencies .entry)) (now (hosts .entry))) n (first (lent a d e (now (starts .entry)) (now (dependencies .entry)) (now (hosts .entry))) n (now (sets .entry))) (now (area .entry)) ⌝ }
 {
     start::write_start(area, a, e, n, sets);
     let m = graph::write_graph(
-        area,
         a,
         d,
         e,
@@ -55,26 +44,10 @@ pub fn write_loaded(
         starts,
         dependencies,
         hosts,
-        counts,
-        facade,
+        area,
+        heads,
         sources,
         targets,
     );
-    flags::write_flags(
-        area,
-        n,
-        m,
-        sources,
-        targets,
-        heads,
-        list,
-        turned,
-        back,
-        colour,
-        cursor,
-        stack,
-        low,
-        order,
-        flags,
-    )
+    flags::write_flags(area, n, m, sources, targets, heads, list)
 }

@@ -25,20 +25,10 @@ fn load_large(
     ensures { λ r. ⌜ r ≡ cyclic (edge (lent a d e (now (starts .entry)) (now (dependencies .entry)) (now (hosts .entry))) (entry-sets (lent a d e (now (starts .entry)) (now (dependencies .entry)) (now (hosts .entry))) (now (sets .entry)))) (entry-sets (lent a d e (now (starts .entry)) (now (dependencies .entry)) (now (hosts .entry))) (now (sets .entry))) ⌝ }
     ensures { λ _. ⌜ now (area .exit) ≡ encode (lent a d e (now (starts .entry)) (now (dependencies .entry)) (now (hosts .entry))) n (first (lent a d e (now (starts .entry)) (now (dependencies .entry)) (now (hosts .entry))) n (now (sets .entry))) (now (area .entry)) ⌝ }
 {
-    let mut counts = [0u32; 1024];
-    let mut facade = [0u32; 256];
     let mut sources = [0u32; 8448];
     let mut targets = [0u32; 8448];
     let mut heads = [0u32; 1025];
     let mut list = [0u32; 8448];
-    let mut turned = [0u32; 1025];
-    let mut back = [0u32; 8448];
-    let mut colour = [0u32; 1024];
-    let mut cursor = [0u32; 1024];
-    let mut stack = [0u32; 1024];
-    let mut low = [0u32; 1024];
-    let mut order = [0u32; 1024];
-    let mut flags = [0u32; 1024];
     super::write_loaded(
         a,
         d,
@@ -49,20 +39,10 @@ fn load_large(
         hosts,
         sets,
         area,
-        &mut counts,
-        &mut facade,
         &mut sources,
         &mut targets,
         &mut heads,
         &mut list,
-        &mut turned,
-        &mut back,
-        &mut colour,
-        &mut cursor,
-        &mut stack,
-        &mut low,
-        &mut order,
-        &mut flags,
     )
 }
 
@@ -82,20 +62,10 @@ fn load_small(
     ensures { λ r. ⌜ r ≡ cyclic (edge (lent a d e (now (starts .entry)) (now (dependencies .entry)) (now (hosts .entry))) (entry-sets (lent a d e (now (starts .entry)) (now (dependencies .entry)) (now (hosts .entry))) (now (sets .entry)))) (entry-sets (lent a d e (now (starts .entry)) (now (dependencies .entry)) (now (hosts .entry))) (now (sets .entry))) ⌝ }
     ensures { λ _. ⌜ now (area .exit) ≡ encode (lent a d e (now (starts .entry)) (now (dependencies .entry)) (now (hosts .entry))) n (first (lent a d e (now (starts .entry)) (now (dependencies .entry)) (now (hosts .entry))) n (now (sets .entry))) (now (area .entry)) ⌝ }
 {
-    let mut counts = [0u32; 128];
-    let mut facade = [0u32; 256];
     let mut sources = [0u32; 1024];
     let mut targets = [0u32; 1024];
     let mut heads = [0u32; 129];
     let mut list = [0u32; 1024];
-    let mut turned = [0u32; 129];
-    let mut back = [0u32; 1024];
-    let mut colour = [0u32; 128];
-    let mut cursor = [0u32; 128];
-    let mut stack = [0u32; 128];
-    let mut low = [0u32; 128];
-    let mut order = [0u32; 128];
-    let mut flags = [0u32; 128];
     super::write_loaded(
         a,
         d,
@@ -106,20 +76,10 @@ fn load_small(
         hosts,
         sets,
         area,
-        &mut counts,
-        &mut facade,
         &mut sources,
         &mut targets,
         &mut heads,
         &mut list,
-        &mut turned,
-        &mut back,
-        &mut colour,
-        &mut cursor,
-        &mut stack,
-        &mut low,
-        &mut order,
-        &mut flags,
     )
 }
 
@@ -139,10 +99,8 @@ pub fn load(
     ensures { λ r. ⌜ r ≡ cyclic (edge (lent a d e (now (starts .entry)) (now (dependencies .entry)) (now (hosts .entry))) (entry-sets (lent a d e (now (starts .entry)) (now (dependencies .entry)) (now (hosts .entry))) (now (sets .entry)))) (entry-sets (lent a d e (now (starts .entry)) (now (dependencies .entry)) (now (hosts .entry))) (now (sets .entry))) ⌝ }
     ensures { λ _. ⌜ now (area .exit) ≡ encode (lent a d e (now (starts .entry)) (now (dependencies .entry)) (now (hosts .entry))) n (first (lent a d e (now (starts .entry)) (now (dependencies .entry)) (now (hosts .entry))) n (now (sets .entry))) (now (area .entry)) ⌝ }
 {
-    if n <= 128 {
-        if d <= 768 {
-            return load_small(a, d, e, n, starts, dependencies, hosts, sets, area);
-        }
+    if move_slots::is_small(n, d) {
+        return load_small(a, d, e, n, starts, dependencies, hosts, sets, area);
     }
     load_large(a, d, e, n, starts, dependencies, hosts, sets, area)
 }

@@ -3,7 +3,7 @@ ghost use mathlib.Core.Path.{_≡_};
 ghost use mathlib.Core.List.{[], _∷_};
 ghost use Prim.Native.Nat.{ℕ, _+_, _*_, _≤_, _<_};
 ghost use lib.ListN.{length};
-ghost use Rattle.move_consistency.specs.Ranges.{bounds};
+ghost use Rattle.move_slots.specs.Slots.{bounds};
 ghost use Rattle.graphs.specs.Tab.{tab};
 ghost use Rattle.layout.specs.Patch.{patch};
 ghost use Rattle.layout.specs.Fields.{lay};

@@ -1,4 +1,4 @@
--- What row 9 leaves to a later call, and the rows 1 to 6 and 9 to the questions about all edges. Assumes nothing.
+-- What the rows 1 to 6 and 9 leave to the questions about all edges. Assumes nothing.
 use Prim.Native.Nat.{ℕ, _+_, _*_, _≤_}
 use native.Mathlib.Omega.{arith}
 use mathlib.Core.Path.{_≡_, refl, sym, subst, _∙_}
@@ -8,80 +8,46 @@ use lib.ListN.{length, getD}
 use Rattle.move_ledger.specs.Graph.{Load}
 use Rattle.move_ledger.specs.Loading.{refusal}
 use Rattle.move_ledger.specs.LoadLaws.{first-row-none}
-use Rattle.move_slots.specs.SlotLaws.{Slotted}
-use Rattle.move_area.specs.Area.{consistent, setsIn}
-use Rattle.move_area.specs.Checked.{nodesIn}
-use Rattle.move_consistency.specs.Ready.{Told}
+use Rattle.move_consistency.specs.Ready.{CanCheck, Told}
 use Rattle.move_questions.specs.Answers.{Listable}
 use Rattle.move_questions.specs.Steps.{CanSum}
 use Rattle.move_rows.specs.Later.{later, later-first, later-none, later-nine}
-
--- no row from 1 to 6 fits, and there is room for the slots and for a number of each node
-pub record CanTell (load : Load) (n : ℕ) (area s t degrees order : List ℕ) : Type 0 where
-  pub passes : refusal load n (length area) ≡ 0
-  pub sources-long : load .D + load .E ≤ length s
-  pub targets-long : load .D + load .E ≤ length t
-  pub degrees-long : n ≤ length degrees
-  pub order-long : n ≤ length order
-
--- row 9's answer; where the area is consistent, the lists have its slots, and its edges can be listed by `degrees` and `order`
-pub record Sane (load : Load) (n : ℕ) (area s t degrees order : List ℕ) (r : Bool) : Type 0 where
-  pub says : r ≡ consistent load n area
-  pub slots : r ≡ true → Slotted load (nodesIn load n area) (setsIn n area) s t
-  pub listable : r ≡ true → Listable load n area (getD area (n * n) 0) order degrees
 
 -- room for a number of each node, of as many as there can be
 pub record NodeLists (degrees order : List ℕ) : Type 0 where
   pub degrees-long : 1024 ≤ length degrees
   pub order-long : 1024 ≤ length order
 
--- no row from 1 to 6 fits, so the sizes are within the limits
-pub record CanList (load : Load) (n : ℕ) (area degrees order : List ℕ) : Type 0 where
-  pub passes : refusal load n (length area) ≡ 0
-  pub nodes : n ≤ 1024
-  pub entries : load .D ≤ 8192
-  pub bits : load .E ≤ 256
-  pub lists : NodeLists degrees order
-
--- row 9's answer without the slots
-pub record ListTold (load : Load) (n : ℕ) (area degrees order : List ℕ) (r : Bool) : Type 0 where
-  pub says : r ≡ consistent load n area
-  pub listable : r ≡ true → Listable load n area (getD area (n * n) 0) order degrees
-
--- the same for all these rows: the first that fits
+-- the first row that fits; where none does, the edges can be listed by `degrees` and `order`
 pub record RowTold (load : Load) (n : ℕ) (area degrees order : List ℕ) (q : ℕ) : Type 0 where
   pub row : q ≡ later load n area
   pub listable : q ≡ 0 → Listable load n area (getD area (n * n) 0) order degrees
 
-pub can-list : {load : Load} {n : ℕ} {area degrees order : List ℕ} → refusal load n (length area) ≡ 0 → NodeLists degrees order → CanList load n area degrees order
-can-list {load} {n} {area} h l =
+pub can-check : {load : Load} {n : ℕ} {area degrees order : List ℕ} → refusal load n (length area) ≡ 0 → NodeLists degrees order → CanCheck load n area degrees order
+can-check {load} {n} {area} h l =
     let s = first-row-none load n true (length area) h .sizes in
-    record { passes = h; nodes = s .sets; entries = s .entries; bits = s .bits; lists = l }
-
-pub sane : {load : Load} {n : ℕ} {area counts s t degrees order : List ℕ} {r : Bool} → Told load n area counts s t degrees order r → n ≤ length degrees → n ≤ length order
-    → Sane load n area s t degrees order r
-sane t d o =
-    record {
-      says = t .says;
-      slots = λ e. t .ready e .filled .slots;
-      listable = λ e.
-          let y = t .ready e in
-          record {
-            checked = record { loadable = y .loadable; ranged = y .ranged; worked = y .worked; sets = refl };
-            order-long = omega (arith, y .ranged .few);
-            degrees-long = d;
-            ordered = y .ordered;
-            degree-at = y .degree-at;
-          };
-    }
+    record { passes = h; degrees-long = omega (arith, s .sets, l .degrees-long); order-long = omega (arith, s .sets, l .order-long) }
 
 module _ {load : Load} {n : ℕ} {area degrees order : List ℕ} where
   pub row-first : {q : ℕ} → q ≡ refusal load n (length area) → (q ≡ 0 → ⊥) → RowTold load n area degrees order q
   row-first e h = record { row = later-first load n area _ e h; listable = λ z. absurd (h z) }
 
-  module _ {r : Bool} (passes : refusal load n (length area) ≡ 0) (t : ListTold load n area degrees order r) where
-    pub row-none : r ≡ true → RowTold load n area degrees order 0
-    row-none e = record { row = later-none load n area passes (sym (t .says) ∙ e); listable = λ z. t .listable e }
+  module _ {r : Bool} (passes : refusal load n (length area) ≡ 0) (t : Told load n area degrees order r) where
+    pub row-none : 1024 ≤ length degrees → 1024 ≤ length order → r ≡ true → RowTold load n area degrees order 0
+    row-none d o e =
+        let y = t .ready e in
+        let z = y .loadable .sizes .sets in
+        record {
+          row = later-none load n area passes (sym (t .says) ∙ e);
+          listable = λ z.
+              record {
+                checked = record { loadable = y .loadable; ranged = y .ranged; worked = y .worked; sets = refl };
+                order-long = omega (arith, y .ranged .few);
+                degrees-long = omega arith;
+                ordered = y .ordered;
+                degree-at = y .degree-at;
+              };
+        }
 
     pub row-nine : r ≡ false → RowTold load n area degrees order 9
     row-nine e = record { row = later-nine load n area passes (sym (t .says) ∙ e); listable = λ z. absurd (omega arith) }

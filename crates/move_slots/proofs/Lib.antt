@@ -1,5 +1,5 @@
--- The laws that the proofs of `placement` cite. Assumes nothing.
-pub mod Deciding
+-- The laws that the proofs of `move_slots` cite. Assumes nothing.
 pub mod Writing
 pub mod Slotting
 pub mod Fronting
+pub mod Filling

@@ -13,6 +13,10 @@ use Rattle.move_ledger.specs.Nodes.{face-source, face-target}
 abbrev pub spans : ℕ → ℕ → List ℕ → Load
 spans a d starts = lent a d 0 starts [] []
 
+-- a load of atoms and entry bits alone: the ranges and the entry sets ask no more
+abbrev pub bounds : ℕ → ℕ → Load
+bounds a e = lent a 0 e [] [] []
+
 -- how many of a atoms node x has
 abbrev pub atoms : List ℕ → ℕ → ℕ → ℕ
 atoms nodes a x = count (λ i. eqb (at nodes i) x) a

@@ -1,4 +1,4 @@
--- The definitions that the contracts of `moving` cite, and their laws. Assumes nothing.
+-- The definitions that the contracts of `move_try` cite, and their laws. Assumes nothing.
 pub mod Stands
 pub mod Areas
 pub mod Changes

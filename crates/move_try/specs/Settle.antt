@@ -1,5 +1,5 @@
 -- Step 3 with the target registered: what is asked, and that the area holds the next state. Assumes nothing.
-use mathlib.Core.Path.{_≡_, refl, sym, ap, _∙_}
+use mathlib.Core.Path.{_≡_, refl, sym, ap, subst, _∙_}
 use mathlib.Core.Bool.{Bool, true, false, not, cond}
 use mathlib.Core.List.{List}
 use Prim.Native.Nat.{ℕ, _+_, _*_, _≤_, _<_}
@@ -7,7 +7,7 @@ use native.Mathlib.Omega.{arith}
 use native.Mathlib.Nat.{zero-add}
 use lib.Dec.{eqb}
 use lib.ListN.{length, getD, set}
-use Rattle.graph_slots.specs.Asked.{Room, Scratch}
+use Rattle.graph_slots.specs.Asked.{ListRoom}
 use Rattle.graphs.specs.Count.{ind}
 use Rattle.graphs.specs.Lists.{below, has-at}
 use Rattle.graphs.specs.Tab.{tab, tab-at, is-tab, tab-alike}
@@ -29,8 +29,8 @@ use Rattle.move_area.specs.Area.{setsIn}
 use Rattle.move_area.specs.Checked.{nodesIn, nodesState}
 use Rattle.move_area.specs.NodeBodies.{Nodes}
 use Rattle.move_area.specs.Calls.{next}
-use Rattle.move_consistency.specs.Filled.{Filled}
-use Rattle.move_try.specs.Stands.{Stands, stands-long, registered-at, counter-at, acyclic-at, edge-at, mark-at, marks-part}
+use Rattle.move_slots.specs.Filled.{CanFillOwn, Filled}
+use Rattle.move_try.specs.Stands.{Stands, stands-long, registered-at, counter-at, acyclic-at, edge-at, sets-in, mark-at, node-at, marks-part, nodes-part}
 use Rattle.move_try.specs.Areas.{counterIn, raised, committed}
 use Rattle.move_try.specs.Changes.{with-marks, with-node, with-raised, stands-marks, stands-raised, raised-fresh, stands-committed}
 use Rattle.move_try.specs.Outcome.{Trial, with-test, walk-marks, test-walk}
@@ -101,23 +101,20 @@ module _ {load : Load} {N : ℕ} {s : Nodes} {l₀ l : List ℕ} (v : Stands loa
       go true h = refl
       go false h = sym (rw same at (test-walk trial h))
 
--- the area holds the state that it names, the target is a registered node, and the slots are those of the present placement
-pub record CanSettle (load : Load) (n : ℕ) (area : List ℕ) (atom to : ℕ) (sources targets : List ℕ) : Type 0 where
+-- the area holds the state that it names, and the target is a registered node
+pub record CanSettle (load : Load) (n : ℕ) (area : List ℕ) (atom to : ℕ) : Type 0 where
   pub loadable : Loadable load n true (length area)
   pub stands : Stands load n (nodesState load n area) area area
   pub there : atom < load .A
   pub node : to < length (setsIn n area)
-  pub slots : Slotted load (nodesIn load n area) (setsIn n area) sources targets
+
+-- room for a trial: atom counts, and slots of the moved placement and of the present one
+pub record SettleRoom (load : Load) (n : ℕ) (counts sources targets heads list spare : List ℕ) : Type 0 where
+  pub counts-long : n ≤ length counts
   pub sources-long : load .D + load .E ≤ length sources
   pub targets-long : load .D + load .E ≤ length targets
-
--- room for a trial: counts, slots, and the lists of its test
-pub record SettleRoom (load : Load) (n : ℕ) (counts s t starts list colour cursor stack low order : List ℕ) : Type 0 where
-  pub counts-long : n ≤ length counts
-  pub sources-long : load .D + load .E ≤ length s
-  pub targets-long : load .D + load .E ≤ length t
-  pub lists : Room (load .D + load .E) n starts list
-  pub scratch : Scratch n colour cursor stack low order
+  pub lists : ListRoom (load .D + load .E) n heads list
+  pub spare-long : load .D + load .E ≤ length spare
 
 -- the graph with the atom in its new node, and the present one
 abbrev pub movedEdge : Load → ℕ → List ℕ → ℕ → ℕ → ℕ → ℕ → Bool
@@ -141,7 +138,7 @@ slotted-matrix : {load : Load} {nodes sets s t : List ℕ} → Slotted load node
 unfolding matrix
 slotted-matrix v n = tab-alike _ _ (n * n) (λ i h. slotted-flat v n i)
 
-module _ {load : Load} {n : ℕ} {area : List ℕ} {atom to : ℕ} {sources targets : List ℕ} (can : CanSettle load n area atom to sources targets) where
+module _ {load : Load} {n : ℕ} {area : List ℕ} {atom to : ℕ} (can : CanSettle load n area atom to) where
   some : 0 < n
   some = omega (arith, can .loadable .sizes .wide, can .there)
 
@@ -185,7 +182,7 @@ module _ {load : Load} {n : ℕ} {area : List ℕ} {atom to : ℕ} {sources targ
                 sources = b;
                 targets = c;
                 ends = ends;
-                small = omega (arith, can .stands .small);
+                nodes = can .stands .small;
               };
           node = within;
           room = room;
@@ -202,29 +199,47 @@ module _ {load : Load} {n : ℕ} {area : List ℕ} {atom to : ℕ} {sources targ
       pub settle-rejected : r ≡ true → Settled load n area atom to false l
       settle-rejected h = record { says = sym answer ∙ h; stands = after }
 
-      pub settle-commit : r ≡ false → n ≤ length counts → load .D + load .E ≤ length s → load .D + load .E ≤ length t → CanCommit l n atom to sources targets s t (load .D + load .E) counts
-      settle-commit h k b c =
+      -- the present placement's slots may be filled: the test left nodes and sets as they were
+      pub settle-fill : {counts′ u v : List ℕ} → n ≤ length counts′ → load .D + load .E ≤ length u → load .D + load .E ≤ length v → CanFillOwn load n l counts′ u v
+      settle-fill a b c =
+          let k = registered-at after in
           record {
-            follow =
-                record {
-                  both =
-                      record {
-                        sources = can .sources-long;
-                        targets = can .targets-long;
-                        new-sources = b;
-                        new-targets = c;
-                        ends = slotted-ends (can .slots) (ends-nodes (can .stands .order) (can .stands .placing) n (can .stands .few) some);
-                        new-ends = ends;
-                        few = omega (arith, can .loadable .sizes .entries, can .loadable .sizes .bits);
-                      };
-                  room = omega (arith, room, stands-long after);
-                  holds = record { at = λ i z. edge-at after i z ∙ sym (slotted-flat (can .slots) n i) };
-                };
-            rows = can .stands .small;
-            node = within;
-            place = omega (arith, can .stands .room, stands-long after, can .there);
-            tallies = k;
+            loadable = subst (Loadable load n true) (sym (stands-long after)) (can .loadable);
+            few = omega (arith, can .stands .few);
+            inside = λ i h. omega (arith, node-at after i h, can .stands .placing .inside i h);
+            counts-long = a;
+            sources-long = b;
+            targets-long = c;
           }
+
+      module _ {counts′ u v : List ℕ} (o : Filled load n (nodesIn load n l) (setsIn n l) counts′ u v) where
+        old : Slotted load (nodesIn load n area) (setsIn n area) u v
+        old = rw (nodes-part after, sets-in after) at (o .slots)
+
+        pub settle-commit : n ≤ length counts → load .D + load .E ≤ length s → load .D + load .E ≤ length t → load .D + load .E ≤ length u → load .D + load .E ≤ length v
+            → CanCommit l n atom to u v s t (load .D + load .E) counts
+        settle-commit k b c y z =
+            record {
+              follow =
+                  record {
+                    both =
+                        record {
+                          sources = y;
+                          targets = z;
+                          new-sources = b;
+                          new-targets = c;
+                          ends = slotted-ends old (ends-nodes (can .stands .order) (can .stands .placing) n (can .stands .few) some);
+                          new-ends = ends;
+                          few = omega (arith, can .loadable .sizes .entries, can .loadable .sizes .bits);
+                        };
+                    room = omega (arith, room, stands-long after);
+                    holds = record { at = λ i w. edge-at after i w ∙ sym (slotted-flat old n i) };
+                  };
+              rows = can .stands .small;
+              node = within;
+              place = omega (arith, can .stands .room, stands-long after, can .there);
+              tallies = k;
+            }
 
       pub settle-accepted : r ≡ false → {l′ : List ℕ} → l′ ≡ committed n (matrix s t n (load .D + load .E)) (part 0 n counts) atom to l → Settled load n area atom to true l′
       settle-accepted h e =

@@ -8,14 +8,13 @@ use lib.Dec.{eqb}
 use borrow.Author.Tests.{eq-eqb, ne-eqb}
 use lib.ListN.{length, getD, set, replicate, length-set, length-replicate, getD-replicate}
 use lib.Seq.{getD-set-other}
-use Rattle.graph_slots.specs.Asked.{Slots}
+use Rattle.graph_slots.specs.Asked.{Slots, SlotLists, CanMark}
 use Rattle.graphs.specs.Lists.{below}
 use Rattle.graphs.specs.Tab.{tab-length, tab-at}
 use Rattle.graphs.specs.Walk.{via, cyclic}
 use Rattle.graphs.specs.Slots.{slotEdge}
 use Rattle.graph_neighbours.specs.Lists.{Graph}
 use Rattle.graph_walks.specs.Marks.{marking, marked}
-use Rattle.graph_walks.specs.Spread.{CanReach}
 use Rattle.layout.specs.Patch.{patch, part, part-long, part-at, patch-long, patch-in}
 use Rattle.layout.specs.Lent.{put-patch}
 use borrow.Rule.Slice.PartMut.{midOf, putMid}
@@ -28,15 +27,10 @@ pub record Fresh (area : List ℕ) (n counter : ℕ) : Type 0 where
   pub room : atomAt n ≤ length area
   pub below : (x : ℕ) → x < n → getD area (laneAt n 9 + x) 0 < counter
 
-pub record CanMark (area : List ℕ) (n counter y : ℕ) (starts list stack : List ℕ) : Type 0 where
+pub record CanMarkLane (area : List ℕ) (n counter y : ℕ) (heads list : List ℕ) : Type 0 where
   pub node : y < n
-  pub places : n ≤ length stack
-  pub graph : Graph starts list n
-  pub fresh : Fresh area n counter
-
-pub record CanReachItself (area : List ℕ) (n counter y : ℕ) (s t : List ℕ) (m : ℕ) : Type 0 where
-  pub ask : Slots s t m n
-  pub node : y < n
+  pub nodes : n ≤ 1024
+  pub graph : Graph heads list n
   pub fresh : Fresh area n counter
 
 -- no mark is above the counter
@@ -105,19 +99,19 @@ raised-below {area} {n} can = record { room = rw (raised-long n area) (can .room
     go false x h = rw (getD-set-other area (n * n + 1) (laneAt n 9 + x) (counterIn n area + 1) 0 (omega arith)) (omega (arith, can .low x h))
 
 -- the marks lane is lent to the walk, and comes back
-module _ {area : List ℕ} {n counter y : ℕ} {starts list stack : List ℕ} (can : CanMark area n counter y starts list stack) where
+module _ {area : List ℕ} {n counter y : ℕ} {heads list : List ℕ} (can : CanMarkLane area n counter y heads list) where
   abbrev at : ℕ
   at = laneAt n 9
 
   lent : midOf at (at + n - at) area ≡ part at n area
   lent = marks-lent n area (can .fresh .room)
 
-  pub mark-can : CanReach starts list n counter y (midOf at (at + n - at) area) stack
+  pub mark-can : CanMark heads list n counter y (midOf at (at + n - at) area)
   mark-can =
       record {
         graph = can .graph;
+        nodes = can .nodes;
         cells = omega (arith, ap length lent, part-long at n area);
-        room = can .places;
         start = can .node;
         fresh = λ x h. rw (lent, part-at at n area x h) (can .fresh .below x h);
       }
@@ -129,12 +123,9 @@ module _ {area : List ℕ} {n counter y : ℕ} {starts list stack : List ℕ} (c
       let long : length m ≡ at + n - at = omega (arith, ap length r, marked-long e n counter y (part at n area), part-long at n area) in
       put-patch at (at + n) area m (omega arith) (omega (arith, can .fresh .room)) long ∙ ap (λ (u : List ℕ). patch at u area) r
 
--- the walk over the grouped slots is the walk over the slots
-pub itself-done : {area : List ℕ} {n counter y : ℕ} {s t : List ℕ} {m : ℕ} → CanReachItself area n counter y s t m → {e : ℕ → ℕ → Bool} → e ≡ slotEdge s t m → {l : List ℕ}
-    → l ≡ walk-area e n counter y area → (eqb (getD l (laneAt n 9 + y) 0) counter ≡ via (slotEdge s t m) (below n) y y) × (l ≡ walk-area (slotEdge s t m) n counter y area)
-itself-done {area} {n} {counter} {y} {s} {t} {m} can {e} q {l} h =
-    let r : l ≡ walk-area (slotEdge s t m) n counter y area = h ∙ ap (λ (f : ℕ → ℕ → Bool). walk-area f n counter y area) q in
-    (ap (λ (u : List ℕ). eqb (getD u (laneAt n 9 + y) 0) counter) r ∙ walk-own (slotEdge s t m) n counter y area (can .node) (can .fresh), r)
+  -- what the code reads
+  pub itself-done : (e : ℕ → ℕ → Bool) {l : List ℕ} → l ≡ walk-area e n counter y area → eqb (getD l (laneAt n 9 + y) 0) counter ≡ via e (below n) y y
+  itself-done e h = ap (λ (u : List ℕ). eqb (getD u (laneAt n 9 + y) 0) counter) h ∙ walk-own e n counter y area (can .node) (can .fresh)
 
 -- the two ways of the test
 pub search-done : (e : ℕ → ℕ → Bool) (n y : ℕ) (l : List ℕ) {r : Bool} → getD l (n * n + 2) 0 ≡ 0 → r ≡ cyclic e (below n) → (r ≡ closes e n y l) × (l ≡ tested e n y l)
@@ -146,5 +137,6 @@ pub walk-done : (e : ℕ → ℕ → Bool) (n y : ℕ) (l : List ℕ) {l₁ l′
 unfolding closes tested
 walk-done e n y l h c u q = rw (ne-eqb _ _ h) (q .0, q .1 ∙ ap₂ (λ k (v : List ℕ). walk-area e n k y v) c u)
 
-pub walk-can : {area : List ℕ} {n y : ℕ} {s t : List ℕ} {m : ℕ} → CanTest area n y s t m → {l₁ : List ℕ} {c : ℕ} → c ≡ next (counterIn n area) → l₁ ≡ raised n area → CanReachItself l₁ n c y s t m
-walk-can can c u = record { ask = can .ask; node = can .node; fresh = rw (c, u) (raised-below can) }
+pub walk-can : {area : List ℕ} {n y : ℕ} {s t : List ℕ} {m : ℕ} → CanTest area n y s t m → {heads list : List ℕ} → SlotLists s t m n heads list → {l₁ : List ℕ} {c : ℕ}
+    → c ≡ next (counterIn n area) → l₁ ≡ raised n area → CanMarkLane l₁ n c y heads list
+walk-can can v c u = record { node = can .node; nodes = can .ask .nodes; graph = v .graph; fresh = rw (c, u) (raised-below can) }

@@ -15,7 +15,7 @@ use Rattle.move_ledger.specs.LoadLaws.{Loadable}
 use Rattle.move_area.specs.Bodies.{atomAt}
 use Rattle.move_area.specs.Area.{setsIn}
 use Rattle.move_area.specs.Checked.{nodesIn}
-use Rattle.move_consistency.specs.Filled.{CanFill, Filled}
+use Rattle.move_slots.specs.Filled.{CanFill, Filled}
 
 pub record CanPlace (area : List ℕ) (from a atom to : ℕ) (moved : List ℕ) : Type 0 where
   pub inside : from + a ≤ length area
@@ -62,8 +62,8 @@ module _ {load : Load} {n : ℕ} {area : List ℕ} {atom to : ℕ} {counts sourc
   nodes-long : length (nodesIn load n area) ≡ load .A
   nodes-long = part-long (atomAt n) (load .A) area
 
-  pub fill-can : {facade : List ℕ} → length facade ≡ 256 → CanFill load n (take (load .A - 0) moved) area (getD area (n * n) 0) counts facade sources targets
-  fill-can room =
+  pub fill-can : CanFill load n (take (load .A - 0) moved) area (getD area (n * n) 0) counts sources targets
+  fill-can =
       record {
         loadable = can .loadable;
         many = refl;
@@ -71,7 +71,6 @@ module _ {load : Load} {n : ℕ} {area : List ℕ} {atom to : ℕ} {counts sourc
         atoms = omega (arith, ap length fill-nodes, length-set (nodesIn load n area) atom to, nodes-long);
         inside = λ i b. rw fill-nodes (go i b (ℕ-discrete i atom));
         counts-long = can .counts-long;
-        facade-long = omega (arith, can .loadable .sizes .bits);
         sources-long = can .sources-long;
         targets-long = can .targets-long;
       }

@@ -16,7 +16,6 @@ use Rattle.move_ledger.specs.Answer.{Answer, refused, accepted, rejected}
 use Rattle.move_ledger.specs.Ledger.{register, step1, full, move}
 use Rattle.move_ledger.specs.LoadLaws.{Loadable}
 use Rattle.move_ledger.specs.Nodes.{placed, node-edge}
-use Rattle.move_slots.specs.SlotLaws.{Slotted}
 use Rattle.set_order.specs.Order.{laneSet, First}
 use Rattle.set_order.specs.Steps.{CanFind}
 use Rattle.move_area.specs.Bodies.{laneAt, atomAt, write}
@@ -43,16 +42,13 @@ answerOf Accepted = accepted
 answerOf Rejected = rejected
 answerOf Full = refused 13
 
--- the rows 1 to 6 and 9 to 12 don't fit, and the slots are those of the present placement
-pub record CanTry (load : Load) (n : ℕ) (area : List ℕ) (atom T : ℕ) (s t : List ℕ) : Type 0 where
+-- the rows 1 to 6 and 9 to 12 don't fit
+pub record CanTry (load : Load) (n : ℕ) (area : List ℕ) (atom T : ℕ) : Type 0 where
   pub loadable : Loadable load n true (length area)
   pub sane : consistent load n area ≡ true
   pub there : atom < load .A
   pub range : T < 2 ^ load .E
   pub other : eqb T (at (decode load n area .ledger .place) atom) ≡ false
-  pub slots : Slotted load (nodesIn load n area) (setsIn n area) s t
-  pub sources-long : load .D + load .E ≤ length s
-  pub targets-long : load .D + load .E ≤ length t
 
 -- the ledger's answer to a move of the atom to any lent set that is T, and the area that holds the next state
 pub record Answers (load : Load) (n : ℕ) (area : List ℕ) (atom T : ℕ) (r : Answer) (l : List ℕ) : Type 0 where
@@ -96,7 +92,7 @@ module _ {load : Load} {N : ℕ} {s : Nodes} {l₀ l : List ℕ} (v : Stands loa
         is = v′ .is ∙ ap (write N (nodeBodies load N s′)) (v .is) ∙ write-over N (load .A) (nodeBodies load N s) (nodeBodies load N s′) (stands-sized v) (stands-sized v′) more l₀;
       }
 
-module _ {load : Load} {n : ℕ} {area : List ℕ} {atom T : ℕ} {s t : List ℕ} (can : CanTry load n area atom T s t) where
+module _ {load : Load} {n : ℕ} {area : List ℕ} {atom T : ℕ} (can : CanTry load n area atom T) where
   abbrev st : Nodes
   st = nodesState load n area
 
@@ -185,24 +181,14 @@ module _ {load : Load} {n : ℕ} {area : List ℕ} {atom T : ℕ} {s t : List �
         named : nodesState load n l₁ ≡ with-target st T
         named = stands-named target
 
-        pub try-settle : CanSettle load n l₁ atom y s t
+        pub try-settle : CanSettle load n l₁ atom y
         try-settle =
             record {
               loadable = rw (stands-long target) (can .loadable);
               stands = stands-own target;
               there = can .there;
               node = subst (λ z. y < length (z .sets)) (sym named) (node .0);
-              slots = subst (λ z. Slotted load (z .nodes) (z .sets) s t) (sym named) slots;
-              sources-long = can .sources-long;
-              targets-long = can .targets-long;
             }
-          where
-            slots : Slotted load (nodesIn load n area) (register T (setsIn n area)) s t
-            slots =
-                record {
-                  source-at = λ k h. can .slots .source-at k h ∙ ap (λ (u : List ℕ). getD u k 0) (sym (sources-register (try-stands .placing) T));
-                  target-at = λ k h. can .slots .target-at k h ∙ ap (λ (u : List ℕ). getD u k 0) (sym (targets-register (try-stands .placing) T));
-                }
 
         -- the graph before is the same with the target registered
         present : cyclic (node-edge load (nodesIn load n area) (register T (setsIn n area))) (below n) ≡ cyclic (node-edge load (nodesIn load n area) (setsIn n area)) (below n)

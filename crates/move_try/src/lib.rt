@@ -16,8 +16,7 @@ mod test;
 mod trial;
 mod writes;
 
-// A move of the atom to the target set. The area is consistent, rows 10 to 12 don't fit, and `sources` and `targets` are the
-// slots of its placement.
+// A move of the atom to the target set. The area is consistent, and rows 10 to 12 don't fit.
 pub fn try_checked(
     a: usize,
     d: usize,
@@ -29,10 +28,8 @@ pub fn try_checked(
     area: &mut [u32],
     atom: usize,
     target: entry_set::EntrySet,
-    sources: &[u32],
-    targets: &[u32],
 ) -> Tried
-    requires { ⌜ CanTry (lent a d e (now starts) (now dependencies) (now hosts)) n (now area) atom (number target) (now sources) (now targets) ⌝ }
+    requires { ⌜ CanTry (lent a d e (now starts) (now dependencies) (now hosts)) n (now area) atom (number target) ⌝ }
     ensures { λ r. ⌜ Answers (lent a d e (now (starts .entry)) (now (dependencies .entry)) (now (hosts .entry))) n (now (area .entry)) atom (number target) (answerOf r) (now (area .exit)) ⌝ }
 {
     let square = n * n;
@@ -47,20 +44,7 @@ pub fn try_checked(
         return Tried::Full;
     }
     writes::register(area, n, registered, to, target);
-    if settle::settle(
-        a,
-        d,
-        e,
-        n,
-        starts,
-        dependencies,
-        hosts,
-        area,
-        atom,
-        to,
-        sources,
-        targets,
-    ) {
+    if settle::settle(a, d, e, n, starts, dependencies, hosts, area, atom, to) {
         return Tried::Accepted;
     }
     Tried::Rejected

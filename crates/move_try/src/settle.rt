@@ -6,7 +6,8 @@ use super::test;
 use super::trial;
 use super::writes;
 
-// Moves the atom to node `to` where the graph then has no cycle, and answers whether it did. The last ten lists are for the trial and scratch.
+// Moves the atom to node `to` where the graph then has no cycle, and answers whether it did. The moved placement's slots stand in `sources` and
+// `targets`, grouped in `heads` and `list`; then the present one's in `list` and `spare`, and `heads` has its atom counts.
 fn settle_in(
     a: usize,
     d: usize,
@@ -18,20 +19,14 @@ fn settle_in(
     area: &mut [u32],
     atom: usize,
     to: usize,
-    sources: &[u32],
-    targets: &[u32],
     counts: &mut [u32],
+    sources: &mut [u32],
+    targets: &mut [u32],
     heads: &mut [u32],
-    ends: &mut [u32],
-    first: &mut [u32],
     list: &mut [u32],
-    colour: &mut [u32],
-    cursor: &mut [u32],
-    stack: &mut [u32],
-    low: &mut [u32],
-    order: &mut [u32],
+    spare: &mut [u32],
 ) -> bool
-    requires { ⌜ CanSettle (lent a d e (now starts) (now dependencies) (now hosts)) n (now area) atom to (now sources) (now targets) × SettleRoom (lent a d e (now starts) (now dependencies) (now hosts)) n (now counts) (now heads) (now ends) (now first) (now list) (now colour) (now cursor) (now stack) (now low) (now order) ⌝ }
+    requires { ⌜ CanSettle (lent a d e (now starts) (now dependencies) (now hosts)) n (now area) atom to × SettleRoom (lent a d e (now starts) (now dependencies) (now hosts)) n (now counts) (now sources) (now targets) (now heads) (now list) (now spare) ⌝ }
     ensures { λ r. ⌜ Settled (lent a d e (now (starts .entry)) (now (dependencies .entry)) (now (hosts .entry))) n (now (area .entry)) atom to r (now (area .exit)) ⌝ }
 {
     trial::trial(
@@ -46,28 +41,27 @@ fn settle_in(
         atom,
         to,
         counts,
-        heads,
-        ends,
+        sources,
+        targets,
     );
     let m = d + e;
-    if test::closes_cycle(
-        area,
-        n,
-        to,
-        heads,
-        ends,
-        m,
-        first,
-        list,
-        colour,
-        cursor,
-        stack,
-        low,
-        order,
-    ) {
+    if test::closes_cycle(area, n, to, sources, targets, m, heads, list) {
         return false;
     }
-    writes::commit(area, n, atom, to, sources, targets, heads, ends, m, counts);
+    move_slots::fill_own_slots(
+        a,
+        d,
+        e,
+        n,
+        starts,
+        dependencies,
+        hosts,
+        area,
+        heads,
+        list,
+        spare,
+    );
+    writes::commit(area, n, atom, to, list, spare, sources, targets, m, counts);
     true
 }
 
@@ -83,22 +77,16 @@ fn settle_large(
     area: &mut [u32],
     atom: usize,
     to: usize,
-    sources: &[u32],
-    targets: &[u32],
 ) -> bool
-    requires { ⌜ CanSettle (lent a d e (now starts) (now dependencies) (now hosts)) n (now area) atom to (now sources) (now targets) ⌝ }
+    requires { ⌜ CanSettle (lent a d e (now starts) (now dependencies) (now hosts)) n (now area) atom to ⌝ }
     ensures { λ r. ⌜ Settled (lent a d e (now (starts .entry)) (now (dependencies .entry)) (now (hosts .entry))) n (now (area .entry)) atom to r (now (area .exit)) ⌝ }
 {
     let mut counts = [0u32; 1024];
-    let mut heads = [0u32; 8448];
-    let mut ends = [0u32; 8448];
-    let mut first = [0u32; 1025];
+    let mut sources = [0u32; 8448];
+    let mut targets = [0u32; 8448];
+    let mut heads = [0u32; 1025];
     let mut list = [0u32; 8448];
-    let mut colour = [0u32; 1024];
-    let mut cursor = [0u32; 1024];
-    let mut stack = [0u32; 1024];
-    let mut low = [0u32; 1024];
-    let mut order = [0u32; 1024];
+    let mut spare = [0u32; 8448];
     settle_in(
         a,
         d,
@@ -110,22 +98,16 @@ fn settle_large(
         area,
         atom,
         to,
-        sources,
-        targets,
         &mut counts,
+        &mut sources,
+        &mut targets,
         &mut heads,
-        &mut ends,
-        &mut first,
         &mut list,
-        &mut colour,
-        &mut cursor,
-        &mut stack,
-        &mut low,
-        &mut order,
+        &mut spare,
     )
 }
 
-// Room for a small load: shorter lists, which are sooner cleared.
+// Room for a small load.
 fn settle_small(
     a: usize,
     d: usize,
@@ -137,22 +119,16 @@ fn settle_small(
     area: &mut [u32],
     atom: usize,
     to: usize,
-    sources: &[u32],
-    targets: &[u32],
 ) -> bool
-    requires { ⌜ CanSettle (lent a d e (now starts) (now dependencies) (now hosts)) n (now area) atom to (now sources) (now targets) × (n ≤ 128) × (d ≤ 768) ⌝ }
+    requires { ⌜ CanSettle (lent a d e (now starts) (now dependencies) (now hosts)) n (now area) atom to × (n ≤ 128) × (d ≤ 768) ⌝ }
     ensures { λ r. ⌜ Settled (lent a d e (now (starts .entry)) (now (dependencies .entry)) (now (hosts .entry))) n (now (area .entry)) atom to r (now (area .exit)) ⌝ }
 {
     let mut counts = [0u32; 128];
-    let mut heads = [0u32; 1024];
-    let mut ends = [0u32; 1024];
-    let mut first = [0u32; 129];
+    let mut sources = [0u32; 1024];
+    let mut targets = [0u32; 1024];
+    let mut heads = [0u32; 129];
     let mut list = [0u32; 1024];
-    let mut colour = [0u32; 128];
-    let mut cursor = [0u32; 128];
-    let mut stack = [0u32; 128];
-    let mut low = [0u32; 128];
-    let mut order = [0u32; 128];
+    let mut spare = [0u32; 1024];
     settle_in(
         a,
         d,
@@ -164,22 +140,16 @@ fn settle_small(
         area,
         atom,
         to,
-        sources,
-        targets,
         &mut counts,
+        &mut sources,
+        &mut targets,
         &mut heads,
-        &mut ends,
-        &mut first,
         &mut list,
-        &mut colour,
-        &mut cursor,
-        &mut stack,
-        &mut low,
-        &mut order,
+        &mut spare,
     )
 }
 
-// The same with lists of its own, short ones for a small load: up to 128 nodes and 768 dependencies, so 768 + 256 slots; else up to 1,024 nodes and 8,192 + 256 slots.
+// The same with lists of its own.
 pub fn settle(
     a: usize,
     d: usize,
@@ -191,42 +161,12 @@ pub fn settle(
     area: &mut [u32],
     atom: usize,
     to: usize,
-    sources: &[u32],
-    targets: &[u32],
 ) -> bool
-    requires { ⌜ CanSettle (lent a d e (now starts) (now dependencies) (now hosts)) n (now area) atom to (now sources) (now targets) ⌝ }
+    requires { ⌜ CanSettle (lent a d e (now starts) (now dependencies) (now hosts)) n (now area) atom to ⌝ }
     ensures { λ r. ⌜ Settled (lent a d e (now (starts .entry)) (now (dependencies .entry)) (now (hosts .entry))) n (now (area .entry)) atom to r (now (area .exit)) ⌝ }
 {
-    if n <= 128 {
-        if d <= 768 {
-            return settle_small(
-                a,
-                d,
-                e,
-                n,
-                starts,
-                dependencies,
-                hosts,
-                area,
-                atom,
-                to,
-                sources,
-                targets,
-            );
-        }
+    if move_slots::is_small(n, d) {
+        return settle_small(a, d, e, n, starts, dependencies, hosts, area, atom, to);
     }
-    settle_large(
-        a,
-        d,
-        e,
-        n,
-        starts,
-        dependencies,
-        hosts,
-        area,
-        atom,
-        to,
-        sources,
-        targets,
-    )
+    settle_large(a, d, e, n, starts, dependencies, hosts, area, atom, to)
 }

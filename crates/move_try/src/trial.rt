@@ -5,7 +5,7 @@ ghost use Rattle.layout.specs.Patch.{part};
 ghost use Rattle.move_ledger.specs.Graph.{lent};
 ghost use Rattle.move_area.specs.Area.{setsIn};
 ghost use Rattle.move_area.specs.Checked.{nodesIn};
-ghost use Rattle.move_consistency.specs.Filled.{Filled};
+ghost use Rattle.move_slots.specs.Filled.{Filled};
 ghost use Rattle.move_try.specs.Trial.{CanPlace, CanTrial};
 
 // The a numbers of the area from `at` on, with `to` at the atom.
@@ -37,13 +37,9 @@ pub fn trial(
     ensures { λ _. ⌜ Filled (lent a d e (now (starts .entry)) (now (dependencies .entry)) (now (hosts .entry))) n (set (nodesIn (lent a d e (now (starts .entry)) (now (dependencies .entry)) (now (hosts .entry))) n (now (area .entry))) atom to) (setsIn n (now (area .entry))) (now (counts .exit)) (now (sources .exit)) (now (targets .exit)) ⌝ }
 {
     let mut moved = [0u32; 512];
-    let mut facade = [0u32; 256];
     place(area, n * n + 24 + 24 * n, a, atom, to, &mut moved);
     let registered = area[n * n] as usize;
-    move_consistency::fill_slots(
-        &moved[0..a],
-        area,
-        registered,
+    move_slots::fill_slots(
         a,
         d,
         e,
@@ -51,8 +47,10 @@ pub fn trial(
         starts,
         dependencies,
         hosts,
+        &moved[0..a],
+        area,
+        registered,
         counts,
-        &mut facade,
         sources,
         targets,
     );

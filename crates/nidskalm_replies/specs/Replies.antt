@@ -1,6 +1,6 @@
 -- What the replies of the C interface say, field by field. Assumes nothing.
 use Prim.Native.Nat.{ℕ}
-use mathlib.Core.Bool.{Bool, cond}
+use mathlib.Core.Bool.{cond}
 use mathlib.Core.List.{List, []}
 use lib.ListN.{length, getD}
 use Rattle.entry_set.specs.Sets.{entrySet}

@@ -16,16 +16,17 @@ use Rattle.move_ledger.specs.Graph.{Load, at, edge}
 use Rattle.move_ledger.specs.Answer.{Answer, refused, is-refused}
 use Rattle.move_ledger.specs.Ledger.{step1, step2, step3, full, move}
 use Rattle.move_ledger.specs.MoveLaws.{steps}
-use Rattle.move_ledger.specs.Loading.{refusal}
+use Rattle.move_ledger.specs.LoadLaws.{first-row-none}
 use Rattle.move_ledger.specs.NodeLaws.{placed-at}
 use Rattle.move_area.specs.Bodies.{laneAt, atomAt}
 use Rattle.move_area.specs.Area.{State, encode, decode, consistent, setsIn}
 use Rattle.move_area.specs.Held.{consistent-whole}
 use Rattle.move_area.specs.Checked.{nodesIn, Ranged, consistent-ranged, ranged-placing, sets-at}
-use Rattle.move_area.specs.Calls.{tried, after, checked}
+use Rattle.move_area.specs.Calls.{tried, after}
 use Rattle.move_area.specs.Calls as calls
+use Rattle.move_rows.specs.Later.{later, turned-back, goes-on, later-legal, later-consistent}
 use Rattle.move_try.specs.Tried.{CanTry, Answers}
-use Rattle.reduced_chunk_graph.specs.Moves.{CanGoOn, GoesOn, FromNine}
+use Rattle.reduced_chunk_graph.specs.Moves.{CanGoOn, GoesOn}
 
 -- a refused move isn't tried
 module _ (load : Load) (N : ℕ) (st : State) (a : ℕ) (s : List ℕ) where
@@ -54,7 +55,7 @@ module _ (load : Load) (N : ℕ) (st : State) (a : ℕ) (s : List ℕ) where
   unfolding after
   refused-stays h = rw (refused-untried h) refl
 
-module _ {load : Load} {n : ℕ} {area s t : List ℕ} (can : CanGoOn load n area s t) (atom : ℕ) (bits : List ℕ) where
+module _ {load : Load} {n : ℕ} {area : List ℕ} (can : CanGoOn load n area) (atom : ℕ) (bits : List ℕ) where
   -- the three rows
   pub goes-ten : load .A ≤ atom → GoesOn load n area atom bits (refused 10) area
   unfolding move
@@ -97,31 +98,29 @@ module _ {load : Load} {n : ℕ} {area s t : List ℕ} (can : CanGoOn load n are
       ∙ ap (at (setsIn n area)) (e ∙ sym (part-at (atomAt n) (load .A) area atom h))
       ∙ sym (placed-at (nodesIn load n area) (setsIn n area) atom (omega (arith, p .atoms)))
 
--- row 9 comes before
-module _ {load : Load} {n : ℕ} {area : List ℕ} {atom : ℕ} {bits : List ℕ} where
-  pub nine-refused : consistent load n area ≡ false → FromNine load n area atom bits (refused 9) area
-  nine-refused h = record { answer = rw h refl; area-after = refl }
-
-  pub nine-passed : {r : Answer} {l : List ℕ} → consistent load n area ≡ true → GoesOn load n area atom bits r l → FromNine load n area atom bits r l
-  nine-passed h g = record { answer = g .answer ∙ rw h refl; area-after = g .area-after }
-
 -- the whole call
 module _ (load : Load) (n : ℕ) (area : List ℕ) (atom : ℕ) (bits : List ℕ) where
-  pub call-refused : (q : ℕ) → q ≡ refusal load n (length area) → (q ≡ 0 → ⊥) → (refused q ≡ calls.try-move load n area atom bits .answer) × (area ≡ calls.try-move load n area atom bits .area)
-  unfolding calls.try-move checked
-  call-refused q e h = rw (← e, ne-eqb q 0 h) (refl, refl)
+  pub call-refused : (q : ℕ) → q ≡ later load n area → (q ≡ 0 → ⊥) → (refused q ≡ calls.try-move load n area atom bits .answer) × (area ≡ calls.try-move load n area atom bits .area)
+  unfolding calls.try-move
+  call-refused q e h = rw (turned-back load n area (λ z. h (e ∙ z)) (move load n (decode load n area .ledger) atom bits .answer)) (ap refused e, refl)
 
-  pub call-answer : refusal load n (length area) ≡ 0 → {r : Answer} {l : List ℕ} → FromNine load n area atom bits r l → (r ≡ calls.try-move load n area atom bits .answer) × (l ≡ calls.try-move load n area atom bits .area)
-  unfolding calls.try-move checked
-  call-answer e {r} {l} f = rw e (f .answer, f .area-after ∙ ap (λ (x : Answer). cond (is-refused x) area (encode load n (after load n (decode load n area) atom bits) area)) (f .answer))
+  module _ {q : ℕ} (e : q ≡ later load n area) (z : q ≡ 0) where
+    pub call-on : CanGoOn load n area
+    call-on = record { loadable = first-row-none load n true (length area) (later-legal load n area (sym e ∙ z)); sane = later-consistent load n area (sym e ∙ z) }
+
+    pub call-answer : {r : Answer} {l : List ℕ} → GoesOn load n area atom bits r l → (r ≡ calls.try-move load n area atom bits .answer) × (l ≡ calls.try-move load n area atom bits .area)
+    unfolding calls.try-move
+    call-answer {r} {l} f =
+        rw (goes-on load n area (sym e ∙ z) (move load n (decode load n area .ledger) atom bits .answer))
+        (f .answer, f .area-after ∙ ap (λ (x : Answer). cond (is-refused x) area (encode load n (after load n (decode load n area) atom bits) area)) (f .answer))
 
 -- rows 12 and what the move asks, with the present set and the target by value
-module _ {load : Load} {n : ℕ} {area s t : List ℕ} (can : CanGoOn load n area s t) (atom : ℕ) (bits : List ℕ) (here : atom < load .A) (ok : legal (load .E) bits ≡ true)
+module _ {load : Load} {n : ℕ} {area : List ℕ} (can : CanGoOn load n area) (atom : ℕ) (bits : List ℕ) (here : atom < load .A) (ok : legal (load .E) bits ≡ true)
     (present target x : ℕ) (node : x ≡ getD area (n * n + 24 + 24 * n + atom) 0) (there : present ≡ lanes area (n * n + 24 + x) n) (is : target ≡ value bits) where
   pub twelve-fits : eqb present target ≡ true → GoesOn load n area atom bits (refused 12) area
   twelve-fits h = goes-twelve can atom bits here ok (eq-eqb _ _ (sym is ∙ sym (eqb-true _ _ h) ∙ there ∙ go-set can atom bits here x node))
 
-  pub can-try : eqb present target ≡ false → CanTry load n area atom target s t
+  pub can-try : eqb present target ≡ false → CanTry load n area atom target
   can-try h =
       record {
         loadable = can .loadable;
@@ -129,9 +128,6 @@ module _ {load : Load} {n : ℕ} {area s t : List ℕ} (can : CanGoOn load n are
         there = here;
         range = rw is (legal-below (load .E) bits ok);
         other = ne-eqb _ _ (λ e. eqb-false _ _ h (there ∙ go-set can atom bits here x node ∙ sym e));
-        slots = can .slots;
-        sources-long = can .sources-long;
-        targets-long = can .targets-long;
       }
 
   pub tried-goes : (r : Answer) (l : List ℕ) → Answers load n area atom target r l → GoesOn load n area atom bits r l

@@ -1,15 +1,12 @@
 // Trial moves: `try_move`.
 use super::MoveAnswer;
 ghost use mathlib.Core.Path.{_≡_};
-ghost use Prim.Native.Nat.{_≤_};
-ghost use lib.ListN.{length};
-ghost use Rattle.move_ledger.specs.Loading.{refusal};
 ghost use Rattle.move_ledger.specs.Graph.{lent};
 ghost use Rattle.move_area.specs.Calls as calls;
 ghost use Rattle.reduced_chunk_graph.specs.Answers.{ofMove};
-ghost use Rattle.reduced_chunk_graph.specs.Moves.{CanGoOn, GoesOn, FromNine};
+ghost use Rattle.reduced_chunk_graph.specs.Moves.{CanGoOn, GoesOn};
 
-// The rows 10 to 12 and the move itself, on a consistent area whose slots are `sources` and `targets`.
+// The rows 10 to 12 and the move itself, on a consistent area.
 fn go_on(
     a: usize,
     d: usize,
@@ -21,10 +18,8 @@ fn go_on(
     area: &mut [u32],
     atom: usize,
     bits: &[u64],
-    sources: &[u32],
-    targets: &[u32],
 ) -> MoveAnswer
-    requires { ⌜ CanGoOn (lent a d e (now starts) (now dependencies) (now hosts)) n (now area) (now sources) (now targets) ⌝ }
+    requires { ⌜ CanGoOn (lent a d e (now starts) (now dependencies) (now hosts)) n (now area) ⌝ }
     ensures { λ r. ⌜ GoesOn (lent a d e (now (starts .entry)) (now (dependencies .entry)) (now (hosts .entry))) n (now (area .entry)) atom (now (bits .entry)) (ofMove r) (now (area .exit)) ⌝ }
 {
     if a <= atom {
@@ -39,129 +34,12 @@ fn go_on(
     if entry_set::equal(entry_set::read_lanes(area, lanes + node, n), target) {
         return MoveAnswer::Refused(12);
     }
-    let tried = move_try::try_checked(
-        a,
-        d,
-        e,
-        n,
-        starts,
-        dependencies,
-        hosts,
-        area,
-        atom,
-        target,
-        sources,
-        targets,
-    );
+    let tried = move_try::try_checked(a, d, e, n, starts, dependencies, hosts, area, atom, target);
     match tried {
         move_try::Tried::Accepted => MoveAnswer::Accepted,
         move_try::Tried::Rejected => MoveAnswer::Rejected,
         move_try::Tried::Full => MoveAnswer::Refused(13),
     }
-}
-
-// The rows from 9 on.
-fn try_large(
-    a: usize,
-    d: usize,
-    e: usize,
-    n: usize,
-    starts: &[u32],
-    dependencies: &[u32],
-    hosts: &[u32],
-    area: &mut [u32],
-    atom: usize,
-    bits: &[u64],
-) -> MoveAnswer
-    requires { ⌜ refusal (lent a d e (now starts) (now dependencies) (now hosts)) n (length (now area)) ≡ 0 ⌝ }
-    ensures { λ r. ⌜ FromNine (lent a d e (now (starts .entry)) (now (dependencies .entry)) (now (hosts .entry))) n (now (area .entry)) atom (now (bits .entry)) (ofMove r) (now (area .exit)) ⌝ }
-{
-    let mut sources = [0u32; 8448];
-    let mut targets = [0u32; 8448];
-    let mut degrees = [0u32; 1024];
-    let mut order = [0u32; 1024];
-    if !move_rows::check::check_large(
-        a,
-        d,
-        e,
-        n,
-        starts,
-        dependencies,
-        hosts,
-        area,
-        &mut sources,
-        &mut targets,
-        &mut degrees,
-        &mut order,
-    ) {
-        return MoveAnswer::Refused(9);
-    }
-    go_on(
-        a,
-        d,
-        e,
-        n,
-        starts,
-        dependencies,
-        hosts,
-        area,
-        atom,
-        bits,
-        &sources,
-        &targets,
-    )
-}
-
-// The rows from 9 on for a small load.
-fn try_small(
-    a: usize,
-    d: usize,
-    e: usize,
-    n: usize,
-    starts: &[u32],
-    dependencies: &[u32],
-    hosts: &[u32],
-    area: &mut [u32],
-    atom: usize,
-    bits: &[u64],
-) -> MoveAnswer
-    requires { ⌜ (refusal (lent a d e (now starts) (now dependencies) (now hosts)) n (length (now area)) ≡ 0) × (n ≤ 128) × (d ≤ 768) ⌝ }
-    ensures { λ r. ⌜ FromNine (lent a d e (now (starts .entry)) (now (dependencies .entry)) (now (hosts .entry))) n (now (area .entry)) atom (now (bits .entry)) (ofMove r) (now (area .exit)) ⌝ }
-{
-    let mut sources = [0u32; 1024];
-    let mut targets = [0u32; 1024];
-    let mut degrees = [0u32; 128];
-    let mut order = [0u32; 128];
-    if !move_rows::check::check_small(
-        a,
-        d,
-        e,
-        n,
-        starts,
-        dependencies,
-        hosts,
-        area,
-        &mut sources,
-        &mut targets,
-        &mut degrees,
-        &mut order,
-    ) {
-        return MoveAnswer::Refused(9);
-    }
-    go_on(
-        a,
-        d,
-        e,
-        n,
-        starts,
-        dependencies,
-        hosts,
-        area,
-        atom,
-        bits,
-        &sources,
-        &targets,
-    )
 }
 
 // Moves the atom to the set if the chunk graph then has no cycle; else the atom stays where it is.
@@ -180,27 +58,11 @@ pub fn try_move(
     ensures { λ r. ⌜ ofMove r ≡ calls.try-move (lent a d e (now (starts .entry)) (now (dependencies .entry)) (now (hosts .entry))) n (now (area .entry)) atom (now (bits .entry)) .answer ⌝ }
     ensures { λ _. ⌜ now (area .exit) ≡ calls.try-move (lent a d e (now (starts .entry)) (now (dependencies .entry)) (now (hosts .entry))) n (now (area .entry)) atom (now (bits .entry)) .area ⌝ }
 {
-    let q = move_load_rows::refusal(a, d, e, n, starts, dependencies, hosts, true, area.len());
+    let q = move_rows::check::later_row(a, d, e, n, starts, dependencies, hosts, area);
     if q != 0 {
         return MoveAnswer::Refused(q);
     }
-    if n <= 128 {
-        if d <= 768 {
-            return try_small(
-                a,
-                d,
-                e,
-                n,
-                starts,
-                dependencies,
-                hosts,
-                area,
-                atom as usize,
-                bits,
-            );
-        }
-    }
-    try_large(
+    go_on(
         a,
         d,
         e,

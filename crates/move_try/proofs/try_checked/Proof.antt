@@ -1,4 +1,4 @@
--- `try_checked` meets its contract: one law of `Tried` for each call and each way out. Assumes nothing.
+-- `move_try::try_checked` meets its contract. Assumes nothing.
 use mathlib.Core.Path.{refl}
 use Prim.Native.Nat.{_+_, _*_}
 use native.Mathlib.Omega.{arith}
@@ -31,7 +31,7 @@ slice-read-from : tie.Need-slice-read-from
 slice-read-from c = search needs
 
 cast-from : tie.Need-cast-from
-cast-from c = omega (arith, c .slice-known2 .given (atomAt (c .before .before .before .before .before .before .before .args .n) + c .before .before .before .before .before .before .before .args .atom))
+cast-from c = omega (arith, c .slice-known2 .given (atomAt (c .before .before .before .before .before .args .n) + c .before .before .before .before .before .args .atom))
 
 mul-registered : tie.Need-mul-registered
 mul-registered c = search needs
@@ -40,24 +40,21 @@ slice-read-registered : tie.Need-slice-read-registered
 slice-read-registered c = search needs
 
 cast-registered : tie.Need-cast-registered
-cast-registered c = omega (arith, c .slice-known3 .given (c .before .before .before .before .before .before .before .before .args .n * c .before .before .before .before .before .before .before .before .args .n))
+cast-registered c = omega (arith, c .slice-known3 .given (c .before .before .before .before .before .before .args .n * c .before .before .before .before .before .before .args .n))
 
 place-requires : tie.Need-place-requires
-place-requires c κs = let a = c .before .before .before .before .before .before .before .before .before .args in try-find (c .before .before .before .before .before .before .before .before .before .pre) (getD (a .area .now) (a .n * a .n) 0) refl
+place-requires c κs = let a = c .before .before .before .before .before .before .before .args in try-find (c .before .before .before .before .before .before .before .pre) (getD (a .area .now) (a .n * a .n) 0) refl
 
 outside-requires : tie.Need-outside-requires
-outside-requires c κs = let a = c .before .before .before .before .before .before .before .before .before .before .before .args in (try-from (c .before .before .before .before .before .before .before .before .before .before .before .pre) (getD (a .area .now) (atomAt (a .n) + a .atom) 0) refl, omega (arith, try-room (c .before .before .before .before .before .before .before .before .before .before .before .pre)))
-
-register-requires : tie.Need-register-requires
-register-requires c κs = search needs
+outside-requires c κs = let a = c .before .before .before .before .before .before .before .before .before .args in (try-from (c .before .before .before .before .before .before .before .before .before .pre) (getD (a .area .now) (atomAt (a .n) + a .atom) 0) refl, omega (arith, try-room (c .before .before .before .before .before .before .before .before .before .pre)))
 
 same-length : tie.Need-same-length
 same-length c = search needs
 
 returns : tie.Need-returns
 returns c =
-    let a = c .before .before .before .before .before .before .before .before .before .before .before .before .before .args in
-    let can = c .before .before .before .before .before .before .before .before .before .before .before .before .before .pre in
+    let a = c .before .before .before .before .before .before .before .before .before .before .before .args in
+    let can = c .before .before .before .before .before .before .before .before .before .before .before .pre in
     let s1 = try-outside can (getD (a .area .now) (atomAt (a .n) + a .atom) 0) refl (c .before .outside .ensures) in
     try-rejected can s1 (c .if1 .taken)
 
@@ -66,15 +63,18 @@ same-length-2 c = search needs
 
 returns-2 : tie.Need-returns-2
 returns-2 c =
-    let a = c .before .before .before .before .before .before .before .before .before .before .before .before .before .before .args in
-    let can = c .before .before .before .before .before .before .before .before .before .before .before .before .before .before .pre in
+    let a = c .before .before .before .before .before .before .before .before .before .before .before .before .args in
+    let can = c .before .before .before .before .before .before .before .before .before .before .before .before .pre in
     let s1 = try-outside can (getD (a .area .now) (atomAt (a .n) + a .atom) 0) refl (c .before .before .outside .ensures) in
     try-full can (getD (a .area .now) (a .n * a .n) 0) refl (c .before .before .before .before .place .ensures) s1 (c .before .if1 .left) (c .if2 .taken)
 
+register-requires : tie.Need-register-requires
+register-requires c κs = search needs
+
 settle-requires : tie.Need-settle-requires
 settle-requires c κs =
-    let a = c .before .before .before .before .before .before .before .before .before .before .before .before .before .before .before .before .before .before .before .args in
-    let can = c .before .before .before .before .before .before .before .before .before .before .before .before .before .before .before .before .before .before .before .pre in
+    let a = c .before .before .before .before .before .before .before .before .before .before .before .before .before .before .before .before .before .args in
+    let can = c .before .before .before .before .before .before .before .before .before .before .before .before .before .before .before .before .before .pre in
     let s1 = try-outside can (getD (a .area .now) (atomAt (a .n) + a .atom) 0) refl (c .before .before .before .before .before .before .before .outside .ensures) in
     try-settle can (getD (a .area .now) (a .n * a .n) 0) refl (c .before .before .before .before .before .before .before .before .before .place .ensures) s1 (c .before .before .before .before .before .before .if1 .left) (c .before .before .before .before .before .if2 .left) (c .before .before .before .register .ensures)
 
@@ -83,8 +83,8 @@ same-length-3 c = search needs
 
 returns-3 : tie.Need-returns-3
 returns-3 c =
-    let a = c .before .before .before .before .before .before .before .before .before .before .before .before .before .before .before .before .before .before .before .before .before .before .before .args in
-    let can = c .before .before .before .before .before .before .before .before .before .before .before .before .before .before .before .before .before .before .before .before .before .before .before .pre in
+    let a = c .before .before .before .before .before .before .before .before .before .before .before .before .before .before .before .before .before .before .before .before .before .args in
+    let can = c .before .before .before .before .before .before .before .before .before .before .before .before .before .before .before .before .before .before .before .before .before .pre in
     let s1 = try-outside can (getD (a .area .now) (atomAt (a .n) + a .atom) 0) refl (c .before .before .before .before .before .before .before .before .before .before .before .outside .ensures) in
     try-accepted can (getD (a .area .now) (a .n * a .n) 0) refl (c .before .before .before .before .before .before .before .before .before .before .before .before .before .place .ensures) s1 (c .before .before .before .before .before .before .before .before .before .before .if1 .left) (c .before .before .before .before .before .before .before .before .before .if2 .left) (c .before .before .before .before .before .before .before .register .ensures) (rw (c .if3 .taken) at (c .before .before .before .settle .ensures))
 
@@ -93,8 +93,8 @@ same-length-4 c = search needs
 
 returns-4 : tie.Need-returns-4
 returns-4 c =
-    let a = c .before .before .before .before .before .before .before .before .before .before .before .before .before .before .before .before .before .before .before .before .before .before .before .args in
-    let can = c .before .before .before .before .before .before .before .before .before .before .before .before .before .before .before .before .before .before .before .before .before .before .before .pre in
+    let a = c .before .before .before .before .before .before .before .before .before .before .before .before .before .before .before .before .before .before .before .before .before .args in
+    let can = c .before .before .before .before .before .before .before .before .before .before .before .before .before .before .before .before .before .before .before .before .before .pre in
     let s1 = try-outside can (getD (a .area .now) (atomAt (a .n) + a .atom) 0) refl (c .before .before .before .before .before .before .before .before .before .before .before .outside .ensures) in
     try-stays can (getD (a .area .now) (a .n * a .n) 0) refl (c .before .before .before .before .before .before .before .before .before .before .before .before .before .place .ensures) s1 (c .before .before .before .before .before .before .before .before .before .before .if1 .left) (c .before .before .before .before .before .before .before .before .before .if2 .left) (c .before .before .before .before .before .before .before .register .ensures) (rw (c .if3 .left) at (c .before .before .before .settle .ensures))
 

@@ -3,7 +3,7 @@ use Prim.Native.Nat.{_+_, _-_, _^_, _≤_, _<_}
 use native.Mathlib.Omega.{arith}
 use Rattle.graphs.specs.Bools.{Decides, ltb-decides}
 use Rattle.entry_set.specs.Lanes.{lanes}
-use Rattle.move_slots.proofs.Deciding.{each-none, each-more, each-done}
+use Rattle.layout.proofs.Deciding.{each-none, each-more, each-done}
 use Rattle.move_consistency.specs.Ranges.{SetsBelow}
 use Rattle.move_consistency.proofs.ranges.sets_in_range.Statement.{statement}
 use Rattle.move_consistency.proofs.ranges.sets_in_range.Tie as tie

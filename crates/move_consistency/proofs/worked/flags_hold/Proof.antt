@@ -1,83 +1,45 @@
 -- `move_consistency::worked::flags_hold` meets its contract. Assumes nothing.
-use mathlib.Core.Path.{_∙_}
-use borrow.Author.Tests.{not-true, not-false}
-use Rattle.move_consistency.proofs.Flagging.{flag-walk, flag-acyclic, flag-cyclic, flag-again}
+use native.Mathlib.Omega.{arith}
+use mathlib.Core.Path.{sym, _∙_}
+use lib.ListN.{replicate}
+use Rattle.move_consistency.proofs.Flagging.{flags-found}
+use borrow.Author.Needs.{needs}
 use Rattle.move_consistency.proofs.worked.flags_hold.Statement.{statement}
 use Rattle.move_consistency.proofs.worked.flags_hold.Tie as tie
 
-has-cycle-requires : tie.Need-has-cycle-requires
-has-cycle-requires c κs = flag-walk (c .before .before .before .before .before .before .before .before .before .before .before .before .before .before .before .before .before .before .pre)
+slice-aggregate-cyclic-component : tie.Need-slice-aggregate-cyclic-component
+slice-aggregate-cyclic-component c = search needs
 
-acyclic-holds-requires : tie.Need-acyclic-holds-requires
-acyclic-holds-requires c κs = c .before .before .before .before .before .before .before .before .before .before .before .before .before .before .before .before .before .before .before .before .before .before .before .before .before .before .before .before .before .before .pre .lanes
+cyclic-component-requires : tie.Need-cyclic-component-requires
+cyclic-component-requires c κs = search needs
 
-same-length : tie.Need-same-length
-same-length c = c .before .before .before .before .before .before .before .before .before .before .before .before .has-cycle .kept .1 .1 .1 .1 .1 .0
+slice-aggregate-flags-are : tie.Need-slice-aggregate-flags-are
+slice-aggregate-flags-are c = search needs
 
-same-length-2 : tie.Need-same-length-2
-same-length-2 c = c .before .before .before .before .before .before .before .before .before .before .before .before .has-cycle .kept .1 .1 .1 .1 .1 .1 .0
-
-same-length-3 : tie.Need-same-length-3
-same-length-3 c = c .before .before .before .before .before .before .before .before .before .before .before .before .has-cycle .kept .1 .1 .1 .1 .1 .1 .1 .0
-
-same-length-4 : tie.Need-same-length-4
-same-length-4 c = c .before .before .before .before .before .before .before .before .before .before .before .before .has-cycle .kept .1 .1 .1 .1 .1 .1 .1 .1 .0
-
-same-length-5 : tie.Need-same-length-5
-same-length-5 c = c .before .before .before .before .before .before .before .before .before .before .before .before .has-cycle .kept .1 .1 .1 .1 .1 .1 .1 .1 .1 .0
+flags-are-requires : tie.Need-flags-are-requires
+flags-are-requires c κs = search needs
 
 returns : tie.Need-returns
-returns c = flag-acyclic (c .before .before .before .before .before .before .before .before .before .before .before .before .before .before .before .before .before .before .before .before .before .before .before .before .before .before .before .before .before .before .before .pre) (c .before .before .before .before .before .before .before .before .before .before .before .before .has-cycle .ensures) (not-true _ (c .before .if1 .taken)) (c .acyclic-holds .ensures)
+returns c = flags-found _ _ (replicate 1024 0) (omega (arith, c .before .before .before .before .before .before .before .before .before .before .before .pre .lists .slots .nodes)) (sym (c .before .before .if1 .taken) ∙ c .before .before .before .before .cyclic-component .ensures .0) (c .before .before .before .before .cyclic-component .ensures .1) (c .flags-are .ensures)
 
-component-holds-requires : tie.Need-component-holds-requires
-component-holds-requires c κs = let k = c .before .before .before .before .before .before .before .before .before .before .before .before .before .before .before .before .before .before .before .has-cycle .kept in flag-again (c .before .before .before .before .before .before .before .before .before .before .before .before .before .before .before .before .before .before .before .before .before .before .before .before .before .before .before .before .before .before .before .before .before .before .before .before .before .before .pre) (k .1 .1 .1 .1 .1 .0) (k .1 .1 .1 .1 .1 .1 .0) (k .1 .1 .1 .1 .1 .1 .1 .0) (k .1 .1 .1 .1 .1 .1 .1 .1 .0) (k .1 .1 .1 .1 .1 .1 .1 .1 .1 .0)
+slice-aggregate-flags-are-2 : tie.Need-slice-aggregate-flags-are-2
+slice-aggregate-flags-are-2 c = search needs
 
-same-length-6 : tie.Need-same-length-6
-same-length-6 c = c .before .before .before .before .before .before .before .before .before .before .before .before .before .before .before .before .component-holds .kept .1 .1 .1 .1 .1 .1 .1 .0
-
-same-length-7 : tie.Need-same-length-7
-same-length-7 c = c .before .before .before .before .before .before .before .before .before .before .before .before .before .before .before .before .component-holds .kept .1 .1 .1 .1 .1 .1 .1 .1 .0
-
-same-length-8 : tie.Need-same-length-8
-same-length-8 c = c .before .before .before .before .before .before .before .before .before .before .before .before .before .before .before .before .component-holds .kept .1 .1 .1 .1 .1 .1 .1 .1 .1 .0 ∙ c .before .before .before .before .before .before .before .before .before .before .before .before .before .before .before .before .before .before .before .before .before .before .before .before .before .before .before .before .before .before .before .before .before .before .before .before .has-cycle .kept .1 .1 .1 .1 .1 .0
-
-same-length-9 : tie.Need-same-length-9
-same-length-9 c = c .before .before .before .before .before .before .before .before .before .before .before .before .before .before .before .before .component-holds .kept .1 .1 .1 .1 .1 .1 .1 .1 .1 .1 .0 ∙ c .before .before .before .before .before .before .before .before .before .before .before .before .before .before .before .before .before .before .before .before .before .before .before .before .before .before .before .before .before .before .before .before .before .before .before .before .has-cycle .kept .1 .1 .1 .1 .1 .1 .0
-
-same-length-10 : tie.Need-same-length-10
-same-length-10 c = c .before .before .before .before .before .before .before .before .before .before .before .before .before .before .before .before .component-holds .kept .1 .1 .1 .1 .1 .1 .1 .1 .1 .1 .1 .0 ∙ c .before .before .before .before .before .before .before .before .before .before .before .before .before .before .before .before .before .before .before .before .before .before .before .before .before .before .before .before .before .before .before .before .before .before .before .before .has-cycle .kept .1 .1 .1 .1 .1 .1 .1 .0
-
-same-length-11 : tie.Need-same-length-11
-same-length-11 c = c .before .before .before .before .before .before .before .before .before .before .before .before .before .before .before .before .component-holds .kept .1 .1 .1 .1 .1 .1 .1 .1 .1 .1 .1 .1 .0 ∙ c .before .before .before .before .before .before .before .before .before .before .before .before .before .before .before .before .before .before .before .before .before .before .before .before .before .before .before .before .before .before .before .before .before .before .before .before .has-cycle .kept .1 .1 .1 .1 .1 .1 .1 .1 .0
-
-same-length-12 : tie.Need-same-length-12
-same-length-12 c = c .before .before .before .before .before .before .before .before .before .before .before .before .before .before .before .before .component-holds .kept .1 .1 .1 .1 .1 .1 .1 .1 .1 .1 .1 .1 .1 .0 ∙ c .before .before .before .before .before .before .before .before .before .before .before .before .before .before .before .before .before .before .before .before .before .before .before .before .before .before .before .before .before .before .before .before .before .before .before .before .has-cycle .kept .1 .1 .1 .1 .1 .1 .1 .1 .1 .0
-
-same-length-13 : tie.Need-same-length-13
-same-length-13 c = c .before .before .before .before .before .before .before .before .before .before .before .before .before .before .before .before .component-holds .kept .1 .1 .1 .1 .1 .1 .1 .1 .1 .1 .1 .1 .1 .1 .0
+flags-are-requires-2 : tie.Need-flags-are-requires-2
+flags-are-requires-2 c κs = search needs
 
 returns-2 : tie.Need-returns-2
-returns-2 c = flag-cyclic (c .before .before .before .before .before .before .before .before .before .before .before .before .before .before .before .before .before .before .before .before .before .before .before .before .before .before .before .before .before .before .before .before .before .before .before .before .before .before .before .before .before .before .before .before .before .before .before .before .before .before .before .before .before .before .before .pre) (c .before .before .before .before .before .before .before .before .before .before .before .before .before .before .before .before .before .before .before .before .before .before .before .before .before .before .before .before .before .before .before .before .before .before .before .before .has-cycle .ensures) (not-false _ (c .before .before .before .before .before .before .before .before .before .before .before .before .before .before .before .before .before .before .before .before .before .before .before .before .before .if1 .left)) (c .before .before .before .before .before .before .before .before .before .before .before .before .before .before .before .before .component-holds .ensures)
+returns-2 c = flags-found _ _ (replicate 1024 0) (omega (arith, c .before .before .before .before .before .before .before .before .before .before .before .pre .lists .slots .nodes)) (sym (c .before .before .if1 .left) ∙ c .before .before .before .before .cyclic-component .ensures .0) (c .before .before .before .before .cyclic-component .ensures .1) (c .flags-are2 .ensures)
 
 pub flags-hold-spec : {M : Type 1} → statement M
 flags-hold-spec =
     tie.close
     (tie.spec
-    has-cycle-requires
-    acyclic-holds-requires
-    same-length
-    same-length-2
-    same-length-3
-    same-length-4
-    same-length-5
+    slice-aggregate-cyclic-component
+    cyclic-component-requires
+    slice-aggregate-flags-are
+    flags-are-requires
     returns
-    component-holds-requires
-    same-length-6
-    same-length-7
-    same-length-8
-    same-length-9
-    same-length-10
-    same-length-11
-    same-length-12
-    same-length-13
+    slice-aggregate-flags-are-2
+    flags-are-requires-2
     returns-2)

@@ -1,4 +1,4 @@
--- `settle_large` meets its contract. Assumes nothing.
+-- `move_try::settle::settle_large` meets its contract. Assumes nothing.
 use native.Mathlib.Omega.{arith}
 use borrow.Author.Needs.{needs}
 use Rattle.move_try.proofs.settle.settle_large.Statement.{statement}
@@ -22,30 +22,8 @@ slice-aggregate-settle-in-5 c = search needs
 slice-aggregate-settle-in-6 : tie.Need-slice-aggregate-settle-in-6
 slice-aggregate-settle-in-6 c = search needs
 
-slice-aggregate-settle-in-7 : tie.Need-slice-aggregate-settle-in-7
-slice-aggregate-settle-in-7 c = search needs
-
-slice-aggregate-settle-in-8 : tie.Need-slice-aggregate-settle-in-8
-slice-aggregate-settle-in-8 c = search needs
-
-slice-aggregate-settle-in-9 : tie.Need-slice-aggregate-settle-in-9
-slice-aggregate-settle-in-9 c = search needs
-
-slice-aggregate-settle-in-10 : tie.Need-slice-aggregate-settle-in-10
-slice-aggregate-settle-in-10 c = search needs
-
 settle-in-requires : tie.Need-settle-in-requires
-settle-in-requires c κs =
-    let can = c .before .before .before .before .before .before .before .before .before .before .before .before .before .before .before .before .before .pre in (
-      can,
-      record {
-        counts-long = omega (arith, can .stands .small);
-        sources-long = omega (arith, can .loadable .sizes .entries, can .loadable .sizes .bits);
-        targets-long = omega (arith, can .loadable .sizes .entries, can .loadable .sizes .bits);
-        lists = record { rows = omega (arith, can .stands .small); room = omega (arith, can .loadable .sizes .entries, can .loadable .sizes .bits); short = omega arith };
-        scratch = record { colours = omega (arith, can .stands .small); cursors = omega (arith, can .stands .small); places = omega (arith, can .stands .small); lows = omega (arith, can .stands .small); orders = omega (arith, can .stands .small) };
-      },
-    )
+settle-in-requires c κs = let can = c .before .before .before .before .before .before .before .before .before .before .before .pre in (can, record { counts-long = omega (arith, can .stands .small, can .loadable .sizes .entries, can .loadable .sizes .bits); sources-long = omega (arith, can .stands .small, can .loadable .sizes .entries, can .loadable .sizes .bits); targets-long = omega (arith, can .stands .small, can .loadable .sizes .entries, can .loadable .sizes .bits); lists = record { rows = omega (arith, can .stands .small, can .loadable .sizes .entries, can .loadable .sizes .bits); room = omega (arith, can .stands .small, can .loadable .sizes .entries, can .loadable .sizes .bits); short = omega (arith, can .stands .small, can .loadable .sizes .entries, can .loadable .sizes .bits) }; spare-long = omega (arith, can .stands .small, can .loadable .sizes .entries, can .loadable .sizes .bits) })
 
 same-length : tie.Need-same-length
 same-length c = search needs
@@ -63,10 +41,6 @@ settle-large-spec =
     slice-aggregate-settle-in-4
     slice-aggregate-settle-in-5
     slice-aggregate-settle-in-6
-    slice-aggregate-settle-in-7
-    slice-aggregate-settle-in-8
-    slice-aggregate-settle-in-9
-    slice-aggregate-settle-in-10
     settle-in-requires
     same-length
     returns)

@@ -1,4 +1,4 @@
--- `settle_small` meets its contract. Assumes nothing.
+-- `move_try::settle::settle_small` meets its contract. Assumes nothing.
 use native.Mathlib.Omega.{arith}
 use borrow.Author.Needs.{needs}
 use Rattle.move_try.proofs.settle.settle_small.Statement.{statement}
@@ -22,30 +22,8 @@ slice-aggregate-settle-in-5 c = search needs
 slice-aggregate-settle-in-6 : tie.Need-slice-aggregate-settle-in-6
 slice-aggregate-settle-in-6 c = search needs
 
-slice-aggregate-settle-in-7 : tie.Need-slice-aggregate-settle-in-7
-slice-aggregate-settle-in-7 c = search needs
-
-slice-aggregate-settle-in-8 : tie.Need-slice-aggregate-settle-in-8
-slice-aggregate-settle-in-8 c = search needs
-
-slice-aggregate-settle-in-9 : tie.Need-slice-aggregate-settle-in-9
-slice-aggregate-settle-in-9 c = search needs
-
-slice-aggregate-settle-in-10 : tie.Need-slice-aggregate-settle-in-10
-slice-aggregate-settle-in-10 c = search needs
-
 settle-in-requires : tie.Need-settle-in-requires
-settle-in-requires c κs =
-    let can = c .before .before .before .before .before .before .before .before .before .before .before .before .before .before .before .before .before .pre .0 in (
-      can,
-      record {
-        counts-long = omega (arith, c .before .before .before .before .before .before .before .before .before .before .before .before .before .before .before .before .before .pre .1);
-        sources-long = omega (arith, c .before .before .before .before .before .before .before .before .before .before .before .before .before .before .before .before .before .pre .2, can .loadable .sizes .bits);
-        targets-long = omega (arith, c .before .before .before .before .before .before .before .before .before .before .before .before .before .before .before .before .before .pre .2, can .loadable .sizes .bits);
-        lists = record { rows = omega (arith, c .before .before .before .before .before .before .before .before .before .before .before .before .before .before .before .before .before .pre .1); room = omega (arith, c .before .before .before .before .before .before .before .before .before .before .before .before .before .before .before .before .before .pre .2, can .loadable .sizes .bits); short = omega arith };
-        scratch = record { colours = omega (arith, c .before .before .before .before .before .before .before .before .before .before .before .before .before .before .before .before .before .pre .1); cursors = omega (arith, c .before .before .before .before .before .before .before .before .before .before .before .before .before .before .before .before .before .pre .1); places = omega (arith, c .before .before .before .before .before .before .before .before .before .before .before .before .before .before .before .before .before .pre .1); lows = omega (arith, c .before .before .before .before .before .before .before .before .before .before .before .before .before .before .before .before .before .pre .1); orders = omega (arith, c .before .before .before .before .before .before .before .before .before .before .before .before .before .before .before .before .before .pre .1) };
-      },
-    )
+settle-in-requires c κs = let can = c .before .before .before .before .before .before .before .before .before .before .before .pre .0 in (can, record { counts-long = omega (arith, c .before .before .before .before .before .before .before .before .before .before .before .pre .1, c .before .before .before .before .before .before .before .before .before .before .before .pre .2, can .loadable .sizes .bits); sources-long = omega (arith, c .before .before .before .before .before .before .before .before .before .before .before .pre .1, c .before .before .before .before .before .before .before .before .before .before .before .pre .2, can .loadable .sizes .bits); targets-long = omega (arith, c .before .before .before .before .before .before .before .before .before .before .before .pre .1, c .before .before .before .before .before .before .before .before .before .before .before .pre .2, can .loadable .sizes .bits); lists = record { rows = omega (arith, c .before .before .before .before .before .before .before .before .before .before .before .pre .1, c .before .before .before .before .before .before .before .before .before .before .before .pre .2, can .loadable .sizes .bits); room = omega (arith, c .before .before .before .before .before .before .before .before .before .before .before .pre .1, c .before .before .before .before .before .before .before .before .before .before .before .pre .2, can .loadable .sizes .bits); short = omega (arith, c .before .before .before .before .before .before .before .before .before .before .before .pre .1, c .before .before .before .before .before .before .before .before .before .before .before .pre .2, can .loadable .sizes .bits) }; spare-long = omega (arith, c .before .before .before .before .before .before .before .before .before .before .before .pre .1, c .before .before .before .before .before .before .before .before .before .before .before .pre .2, can .loadable .sizes .bits) })
 
 same-length : tie.Need-same-length
 same-length c = search needs
@@ -63,10 +41,6 @@ settle-small-spec =
     slice-aggregate-settle-in-4
     slice-aggregate-settle-in-5
     slice-aggregate-settle-in-6
-    slice-aggregate-settle-in-7
-    slice-aggregate-settle-in-8
-    slice-aggregate-settle-in-9
-    slice-aggregate-settle-in-10
     settle-in-requires
     same-length
     returns)

@@ -1,4 +1,4 @@
--- `mark` meets its contract: the marks lane is lent to the walk, and comes back as a patch. Assumes nothing.
+-- `move_try::test::mark` meets its contract. Assumes nothing.
 use Rattle.graph_neighbours.specs.Lists.{edge}
 use Rattle.move_try.specs.Test.{mark-can, mark-done}
 use borrow.Author.Needs.{needs}
@@ -33,16 +33,13 @@ part-reach-end : tie.Need-part-reach-end
 part-reach-end c = search needs
 
 reach-requires : tie.Need-reach-requires
-reach-requires c κs = mark-can (c .before .before .before .before .before .before .pre)
+reach-requires c κs = mark-can (c .before .before .before .before .pre)
 
 same-length : tie.Need-same-length
 same-length c = search needs
 
-same-length-2 : tie.Need-same-length-2
-same-length-2 c = search needs
-
 returns : tie.Need-returns
-returns c = mark-done (c .before .before .before .before .before .before .before .before .before .before .before .pre) (edge (c .before .before .before .before .before .before .before .before .before .before .before .args .starts .now) (c .before .before .before .before .before .before .before .before .before .before .before .args .list .now) (c .before .before .before .before .before .before .before .before .before .before .before .args .n)) (c .before .before .before .before .reach .ensures)
+returns c = mark-done (c .before .before .before .before .before .before .before .pre) (edge (c .before .before .before .before .before .before .before .args .heads .now) (c .before .before .before .before .before .before .before .args .list .now) (c .before .before .before .before .before .before .before .args .n)) (c .before .before .reach .ensures)
 
 pub mark-spec : {M : Type 1} → statement M
 mark-spec =
@@ -59,5 +56,4 @@ mark-spec =
     part-reach-end
     reach-requires
     same-length
-    same-length-2
     returns)

@@ -1,18 +1,12 @@
--- `reaches_itself` meets its contract. Assumes nothing.
-use Rattle.graph_slots.proofs.Grouped.{lists-graph}
-use Rattle.graph_neighbours.specs.Grouped.{group-edges}
+-- `move_try::test::reaches_itself` meets its contract. Assumes nothing.
+use Rattle.graph_neighbours.specs.Lists.{edge}
 use Rattle.move_try.specs.Test.{itself-done}
 use borrow.Author.Needs.{needs}
 use Rattle.move_try.proofs.test.reaches_itself.Statement.{statement}
 use Rattle.move_try.proofs.test.reaches_itself.Tie as tie
 
-group-requires : tie.Need-group-requires
-group-requires c κs = search needs
-
 mark-requires : tie.Need-mark-requires
-mark-requires c κs =
-    let can = c .before .before .before .before .before .before .before .before .before .before .before .before .before .before .before .before .before .pre in
-    record { node = can .0 .node; places = can .2; graph = lists-graph (can .0 .ask) (can .1) (c .before .before .before .before .before .before .before .before .group .ensures); fresh = can .0 .fresh }
+mark-requires c κs = c .before .before .before .before .pre
 
 mul-result : tie.Need-mul-result
 mul-result c = search needs
@@ -38,23 +32,13 @@ slice-read-result c = search needs
 same-length : tie.Need-same-length
 same-length c = search needs
 
-same-length-2 : tie.Need-same-length-2
-same-length-2 c = search needs
-
-same-length-3 : tie.Need-same-length-3
-same-length-3 c = search needs
-
-same-length-4 : tie.Need-same-length-4
-same-length-4 c = search needs
-
 returns : tie.Need-returns
-returns c = itself-done (c .before .before .before .before .before .before .before .before .before .before .before .before .before .before .before .before .before .before .before .before .before .before .before .pre .0) (group-edges (c .before .before .before .before .before .before .before .before .before .before .before .before .before .before .group .ensures) (c .before .before .before .before .before .before .before .before .before .before .before .before .before .before .before .before .before .before .before .before .before .before .before .pre .0 .ask .ends)) (c .before .before .before .before .before .mark .ensures)
+returns c = (itself-done (c .before .before .before .before .before .before .before .before .pre) (edge (c .before .before .before .before .before .before .before .before .args .heads .now) (c .before .before .before .before .before .before .before .before .args .list .now) (c .before .before .before .before .before .before .before .before .args .n)) (c .before .before .before .mark .ensures), c .before .before .before .mark .ensures)
 
 pub reaches-itself-spec : {M : Type 1} → statement M
 reaches-itself-spec =
     tie.close
     (tie.spec
-    group-requires
     mark-requires
     mul-result
     add-result
@@ -64,7 +48,4 @@ reaches-itself-spec =
     mul-result-3
     slice-read-result
     same-length
-    same-length-2
-    same-length-3
-    same-length-4
     returns)

@@ -1,4 +1,4 @@
--- `trial` meets its contract: the first atoms of the copied list are lent. Assumes nothing.
+-- `move_try::trial::trial` meets its contract. Assumes nothing.
 use native.Mathlib.Omega.{arith}
 use Rattle.move_try.specs.Trial.{fill-can, fill-done}
 use borrow.Author.Needs.{needs}
@@ -44,11 +44,8 @@ part-fill-slots-start c = search needs
 part-fill-slots-end : tie.Need-part-fill-slots-end
 part-fill-slots-end c = search needs
 
-slice-aggregate-fill-slots : tie.Need-slice-aggregate-fill-slots
-slice-aggregate-fill-slots c = search needs
-
 fill-slots-requires : tie.Need-fill-slots-requires
-fill-slots-requires c κs = fill-can (c .before .before .before .before .before .before .before .before .before .before .before .before .before .before .before .before .before .pre) (c .before .before .before .before .before .before .before .before .place .last .1 .1 .1 .1 .1 .0) (omega arith) (c .before .before .before .before .before .before .before .before .place .ensures) (omega arith)
+fill-slots-requires c κs = fill-can (c .before .before .before .before .before .before .before .before .before .before .before .before .before .before .before .before .pre) (c .before .before .before .before .before .before .before .place .last .1 .1 .1 .1 .1 .0) (omega arith) (c .before .before .before .before .before .before .before .place .ensures)
 
 same-length : tie.Need-same-length
 same-length c = search needs
@@ -60,7 +57,7 @@ same-length-3 : tie.Need-same-length-3
 same-length-3 c = search needs
 
 returns : tie.Need-returns
-returns c = fill-done (c .before .before .before .before .before .before .before .before .before .before .before .before .before .before .before .before .before .before .before .before .before .before .before .before .before .pre) (c .before .before .before .before .before .before .before .before .before .before .before .before .before .before .before .before .place .last .1 .1 .1 .1 .1 .0) (omega arith) (c .before .before .before .before .before .before .before .before .before .before .before .before .before .before .before .before .place .ensures) (c .before .before .before .before .before .before .before .fill-slots .ensures)
+returns c = fill-done (c .before .before .before .before .before .before .before .before .before .before .before .before .before .before .before .before .before .before .before .before .before .before .before .pre) (c .before .before .before .before .before .before .before .before .before .before .before .before .before .before .place .last .1 .1 .1 .1 .1 .0) (omega arith) (c .before .before .before .before .before .before .before .before .before .before .before .before .before .before .place .ensures) (c .before .before .before .before .before .before .fill-slots .ensures)
 
 pub trial-spec : {M : Type 1} → statement M
 trial-spec =
@@ -79,7 +76,6 @@ trial-spec =
     sub-fill-slots
     part-fill-slots-start
     part-fill-slots-end
-    slice-aggregate-fill-slots
     fill-slots-requires
     same-length
     same-length-2

@@ -1,3 +1,4 @@
+-- `reduced_chunk_graph::moves::go_on` meets its contract. Assumes nothing.
 use native.Mathlib.Omega.{arith}
 use mathlib.Core.Path.{refl, sym, _∙_}
 use borrow.Author.Tests.{not-true, not-false}
@@ -7,113 +8,86 @@ use Rattle.reduced_chunk_graph.proofs.moves.go_on.Statement.{statement}
 use Rattle.reduced_chunk_graph.proofs.moves.go_on.Tie as tie
 use Rattle.entry_set.specs.SetLaws.{legal-short}
 
--- src/moves.rt:32:9
 returns : tie.Need-returns
-returns c = goes-ten (c .before .before .before .before .before .before .before .before .pre) _ _ (omega arith)
+returns c = goes-ten (c .before .before .before .before .before .before .pre) _ _ (omega arith)
 
--- src/moves.rt:34:9
 is-legal-requires : tie.Need-is-legal-requires
 is-legal-requires c κs = search needs
 
--- src/moves.rt:35:9
 returns-2 : tie.Need-returns-2
-returns-2 c = goes-eleven (c .before .before .before .before .before .before .before .before .before .before .pre) _ _ (omega arith) (sym (c .before .is-legal .ensures) ∙ not-true _ (c .if2 .taken))
+returns-2 c = goes-eleven (c .before .before .before .before .before .before .before .before .pre) _ _ (omega arith) (sym (c .before .is-legal .ensures) ∙ not-true _ (c .if2 .taken))
 
--- src/moves.rt:37:9
 from-list-requires : tie.Need-from-list-requires
-from-list-requires c κs = legal-short _ (c .before .before .before .before .before .before .before .before .before .before .args .bits .now) (c .before .before .before .before .before .before .before .before .before .before .pre .loadable .sizes .bits) (c .before .is-legal .ensures) (c .if2 .left)
+from-list-requires c κs = legal-short _ (c .before .before .before .before .before .before .before .before .args .bits .now) (c .before .before .before .before .before .before .before .before .pre .loadable .sizes .bits) (c .before .is-legal .ensures) (c .if2 .left)
 
--- src/moves.rt:38:17
 mul-lanes : tie.Need-mul-lanes
 mul-lanes c = search needs
 
--- src/moves.rt:38:17
 add-lanes : tie.Need-add-lanes
 add-lanes c = search needs
 
--- src/moves.rt:39:29
 mul-node : tie.Need-mul-node
 mul-node c = search needs
 
--- src/moves.rt:39:21
 add-node : tie.Need-add-node
 add-node c = search needs
 
--- src/moves.rt:39:21
 add-node-2 : tie.Need-add-node-2
 add-node-2 c = search needs
 
--- src/moves.rt:39:16
 mul-node-2 : tie.Need-mul-node-2
 mul-node-2 c = search needs
 
--- src/moves.rt:39:16
 slice-read-node : tie.Need-slice-read-node
 slice-read-node c = search needs
 
--- src/moves.rt:39:16
 cast-node : tie.Need-cast-node
-cast-node c = omega (arith, go-node (c .before .before .before .before .before .before .before .before .before .before .before .before .pre) (c .before .before .before .before .before .before .before .before .before .before .before .before .args .atom) (c .before .before .before .before .before .before .before .before .before .before .before .before .args .bits .now) (omega arith), c .before .before .before .before .before .before .before .before .before .before .before .before .pre .loadable .sizes .sets)
+cast-node c = omega (arith, go-node (c .before .before .before .before .before .before .before .before .before .before .pre) (c .before .before .before .before .before .before .before .before .before .before .args .atom) (c .before .before .before .before .before .before .before .before .before .before .args .bits .now) (omega arith), c .before .before .before .before .before .before .before .before .before .before .pre .loadable .sizes .sets)
 
--- src/moves.rt:40:53
 add-read-lanes : tie.Need-add-read-lanes
-add-read-lanes c = omega (arith, go-node (c .before .before .before .before .before .before .before .before .before .before .before .before .before .pre) (c .before .before .before .before .before .before .before .before .before .before .before .before .before .args .atom) (c .before .before .before .before .before .before .before .before .before .before .before .before .before .args .bits .now) (omega arith), c .before .before .before .before .before .before .before .before .before .before .before .before .before .pre .loadable .sizes .area)
+add-read-lanes c = omega (arith, go-node (c .before .before .before .before .before .before .before .before .before .before .before .pre) (c .before .before .before .before .before .before .before .before .before .before .before .args .atom) (c .before .before .before .before .before .before .before .before .before .before .before .args .bits .now) (omega arith), c .before .before .before .before .before .before .before .before .before .before .before .pre .loadable .sizes .area)
 
--- src/moves.rt:40:25
 read-lanes-requires : tie.Need-read-lanes-requires
-read-lanes-requires c κs = omega (arith, go-node (c .before .before .before .before .before .before .before .before .before .before .before .before .before .pre) (c .before .before .before .before .before .before .before .before .before .before .before .before .before .args .atom) (c .before .before .before .before .before .before .before .before .before .before .before .before .before .args .bits .now) (omega arith), c .before .before .before .before .before .before .before .before .before .before .before .before .before .pre .loadable .sizes .area)
+read-lanes-requires c κs = omega (arith, go-node (c .before .before .before .before .before .before .before .before .before .before .before .pre) (c .before .before .before .before .before .before .before .before .before .before .before .args .atom) (c .before .before .before .before .before .before .before .before .before .before .before .args .bits .now) (omega arith), c .before .before .before .before .before .before .before .before .before .before .before .pre .loadable .sizes .area)
 
--- src/moves.rt:40:8
 equal-requires : tie.Need-equal-requires
 equal-requires c κs = search needs
 
--- src/moves.rt:41:9
 same-length : tie.Need-same-length
 same-length c = search needs
 
--- src/moves.rt:41:9
 returns-3 : tie.Need-returns-3
-returns-3 c = twelve-fits (c .before .before .before .before .before .before .before .before .before .before .before .before .before .before .before .before .pre) _ _ (omega arith) (sym (c .before .before .before .before .before .before .before .is-legal .ensures) ∙ not-false _ (c .before .before .before .before .before .before .if2 .left)) _ _ _ refl (c .before .before .read-lanes .ensures .value) (c .before .before .before .before .before .from-list .ensures .value) (sym (c .before .equal .ensures) ∙ c .if3 .taken)
+returns-3 c = twelve-fits (c .before .before .before .before .before .before .before .before .before .before .before .before .before .before .pre) _ _ (omega arith) (sym (c .before .before .before .before .before .before .before .is-legal .ensures) ∙ not-false _ (c .before .before .before .before .before .before .if2 .left)) _ _ _ refl (c .before .before .read-lanes .ensures .value) (c .before .before .before .before .before .from-list .ensures .value) (sym (c .before .equal .ensures) ∙ c .if3 .taken)
 
--- src/moves.rt:43:9
 try-checked-requires : tie.Need-try-checked-requires
-try-checked-requires c κs = can-try (c .before .before .before .before .before .before .before .before .before .before .before .before .before .before .before .before .before .pre) _ _ (omega arith) (sym (c .before .before .before .before .before .before .before .before .is-legal .ensures) ∙ not-false _ (c .before .before .before .before .before .before .before .if2 .left)) _ _ _ refl (c .before .before .before .read-lanes .ensures .value) (c .before .before .before .before .before .before .from-list .ensures .value) (sym (c .before .before .equal .ensures) ∙ c .before .if3 .left)
+try-checked-requires c κs = can-try (c .before .before .before .before .before .before .before .before .before .before .before .before .before .before .before .pre) _ _ (omega arith) (sym (c .before .before .before .before .before .before .before .before .is-legal .ensures) ∙ not-false _ (c .before .before .before .before .before .before .before .if2 .left)) _ _ _ refl (c .before .before .before .read-lanes .ensures .value) (c .before .before .before .before .before .before .from-list .ensures .value) (sym (c .before .before .equal .ensures) ∙ c .before .if3 .left)
 
--- src/moves.rt:58:36
 enum-told : tie.Need-enum-told
 enum-told c = search needs
 
--- src/moves.rt:59:36
 enum-told-2 : tie.Need-enum-told-2
 enum-told-2 c = search needs
 
--- src/moves.rt:60:32
 enum-told-3 : tie.Need-enum-told-3
 enum-told-3 c = search needs
 
--- src/moves.rt:14:1
 same-length-2 : tie.Need-same-length-2
 same-length-2 c = search needs
 
--- src/moves.rt:14:1
 returns-4 : tie.Need-returns-4
-returns-4 c = tried-goes (c .before .before .before .before .before .before .before .before .before .before .before .before .before .before .before .before .before .before .before .before .before .before .pre) _ _ (omega arith) (sym (c .before .before .before .before .before .before .before .before .before .before .before .before .before .is-legal .ensures) ∙ not-false _ (c .before .before .before .before .before .before .before .before .before .before .before .before .if2 .left)) _ _ _ refl (c .before .before .before .before .before .before .before .before .read-lanes .ensures .value) (c .before .before .before .before .before .before .before .before .before .before .before .from-list .ensures .value) _ _ (rw (c .enum-told .given .1) at (c .before .before .before .before .try-checked .ensures))
+returns-4 c = tried-goes (c .before .before .before .before .before .before .before .before .before .before .before .before .before .before .before .before .before .before .before .before .pre) _ _ (omega arith) (sym (c .before .before .before .before .before .before .before .before .before .before .before .before .before .is-legal .ensures) ∙ not-false _ (c .before .before .before .before .before .before .before .before .before .before .before .before .if2 .left)) _ _ _ refl (c .before .before .before .before .before .before .before .before .read-lanes .ensures .value) (c .before .before .before .before .before .before .before .before .before .before .before .from-list .ensures .value) _ _ (rw (c .enum-told .given .1) at (c .before .before .before .before .try-checked .ensures))
 
--- src/moves.rt:14:1
 same-length-3 : tie.Need-same-length-3
 same-length-3 c = search needs
 
--- src/moves.rt:14:1
 returns-5 : tie.Need-returns-5
-returns-5 c = tried-goes (c .before .before .before .before .before .before .before .before .before .before .before .before .before .before .before .before .before .before .before .before .before .before .pre) _ _ (omega arith) (sym (c .before .before .before .before .before .before .before .before .before .before .before .before .before .is-legal .ensures) ∙ not-false _ (c .before .before .before .before .before .before .before .before .before .before .before .before .if2 .left)) _ _ _ refl (c .before .before .before .before .before .before .before .before .read-lanes .ensures .value) (c .before .before .before .before .before .before .before .before .before .before .before .from-list .ensures .value) _ _ (rw (c .enum-told2 .given .1) at (c .before .before .before .before .try-checked .ensures))
+returns-5 c = tried-goes (c .before .before .before .before .before .before .before .before .before .before .before .before .before .before .before .before .before .before .before .before .pre) _ _ (omega arith) (sym (c .before .before .before .before .before .before .before .before .before .before .before .before .before .is-legal .ensures) ∙ not-false _ (c .before .before .before .before .before .before .before .before .before .before .before .before .if2 .left)) _ _ _ refl (c .before .before .before .before .before .before .before .before .read-lanes .ensures .value) (c .before .before .before .before .before .before .before .before .before .before .before .from-list .ensures .value) _ _ (rw (c .enum-told2 .given .1) at (c .before .before .before .before .try-checked .ensures))
 
--- src/moves.rt:14:1
 same-length-4 : tie.Need-same-length-4
 same-length-4 c = search needs
 
--- src/moves.rt:14:1
 returns-6 : tie.Need-returns-6
-returns-6 c = tried-goes (c .before .before .before .before .before .before .before .before .before .before .before .before .before .before .before .before .before .before .before .before .before .before .pre) _ _ (omega arith) (sym (c .before .before .before .before .before .before .before .before .before .before .before .before .before .is-legal .ensures) ∙ not-false _ (c .before .before .before .before .before .before .before .before .before .before .before .before .if2 .left)) _ _ _ refl (c .before .before .before .before .before .before .before .before .read-lanes .ensures .value) (c .before .before .before .before .before .before .before .before .before .before .before .from-list .ensures .value) _ _ (rw (c .enum-told3 .given .1) at (c .before .before .before .before .try-checked .ensures))
+returns-6 c = tried-goes (c .before .before .before .before .before .before .before .before .before .before .before .before .before .before .before .before .before .before .before .before .pre) _ _ (omega arith) (sym (c .before .before .before .before .before .before .before .before .before .before .before .before .before .is-legal .ensures) ∙ not-false _ (c .before .before .before .before .before .before .before .before .before .before .before .before .if2 .left)) _ _ _ refl (c .before .before .before .before .before .before .before .before .read-lanes .ensures .value) (c .before .before .before .before .before .before .before .before .before .before .before .from-list .ensures .value) _ _ (rw (c .enum-told3 .given .1) at (c .before .before .before .before .try-checked .ensures))
 
 pub go-on-spec : {M : Type 1} → statement M
 go-on-spec =
