@@ -34,6 +34,8 @@
  *   19  no room for a list entry
  *   20  source is target
  *   21  the merge area is inconsistent (later calls)
+ *   23  over 1,024 kinds or 4,096 modules, a list of the wrong length, faulty starts, or a kind or index out of range
+ *       (choice of a merge target)
  *
  * A set of E bits is w = E / 64, rounded up, numbers of 64 bits, lowest first, bit 0 lowest.
  */
@@ -227,6 +229,37 @@ nidskalm_reply chunk_optimization_graph_pass(
     const uint32_t *bars, size_t bars_length,
     uint32_t *kinds, size_t kinds_length,
     uint32_t *numbers, size_t numbers_length);
+
+/* ---- The choice of a merge target ----
+ *
+ * k chunks and m modules; no area. A kind is 8 for a common chunk, whose entry module isn't read, else 1 (user-defined
+ * entry) + 2 (imported dynamically) + 4 (emitted). List i of a list of lists is items[starts[i]] up to
+ * items[starts[i + 1] - 1]. All lists are only read. */
+
+/* The chunk that the candidate of the given set and modules may be merged into, or NIDSKALM_NONE. Bit b of the set names
+ * chunk b; bits from k on are passed over. The target is the first named entry whose module all other named entries
+ * import: of the user-defined and emitted ones, or of the others where none of these is named. There is none where a
+ * common chunk is named, or where a guard bars it: a user entry must reach every named dynamic entry; where it has side
+ * effects, no other chunk may reach one; and whoever imports a module of the candidate dynamically must be in its chunk,
+ * or be a module of the candidate that nobody imports dynamically. A dynamic entry is barred where the candidate holds the
+ * entry module of another named dynamic entry that has observable exports. No other entry is tried then. Refusal 23 only.
+ * Where the kinds are those of the initial chunks, the pass can take the answer as proposal. */
+nidskalm_reply chunk_optimization_graph_merge_target(
+    uint64_t k, uint64_t m,
+    const uint32_t *kinds, size_t kinds_length,                       /* k */
+    const uint32_t *entry_modules, size_t entry_modules_length,       /* k */
+    const uint32_t *module_starts, size_t module_starts_length,       /* k + 1: the modules of each chunk */
+    const uint32_t *modules, size_t modules_length,
+    const uint32_t *importer_starts, size_t importer_starts_length,   /* m + 1: who imports each module statically */
+    const uint32_t *importers, size_t importers_length,
+    const uint32_t *dynamic_importer_starts, size_t dynamic_importer_starts_length,   /* m + 1: dynamically */
+    const uint32_t *dynamic_importers, size_t dynamic_importers_length,
+    const uint32_t *reached_starts, size_t reached_starts_length,     /* k + 1: the dynamic entries that each chunk reaches */
+    const uint32_t *reached, size_t reached_length,
+    const uint32_t *side_effects, size_t side_effects_length,         /* k: of each chunk, nonzero means yes */
+    const uint32_t *observable_exports, size_t observable_exports_length,   /* m: of each module, nonzero means yes */
+    const uint32_t *candidate, size_t candidate_length,               /* the candidate's modules, any number */
+    uint64_t set0, uint64_t set1, uint64_t set2, uint64_t set3);
 
 #ifdef __cplusplus
 }

@@ -38,10 +38,19 @@ planted_answers() {
     echo "drivers: replay finds each of $cases planted answers"
 }
 
+# The same for recorded choices of a merge target: the last number of each case, its answer, is made another one.
+planted_targets() {
+    awk '{ $NF = $NF == 0 ? 1 : 0; print }' tests/oracle/recorded_targets.txt > "$out/planted_targets.in"
+    if "$out/targets" < "$out/planted_targets.in" > "$out/planted_targets.out"; then fail "targets: ends with 0 although answers are wrong"; fi
+    if grep -v ', not ' "$out/planted_targets.out"; then fail "targets: a planted answer was not found"; fi
+    echo "drivers: targets finds each of $(wc -l < "$out/planted_targets.in") planted answers"
+}
+
 build header tests/header.c
 build moves_limits tests/moves_limits.c
 build merge_limits tests/merge_limits.c
 build replay tests/replay.c tests/replay_moves.c tests/replay_merges.c
+build targets tests/targets.c
 : > "$out/moves_limits.in"
 : > "$out/merge_limits.in"
 cp tests/oracle/recorded.txt "$out/replay.in"
@@ -51,3 +60,6 @@ compare merge_limits
 tests/oracle/expected.py < tests/oracle/recorded.txt | diff - tests/expected/replay.txt || fail "tests/expected/replay.txt isn't of recorded.txt"
 compare replay
 planted_answers
+cp tests/oracle/recorded_targets.txt "$out/targets.in"
+compare targets
+planted_targets

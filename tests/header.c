@@ -74,9 +74,28 @@ static void merges(void) {
     expect("merging with itself", reply.refusal, reply.value, 20, 0);
 }
 
+/* Two user-defined entries of three modules; the module of entry 1 imports that of entry 0, and module 2 is wanted by both. */
+static void targets(void) {
+    const uint32_t kinds[] = {1, 1}, entries[] = {0, 1}, module_starts[] = {0, 1, 2}, importer_starts[] = {0, 1, 1, 1};
+    const uint32_t importers[] = {1}, none[] = {0, 0, 0, 0}, candidate[] = {2};
+    nidskalm_reply reply = chunk_optimization_graph_merge_target(
+        2, 3, kinds, 2, entries, 2, module_starts, 3, entries, 2, importer_starts, 4, importers, 1, none, 4, none, 0,
+        none, 3, none, 0, none, 2, none, 3, candidate, 1, 3, 0, 0, 0);
+    expect("a merge target", reply.refusal, reply.value, 0, 0);
+    reply = chunk_optimization_graph_merge_target(
+        2, 3, kinds, 2, entries, 2, module_starts, 3, entries, 2, importer_starts, 4, importers, 1, none, 4, none, 0,
+        none, 3, none, 0, none, 2, none, 3, candidate, 1, 0, 0, 0, 0);
+    expect("no merge target", reply.refusal, reply.value, 0, NIDSKALM_NONE);
+    reply = chunk_optimization_graph_merge_target(
+        2, 3, kinds, 1, entries, 2, module_starts, 3, entries, 2, importer_starts, 4, importers, 1, none, 4, none, 0,
+        none, 3, none, 0, none, 2, none, 3, candidate, 1, 3, 0, 0, 0);
+    expect("a list too short", reply.refusal, reply.value, 23, 0);
+}
+
 int main(void) {
     moves();
     merges();
+    targets();
     puts(failed ? "header: FAILED" : "header: the C interface answers as it should");
     return failed;
 }

@@ -1,6 +1,7 @@
 //! Times the original and the library on the same inputs, in one run, and prints Markdown tables. README.md says how.
 mod merges;
 mod moves;
+mod targets;
 
 use std::time::Instant;
 
@@ -52,4 +53,8 @@ fn main() {
     }
     moves::table(library);
     merges::table(library);
+    #[cfg(feature = "ours")]
+    targets::table(Some(&oracle::target_cases::ours));
+    #[cfg(not(feature = "ours"))]
+    targets::table(None);
 }

@@ -1,11 +1,11 @@
 //! The calls on areas that the caller lends: safe, with the replies of [`raw`].
 //!
 //! An area is any slice of numbers; [`move_area_length`] and [`merge_area_length`] say how long it must be at least.
-//! What lies beyond is not touched. A load's numbers of atoms, dependencies and entry bits, and the number of initial
-//! chunks, are taken from the lengths of the lists in [`Load`] and [`InitialChunks`]. Every row of refusals can still
-//! occur.
+//! What lies beyond is not touched. A load's numbers of atoms, dependencies and entry bits, the number of initial
+//! chunks, and those of chunks and modules of [`Entries`], are taken from the lengths of the lists in [`Load`],
+//! [`InitialChunks`] and [`Entries`]. Every row of refusals can still occur.
 use crate::raw::{self, EdgeReply, Reply, SetReply};
-use crate::{InitialChunks, Load, Size};
+use crate::{Entries, InitialChunks, Load, Size};
 
 /// Numbers that a move graph's area must have, or none where the sizes are over the limits.
 pub fn move_area_length(load: &Load, sets: u64) -> Option<usize> {
@@ -233,4 +233,37 @@ pub fn chunk_optimization_graph_pass(
         numbers.as_mut_ptr(),
         numbers.len()
     )
+}
+
+/// Calls with the numbers and lists of the entries first, the candidate's modules and its set's four numbers behind them.
+macro_rules! with_entries {
+    ($call:ident, $entries:expr, $candidate:expr, $set:expr $(, $more:expr)*) => {{
+        let (entries, candidate, set): (&Entries, &[u32], [u64; 4]) = ($entries, $candidate, $set);
+        // SAFETY: as for `with_load`.
+        unsafe {
+            raw::$call(
+                entries.kinds.len() as u64, entries.observable_exports.len() as u64,
+                entries.kinds.as_ptr(), entries.kinds.len(),
+                entries.entry_modules.as_ptr(), entries.entry_modules.len(),
+                entries.module_starts.as_ptr(), entries.module_starts.len(),
+                entries.modules.as_ptr(), entries.modules.len(),
+                entries.importer_starts.as_ptr(), entries.importer_starts.len(),
+                entries.importers.as_ptr(), entries.importers.len(),
+                entries.dynamic_importer_starts.as_ptr(), entries.dynamic_importer_starts.len(),
+                entries.dynamic_importers.as_ptr(), entries.dynamic_importers.len(),
+                entries.reached_starts.as_ptr(), entries.reached_starts.len(),
+                entries.reached.as_ptr(), entries.reached.len(),
+                entries.side_effects.as_ptr(), entries.side_effects.len(),
+                entries.observable_exports.as_ptr(), entries.observable_exports.len(),
+                candidate.as_ptr(), candidate.len(),
+                set[0], set[1], set[2], set[3]
+                $(, $more)*
+            )
+        }
+    }};
+}
+
+/// The chunk that a candidate of these modules and this set may be merged into, or 4,294,967,295.
+pub fn chunk_optimization_graph_merge_target(entries: &Entries, candidate: &[u32], set: [u64; 4]) -> Reply {
+    with_entries!(chunk_optimization_graph_merge_target, entries, candidate, set)
 }

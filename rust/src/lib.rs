@@ -8,6 +8,8 @@
 //!   directly on the target, or the two fused lie on a cycle with another chunk; chunks merged away are not followed.
 //!   It merges, and runs the pass that decides about each chunk that needs creation.
 //!
+//! [`Entries`] chooses the chunk that such a chunk may be merged into.
+//!
 //! No call on a graph panics on odd numbers: it answers, or gives a [`Refusal`] and has changed nothing. Both types own
 //! their work area; [`lent`] has the same calls on areas that you lend, and [`raw`] the C interface.
 //!
@@ -26,6 +28,7 @@
 //! ```
 #![warn(missing_docs)]
 
+mod entries;
 mod entry_set;
 pub mod lent;
 mod merge_graph;
@@ -33,6 +36,7 @@ mod move_graph;
 pub mod raw;
 mod refusal;
 
+pub use entries::Entries;
 pub use entry_set::EntrySet;
 pub use merge_graph::{Assignment, ChunkIdx, InitialChunks, MergeGraph, ModuleIdx, Size};
 pub use move_graph::{Edge, Load, MoveGraph};

@@ -96,4 +96,7 @@ unsafe extern "C" {
     pub fn chunk_optimization_graph_merge_chunk_dependencies(c: u64, m: u64, l: u64, e: u64, area: *mut u32, area_length: usize, target: u32, source: u32) -> Reply;
     /// The pass; value is the number of candidates, one entry each in the four lists.
     pub fn chunk_optimization_graph_pass(c: u64, m: u64, l: u64, e: u64, area: *mut u32, area_length: usize, proposals: *const u32, proposals_length: usize, bars: *const u32, bars_length: usize, kinds: *mut u32, kinds_length: usize, numbers: *mut u32, numbers_length: usize) -> Reply;
+
+    /// The chunk that a candidate may be merged into, or 4294967295.
+    pub fn chunk_optimization_graph_merge_target(k: u64, m: u64, kinds: *const u32, kinds_length: usize, entry_modules: *const u32, entry_modules_length: usize, module_starts: *const u32, module_starts_length: usize, modules: *const u32, modules_length: usize, importer_starts: *const u32, importer_starts_length: usize, importers: *const u32, importers_length: usize, dynamic_importer_starts: *const u32, dynamic_importer_starts_length: usize, dynamic_importers: *const u32, dynamic_importers_length: usize, reached_starts: *const u32, reached_starts_length: usize, reached: *const u32, reached_length: usize, side_effects: *const u32, side_effects_length: usize, observable_exports: *const u32, observable_exports_length: usize, candidate: *const u32, candidate_length: usize, set0: u64, set1: u64, set2: u64, set3: u64) -> Reply;
 }

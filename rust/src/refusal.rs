@@ -44,6 +44,7 @@ impl Refusal {
             19 => "there is no room for another list entry",
             20 => "source and target are the same chunk",
             21 => "the merge graph's area is inconsistent",
+            23 => "over 1,024 kinds or 4,096 modules, or a list with a wrong length, faulty starts, or a kind or index out of range",
             _ => "no row of that number is known",
         }
     }
@@ -85,7 +86,7 @@ mod tests {
         let unknown = Refusal(22).condition();
         assert_eq!(Refusal(13).condition(), unknown, "13 is no row any more");
         let mut seen = BTreeSet::from([unknown]);
-        for row in (1..=12).chain(14..=21) {
+        for row in (1..=12).chain(14..=21).chain([23]) {
             let words = Refusal(row).condition();
             assert!(!words.trim().is_empty(), "row {row} has no words");
             assert!(seen.insert(words), "row {row} has no words of its own");

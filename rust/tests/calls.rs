@@ -1,6 +1,7 @@
 //! Every call once through the safe crate, and the rows that only it can bring about.
 use nidskalm::{
-    Assignment, ChunkIdx, Edge, EntrySet, InitialChunks, Load, MergeGraph, ModuleIdx, MoveGraph, Refusal, Size, NONE,
+    Assignment, ChunkIdx, Edge, Entries, EntrySet, InitialChunks, Load, MergeGraph, ModuleIdx, MoveGraph, Refusal,
+    Size, NONE,
 };
 
 fn set(bits: u64) -> EntrySet {
@@ -177,4 +178,75 @@ fn a_proposal_with_the_number_of_none_is_refused() {
         assert_eq!(row(graph.pass(&[proposal, None], &[false, false])), 15);
     }
     assert_eq!(graph.pass(&[None], &[false]), Ok(vec![Assignment::Created(ChunkIdx(2))]));
+}
+
+/// User-defined entries 0 and 1, dynamic entry 2 and common chunk 3, whose entry module isn't read. Module 0 is imported by 1
+/// statically and module 2 by 0 dynamically; chunk 0 reaches entry 2.
+const ENTRIES: Entries = Entries {
+    kinds: &[1, 4, 2, 8],
+    entry_modules: &[0, 1, 2, 9],
+    module_starts: &[0, 1, 2, 3, 3],
+    modules: &[0, 1, 2],
+    importer_starts: &[0, 1, 1, 1, 1],
+    importers: &[1],
+    dynamic_importer_starts: &[0, 0, 0, 1, 1],
+    dynamic_importers: &[0],
+    reached_starts: &[0, 1, 1, 1, 1],
+    reached: &[2],
+    side_effects: &[1, 0, 0, 0],
+    observable_exports: &[0, 0, 1, 0],
+};
+
+#[test]
+fn merge_targets() {
+    let target = |entries: Entries, bits: u64| entries.merge_target(&[3], set(bits)).unwrap();
+    assert_eq!(target(ENTRIES, 0), None);
+    assert_eq!(target(ENTRIES, 1), Some(ChunkIdx(0)));
+    assert_eq!(target(ENTRIES, 3), Some(ChunkIdx(0)));
+    assert_eq!(target(ENTRIES, 7), Some(ChunkIdx(0)));
+    assert_eq!(target(ENTRIES, 0xf7), Some(ChunkIdx(0)), "bits past the kinds are passed over");
+    assert_eq!(target(ENTRIES, 9), None, "a common chunk");
+    assert_eq!(target(ENTRIES, 4), Some(ChunkIdx(2)));
+    assert_eq!(target(Entries { importers: &[2], ..ENTRIES }, 3), None, "not imported");
+    assert_eq!(target(Entries { reached: &[1], ..ENTRIES }, 7), None, "not reached");
+    let both = Entries { reached_starts: &[0, 1, 2, 2, 2], reached: &[2, 2], ..ENTRIES };
+    assert_eq!(target(both, 7), None, "side effects would leak");
+    assert_eq!(target(Entries { side_effects: &[0; 4], ..both }, 7), Some(ChunkIdx(0)));
+    assert_eq!(ENTRIES.merge_target(&[2], set(3)), Ok(Some(ChunkIdx(0))));
+    let elsewhere = Entries { dynamic_importers: &[1], ..ENTRIES };
+    assert_eq!(elsewhere.merge_target(&[2], set(3)), Ok(None), "an importer elsewhere");
+    assert_eq!(elsewhere.merge_target(&[2, 1], set(3)), Ok(Some(ChunkIdx(0))), "an importer that comes along");
+    let dynamic = Entries { kinds: &[2, 2, 2, 8], importers: &[2], ..ENTRIES };
+    assert_eq!(dynamic.merge_target(&[2], set(5)), Ok(None), "another entry's exports");
+    assert_eq!(dynamic.merge_target(&[3], set(5)), Ok(Some(ChunkIdx(0))));
+}
+
+#[test]
+fn refused_merge_targets() {
+    let refused = |entries: Entries, candidate: &[u32]| row(entries.merge_target(candidate, set(7)));
+    let many = [0; 4097];
+    for entries in [
+        Entries { kinds: &many[..1025], ..ENTRIES },
+        Entries { observable_exports: &many, ..ENTRIES },
+        Entries { kinds: &[1, 4, 2], ..ENTRIES },
+        Entries { kinds: &[1, 4, 9, 8], ..ENTRIES },
+        Entries { entry_modules: &[0, 1, 2], ..ENTRIES },
+        Entries { entry_modules: &[0, 1, 4, 9], ..ENTRIES },
+        Entries { module_starts: &[0, 1, 2, 3], ..ENTRIES },
+        Entries { module_starts: &[0, 2, 1, 3, 3], ..ENTRIES },
+        Entries { modules: &[0, 1, 4], ..ENTRIES },
+        Entries { modules: &[0, 1], ..ENTRIES },
+        Entries { importer_starts: &[1, 1, 1, 1, 1], ..ENTRIES },
+        Entries { importers: &[4], ..ENTRIES },
+        Entries { dynamic_importer_starts: &[], ..ENTRIES },
+        Entries { dynamic_importers: &[4], ..ENTRIES },
+        Entries { reached_starts: &[0, 1, 1, 1, 0], ..ENTRIES },
+        Entries { reached: &[4], ..ENTRIES },
+        Entries { side_effects: &[0; 5], ..ENTRIES },
+        Entries { observable_exports: &[0; 3], ..ENTRIES },
+    ] {
+        assert_eq!(refused(entries, &[3]), 23);
+    }
+    assert_eq!(refused(ENTRIES, &[3, 4]), 23);
+    assert_eq!(refused(ENTRIES, &[u32::MAX]), 23);
 }

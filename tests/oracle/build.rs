@@ -23,6 +23,13 @@ const METHODS: [&str; 9] = [
     "merge_chunk_dependencies",
 ];
 
+/// First and last line of the four functions that choose a merge target, the names of the functions in the first piece and the
+/// last, and the sum of both pieces.
+const CHOICE: [(usize, usize); 2] = [(571, 714), (768, 797)];
+const CHOICE_FUNCTIONS: [&str; 4] =
+    ["try_insert_into_existing_chunk", "collect_entry_modules", "find_merge_target", "module_has_observable_exports"];
+const CHOICE_SUM: u64 = 0x7130_b584_a38e_422b;
+
 fn sum(text: &str) -> u64 {
     text.bytes().fold(0xcbf2_9ce4_8422_2325, |sum, byte| (sum ^ u64::from(byte)).wrapping_mul(0x100_0000_01b3))
 }
@@ -36,6 +43,20 @@ fn read(path: &Path) -> String {
             path.display()
         ),
     }
+}
+
+/// Writes the choice of a merge target, in an `impl` of its own, for src/target_original.rs.
+fn cut_choice(lines: &[&str]) {
+    let cut: Vec<&str> = CHOICE.iter().flat_map(|&(first, last)| &lines[first - 1..last]).copied().collect();
+    let functions: Vec<&str> = cut.iter().filter_map(|line| line.strip_prefix("  fn ")?.split('(').next()).collect();
+    assert_eq!(functions, CHOICE_FUNCTIONS, "the four functions of the choice");
+    for (_, last) in CHOICE {
+        assert_eq!(lines[last - 1], "  }", "line {last} of chunk_optimizer.rs");
+    }
+    let cut = cut.join("\n");
+    assert_eq!(sum(&cut), CHOICE_SUM, "chunk_optimizer.rs is not the one of rolldown 1.2.16");
+    let out = Path::new(&env::var("OUT_DIR").unwrap()).join("target_choice.rs");
+    fs::write(out, format!("impl GenerateStage {{\n{cut}\n}}\n")).unwrap();
 }
 
 /// Checks the original's files and hands them over.
@@ -62,6 +83,7 @@ fn original(docs: &Path) {
     assert_eq!(sum(&cut), MERGE_SUM, "chunk_optimizer.rs is not the one of rolldown 1.2.16");
     let out = Path::new(&env::var("OUT_DIR").unwrap()).join("chunk_optimization_graph.rs");
     fs::write(out, cut).unwrap();
+    cut_choice(&lines);
 }
 
 /// Where the original's files are: as NIDSKALM_ORIGINAL says, or beside the repository, if they are there.

@@ -19,6 +19,11 @@ runner=tests/oracle/target/checked/oracle
 if [ "${1:-}" != --record ]; then
     "$runner" --replay tests/oracle/recorded.txt
 fi
+case "${1:-}" in
+    --record) ;;
+    --self-test) tests/oracle/target/checked/targets --self-test ;;
+    *) tests/oracle/target/checked/targets ;;
+esac
 "$runner" "$@"
 if [ -z "${NIDSKALM_ORIGINAL:-}" ]; then
     echo "************************************************************************************************"

@@ -4,3 +4,4 @@ pub mod Moves
 pub mod MergeRun
 pub mod Merges
 pub mod Cases
+pub mod Targets

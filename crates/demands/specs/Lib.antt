@@ -13,3 +13,4 @@ pub mod MergeWarning
 pub mod MergeEither
 pub mod MergeSwap
 pub mod Colours
+pub mod Choice

@@ -2,6 +2,7 @@
 ghost use mathlib.Core.Path.{_≡_};
 ghost use Rattle.reduced_chunk_graph.specs.Answers.{ofLoad, ofMove, ofSet, ofNumber, ofEdge};
 ghost use Rattle.chunk_optimizer.specs.Answers.{done-told, temp-told, said-told};
+ghost use Rattle.merge_target.specs.Answers.{target-told};
 ghost use mathlib.Core.List.{[], _∷_};
 ghost use Rattle.entry_set.specs.Sets.{value};
 ghost use Rattle.chunk_optimizer.specs.declared.TempIdxAnswer.the-variants as temps;
@@ -11,6 +12,7 @@ use chunk_optimizer::OptionChunkIdx;
 use chunk_optimizer::PassAnswer;
 use chunk_optimizer::TempIdxAnswer;
 use chunk_optimizer::YesNoAnswer;
+use merge_target::TargetAnswer;
 use reduced_chunk_graph::EdgeAnswer;
 use reduced_chunk_graph::LoadAnswer;
 use reduced_chunk_graph::MoveAnswer;
@@ -217,6 +219,16 @@ pub fn of_temp(answer: TempIdxAnswer) -> Reply
     match answer {
         TempIdxAnswer::Is(chunk) => of_option(chunk),
         TempIdxAnswer::Refused(q) => refused(q),
+    }
+}
+
+pub fn of_target(answer: TargetAnswer) -> Reply
+    ensures { λ r. ⌜ r ≡ merge-reply (target-told answer) ⌝ }
+{
+    match answer {
+        TargetAnswer::Into(x) => answered(x.0 as u64),
+        TargetAnswer::Nothing => answered(4294967295),
+        TargetAnswer::Refused(q) => refused(q),
     }
 }
 

@@ -26,4 +26,8 @@ pub mod stand_in_library;
 mod stand_in_merges;
 mod stand_in_moves;
 pub mod stand_ins;
+pub mod target_cases;
+pub mod target_model;
+#[cfg(original)]
+pub mod target_original;
 pub mod views;

@@ -243,6 +243,10 @@ pub mod oxc_index {
             I::from_raw(self.items.len() as u32 - 1)
         }
 
+        pub fn get(&self, index: I) -> Option<&T> {
+            self.items.get(index.raw() as usize)
+        }
+
         pub fn indices(&self) -> impl Iterator<Item = I> + use<I, T> {
             (0..self.items.len() as u32).map(I::from_raw)
         }

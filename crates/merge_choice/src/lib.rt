@@ -1,0 +1,1 @@
+// The choice of a merge target: definitions and theorems only.
