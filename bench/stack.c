@@ -62,6 +62,15 @@ static void pass(void) {
     refusal = chunk_optimization_graph_pass(SIZE, proposals, count, effects, count, kinds, count, numbers, count).refusal;
 }
 
+/* Every bit names a user entry, all of one module: all guards are asked. */
+static void merge_target(void) {
+    static uint32_t zeros[M + 1], users[C];
+    for (int i = 0; i < C; i++) users[i] = 1;
+    refusal = chunk_optimization_graph_merge_target(
+        C, M, users, C, zeros, C, zeros, C + 1, zeros, 0, zeros, M + 1, zeros, 0, zeros, M + 1, zeros, 0,
+        zeros, C + 1, zeros, 0, zeros, C, zeros, M, zeros, M, UINT64_MAX, UINT64_MAX, UINT64_MAX, UINT64_MAX).refusal;
+}
+
 static void *run(void *call) {
     (*(void (**)(void))call)();
     return NULL;
@@ -142,6 +151,7 @@ int main(void) {
     tell("`is_reachable`", is_reachable);
     tell("`merge_chunk_dependencies`", merge);
     tell("pass", pass);
+    tell("`merge_target`", merge_target);
     printf("\nmost: %.1f KiB\n", most / 1024.0);
     return most < 512 * 1024 && !any_refused ? 0 : 1;
 }

@@ -36,6 +36,7 @@
  *   21  the merge area is inconsistent (later calls)
  *   23  over 1,024 kinds or 4,096 modules, a list of the wrong length, faulty starts, or a kind or index out of range
  *       (choice of a merge target)
+ *   25  there aren't eight classes, one is neither 0 nor 1, or an odd one isn't 1; after 23
  *
  * A set of E bits is w = E / 64, rounded up, numbers of 64 bits, lowest first, bit 0 lowest.
  */
@@ -260,6 +261,26 @@ nidskalm_reply chunk_optimization_graph_merge_target(
     const uint32_t *observable_exports, size_t observable_exports_length,   /* m: of each module, nonzero means yes */
     const uint32_t *candidate, size_t candidate_length,               /* the candidate's modules, any number */
     uint64_t set0, uint64_t set1, uint64_t set2, uint64_t set3);
+
+/* The same by the bank's own classes of the entry kinds 0 to 7, in the place of 0 1 0 1 1 1 1 1: 0 dynamic, 1 user; odd kinds are user
+ * entries. Refusals 23, then 25. */
+nidskalm_reply chunk_optimization_graph_merge_target_by_classes(
+    uint64_t k, uint64_t m,
+    const uint32_t *kinds, size_t kinds_length,                       /* k */
+    const uint32_t *entry_modules, size_t entry_modules_length,       /* k */
+    const uint32_t *module_starts, size_t module_starts_length,       /* k + 1: the modules of each chunk */
+    const uint32_t *modules, size_t modules_length,
+    const uint32_t *importer_starts, size_t importer_starts_length,   /* m + 1: who imports each module statically */
+    const uint32_t *importers, size_t importers_length,
+    const uint32_t *dynamic_importer_starts, size_t dynamic_importer_starts_length,   /* m + 1: dynamically */
+    const uint32_t *dynamic_importers, size_t dynamic_importers_length,
+    const uint32_t *reached_starts, size_t reached_starts_length,     /* k + 1: the dynamic entries that each chunk reaches */
+    const uint32_t *reached, size_t reached_length,
+    const uint32_t *side_effects, size_t side_effects_length,         /* k: of each chunk, nonzero means yes */
+    const uint32_t *observable_exports, size_t observable_exports_length,   /* m: of each module, nonzero means yes */
+    const uint32_t *candidate, size_t candidate_length,               /* the candidate's modules, any number */
+    uint64_t set0, uint64_t set1, uint64_t set2, uint64_t set3,
+    const uint32_t *classes, size_t classes_length);                  /* 8 */
 
 #ifdef __cplusplus
 }

@@ -90,6 +90,15 @@ static void targets(void) {
         2, 3, kinds, 1, entries, 2, module_starts, 3, entries, 2, importer_starts, 4, importers, 1, none, 4, none, 0,
         none, 3, none, 0, none, 2, none, 3, candidate, 1, 3, 0, 0, 0);
     expect("a list too short", reply.refusal, reply.value, 23, 0);
+    const uint32_t classes[] = {0, 1, 0, 1, 1, 1, 1, 1};
+    reply = chunk_optimization_graph_merge_target_by_classes(
+        2, 3, kinds, 2, entries, 2, module_starts, 3, entries, 2, importer_starts, 4, importers, 1, none, 4, none, 0,
+        none, 3, none, 0, none, 2, none, 3, candidate, 1, 3, 0, 0, 0, classes, 8);
+    expect("a merge target by classes", reply.refusal, reply.value, 0, 0);
+    reply = chunk_optimization_graph_merge_target_by_classes(
+        2, 3, kinds, 2, entries, 2, module_starts, 3, entries, 2, importer_starts, 4, importers, 1, none, 4, none, 0,
+        none, 3, none, 0, none, 2, none, 3, candidate, 1, 3, 0, 0, 0, classes, 7);
+    expect("seven classes", reply.refusal, reply.value, 25, 0);
 }
 
 int main(void) {

@@ -46,7 +46,7 @@ fn large(named: u32, users: u32, last_wins: bool) -> Case {
         side_effects: vec![1; k as usize],
         observable_exports: vec![0; m as usize],
     };
-    Case { entries, candidate: (1000..m).collect(), set: bits(named) }
+    Case { entries, candidate: (1000..m).collect(), set: bits(named), classes: None }
 }
 
 /// Two user entries and a dynamic one of eight chunks, 64 modules.
@@ -64,7 +64,7 @@ fn small() -> Case {
         side_effects: vec![1; 8],
         observable_exports: vec![1; 64],
     };
-    Case { entries, candidate: vec![60, 61, 62, 63], set: bits(3) }
+    Case { entries, candidate: vec![60, 61, 62, 63], set: bits(3), classes: None }
 }
 
 fn row(name: &str, case: &Case, library: Option<Call>) {

@@ -70,4 +70,33 @@ impl Entries<'_> {
         let chunk = u32::try_from(reply.value).ok().filter(|&chunk| chunk != NONE).map(ChunkIdx);
         Refusal::check(reply.refusal, chunk)
     }
+
+    /// The same by a bank's own classes of the entry kinds 0 to 7, 0 for dynamic and 1 for user entries. Without them they are
+    /// 0, 1, 0, 1, 1, 1, 1, 1; odd kinds, user-defined entries, can't be dynamic.
+    ///
+    /// ```
+    /// # use nidskalm::{ChunkIdx, Entries, EntrySet};
+    /// # let entries = Entries {
+    /// #     kinds: &[4, 2], entry_modules: &[0, 1], module_starts: &[0, 1, 2], modules: &[0, 1],
+    /// #     importer_starts: &[0, 1, 1, 1], importers: &[1], dynamic_importer_starts: &[0, 0, 0, 0],
+    /// #     dynamic_importers: &[], reached_starts: &[0, 0, 0], reached: &[], side_effects: &[0, 0],
+    /// #     observable_exports: &[0, 0, 0],
+    /// # };
+    /// // An emitted entry that doesn't reach the dynamic one: no target. As a dynamic entry it is one.
+    /// assert_eq!(entries.merge_target(&[2], EntrySet::from(3))?, None);
+    /// let emitted_dynamic = [0, 1, 0, 1, 0, 1, 0, 1];
+    /// let target = entries.merge_target_by_classes(&[2], EntrySet::from(3), &emitted_dynamic)?;
+    /// assert_eq!(target, Some(ChunkIdx(0)));
+    /// # Ok::<(), nidskalm::Refusal>(())
+    /// ```
+    pub fn merge_target_by_classes(
+        &self,
+        candidate: &[u32],
+        set: EntrySet,
+        classes: &[u32],
+    ) -> Result<Option<ChunkIdx>, Refusal> {
+        let reply = lent::chunk_optimization_graph_merge_target_by_classes(self, candidate, set.words(), classes);
+        let chunk = u32::try_from(reply.value).ok().filter(|&chunk| chunk != NONE).map(ChunkIdx);
+        Refusal::check(reply.refusal, chunk)
+    }
 }

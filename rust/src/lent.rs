@@ -267,3 +267,14 @@ macro_rules! with_entries {
 pub fn chunk_optimization_graph_merge_target(entries: &Entries, candidate: &[u32], set: [u64; 4]) -> Reply {
     with_entries!(chunk_optimization_graph_merge_target, entries, candidate, set)
 }
+
+/// The same by eight classes of the entry kinds.
+pub fn chunk_optimization_graph_merge_target_by_classes(
+    entries: &Entries,
+    candidate: &[u32],
+    set: [u64; 4],
+    classes: &[u32],
+) -> Reply {
+    let (list, count) = (classes.as_ptr(), classes.len());
+    with_entries!(chunk_optimization_graph_merge_target_by_classes, entries, candidate, set, list, count)
+}

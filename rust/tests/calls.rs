@@ -250,3 +250,22 @@ fn refused_merge_targets() {
     assert_eq!(refused(ENTRIES, &[3, 4]), 23);
     assert_eq!(refused(ENTRIES, &[u32::MAX]), 23);
 }
+
+#[test]
+fn merge_targets_by_classes() {
+    let built_in = [0, 1, 0, 1, 1, 1, 1, 1];
+    let emitted_dynamic = [0, 1, 0, 1, 0, 1, 0, 1];
+    for bits in 0..16 {
+        assert_eq!(ENTRIES.merge_target_by_classes(&[3], set(bits), &built_in), ENTRIES.merge_target(&[3], set(bits)));
+    }
+    // Chunk 1 is emitted: now a dynamic entry, which chunk 0 doesn't reach.
+    assert_eq!(ENTRIES.merge_target_by_classes(&[3], set(3), &emitted_dynamic), Ok(None));
+    let by = |classes: &[u32]| row(ENTRIES.merge_target_by_classes(&[3], set(3), classes));
+    assert_eq!(by(&built_in[..7]), 25);
+    assert_eq!(by(&[0, 1, 0, 1, 1, 1, 1, 1, 1]), 25);
+    assert_eq!(by(&[]), 25);
+    assert_eq!(by(&[2, 1, 0, 1, 1, 1, 1, 1]), 25);
+    assert_eq!(by(&[0, 0, 0, 1, 1, 1, 1, 1]), 25);
+    assert_eq!(by(&[0, 1, 0, 1, 1, 1, 1, 0]), 25);
+    assert_eq!(row(ENTRIES.merge_target_by_classes(&[4], set(3), &[])), 23, "23 comes first");
+}

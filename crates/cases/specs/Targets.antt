@@ -6,7 +6,7 @@ use Rattle.graphs.specs.Lists.{any, below}
 use Rattle.merge_state.specs.State.{misfit}
 use Rattle.merge_state.specs.Table.{Answer, refused, chunk, nothing, falling, bad-starts, any-misfit}
 use Rattle.merge_choice.specs.Choice.{Lists, lists, some-in, some-from, bits, role, first-below, some-role, imports, wins, first-target, unreached, leaks, dynamic-module, pollutes, polluted, there, strayed, guarded, user-target, dynamic-target, chosen, choice}
-use Rattle.merge_choice.specs.Find.{bad-lists, bad-entry, bad-lengths, bad-spans, bad-numbers, row23, find}
+use Rattle.merge_choice.specs.Find.{bad-lists, bad-entry, bad-lengths, bad-spans, bad-numbers, row23, row25, find, find-by}
 use Rattle.merge_choice.specs.Find as found
 
 -- chunks 0 and 1 are user entries of modules 0 and 1, chunk 2 is a dynamic entry of module 2, and chunk 3 a common chunk, whose entry module
@@ -96,3 +96,29 @@ expected =
 pub targets-right : answers ≡ expected
 unfolding any below misfit falling bad-starts any-misfit some-in some-from bits role first-below some-role imports wins first-target unreached leaks dynamic-module pollutes polluted there strayed guarded user-target dynamic-target chosen choice bad-lists bad-entry bad-lengths bad-spans bad-numbers row23 found.told find
 targets-right = refl
+
+-- by a bank's own classes, of the same chunks: two user entries or, where emitted ones are dynamic, one of each
+abbrev by : List ℕ → ℕ → Lists → Answer
+by classes set reached =
+    find-by classes 4 4 kinds set (record { entries = entries; modules = modules; static = static; dynamic = four; reached = reached; effects = none; exports = none; candidate = common })
+
+abbrev pub class-answers : List Answer
+class-answers =
+    -- the built-in rows; emitted entries are dynamic: chunk 0 doesn't reach 1, and does
+    by (0 ∷ 1 ∷ 0 ∷ 1 ∷ 1 ∷ 1 ∷ 1 ∷ 1 ∷ []) 3 four
+    ∷ by (0 ∷ 1 ∷ 0 ∷ 1 ∷ 0 ∷ 1 ∷ 0 ∷ 1 ∷ []) 3 four
+    ∷ by (0 ∷ 1 ∷ 0 ∷ 1 ∷ 0 ∷ 1 ∷ 0 ∷ 1 ∷ []) 3 (lists (0 ∷ 1 ∷ 1 ∷ 1 ∷ 1 ∷ []) (1 ∷ []))
+    -- seven rows, nine, a row of 2, an odd row of 0; and 23 before all of these
+    ∷ by (0 ∷ 1 ∷ 0 ∷ 1 ∷ 1 ∷ 1 ∷ 1 ∷ []) 3 four
+    ∷ by (0 ∷ 1 ∷ 0 ∷ 1 ∷ 1 ∷ 1 ∷ 1 ∷ 1 ∷ 1 ∷ []) 3 four
+    ∷ by (2 ∷ 1 ∷ 0 ∷ 1 ∷ 1 ∷ 1 ∷ 1 ∷ 1 ∷ []) 3 four
+    ∷ by (0 ∷ 1 ∷ 0 ∷ 0 ∷ 1 ∷ 1 ∷ 1 ∷ 1 ∷ []) 3 four
+    ∷ by [] 3 (lists (0 ∷ 1 ∷ 1 ∷ 1 ∷ 1 ∷ []) (4 ∷ []))
+    ∷ []
+
+abbrev pub class-expected : List Answer
+class-expected = chunk 0 ∷ nothing ∷ chunk 0 ∷ refused 25 ∷ refused 25 ∷ refused 25 ∷ refused 25 ∷ refused 23 ∷ []
+
+pub class-targets-right : class-answers ≡ class-expected
+unfolding any below misfit falling bad-starts any-misfit some-in some-from bits role first-below some-role imports wins first-target unreached leaks dynamic-module pollutes polluted there strayed guarded user-target dynamic-target chosen choice bad-lists bad-entry bad-lengths bad-spans bad-numbers row23 row25 found.told find-by
+class-targets-right = refl

@@ -1,18 +1,21 @@
--- The choice of a merge target: what a target that is found is, and that the pass can take it. Sentences quoted are document 02's, (i). Assumes nothing.
+-- The choice of a merge target: what a target that is found is, and that the pass can take it. Sentences quoted are document 02's, (i), at the end (iv). Assumes nothing.
 use Prim.Native.Nat.{ℕ, zero, suc, _/_, _%_, _^_, _<_, _≤_}
 use native.Mathlib.Omega.{arith}
-use mathlib.Core.Path.{_≡_, refl, sym, ap, _∙_, subst}
+use mathlib.Core.Path.{_≡_, refl, sym, ap, _∙_, subst, fun-ext}
 use mathlib.Core.Logic.{_⊎_, inl, inr, ⊎-elim}
 use mathlib.Core.Bool.{Bool, true, false, not, cond, _&&_, _||_}
 use mathlib.Core.List.{List}
 use lib.ListN.{getD, length}
 use lib.Dec.{ltb, leb, eqb}
-use borrow.Author.Tests.{eq-eqb, ne-eqb, eqb-true, eqb-false, lt-leb, not-true, not-false}
+use borrow.Author.Tests.{eq-eqb, ne-eqb, eqb-true, eqb-false, ltb-true, lt-leb, not-true, not-false}
 use Rattle.graphs.specs.Bools.{and-left, and-right, or-cases, or-false-left, or-false-right, fails, Same, it, other, same?}
 use Rattle.graphs.specs.Lists.{some-none, none-below}
+use Rattle.graphs.specs.Tab.{tab, tab-length, tab-at}
 use Rattle.merge_state.specs.State.{None, misfit}
-use Rattle.merge_state.specs.Table.{any-misfit}
-use Rattle.merge_choice.specs.Choice.{Lent, bits, role, in-list, some-role, imports, wins, first-below, first-target, unreached, leaks, strayed, polluted, guarded, user-target, dynamic-target, chosen, choice}
+use Rattle.merge_state.specs.Table.{refused, any-misfit}
+use Rattle.merge_choice.specs.Choice.{Lent, bits, role, in-list, some-role, imports, wins, first-below, first-target, unreached, leaks, strayed, polluted, guarded, user-target, dynamic-target, chosen, choice, built-in}
+use Rattle.merge_choice.specs.Find.{row23, told, find, find-by}
+use Rattle.merge_choice.specs.Classes.{built-in-legal}
 use Rattle.merge_choice.specs.Named.{bits-le}
 use Rattle.merge_choice.specs.Chosen.{first-in}
 
@@ -207,3 +210,57 @@ pub chosen-proposals : (initial : ℕ) (proposals : List ℕ) → ((i : ℕ) →
 unfolding any-misfit
 chosen-proposals initial proposals f =
     none-below (λ i. misfit initial true (getD proposals i 0)) (length proposals) (λ i b. chosen-fits initial (getD proposals i 0) (f i b) (same? (getD proposals i 0) None))
+
+-- (iv) "With the built-in rows the choice is still the crate's": the call beside (i)'s answers as (i)'s
+pub built-in-classes : (k m : ℕ) (kinds : List ℕ) (set : ℕ) (l : Lent) → find-by built-in k m kinds set l ≡ find k m kinds set l
+unfolding find find-by
+built-in-classes k m kinds set l = ap (λ t. cond (row23 k m kinds l) (refused 23) (cond t (refused 25) (told (choice built-in kinds set l)))) built-in-legal
+
+-- a kind by its class alone: a common chunk, a user entry, a dynamic one
+unfoldable pub recode : List ℕ → ℕ → ℕ
+recode c kind = cond (eqb kind 8) 8 (cond (eqb (getD c kind 0) 1) 1 0)
+
+unfoldable pub recoded : List ℕ → List ℕ → List ℕ
+recoded c kinds = tab (λ i. recode c (getD kinds i 0)) (length kinds)
+
+same-count : (c kinds : List ℕ) → length (recoded c kinds) ≡ length kinds
+unfolding recoded
+same-count c kinds = tab-length (λ i. recode c (getD kinds i 0)) (length kinds)
+
+recoded-at : (c kinds : List ℕ) (b : ℕ) → b < length kinds → getD (recoded c kinds) b 0 ≡ recode c (getD kinds b 0)
+unfolding recoded
+recoded-at c kinds b h = tab-at (λ i. recode c (getD kinds i 0)) (length kinds) b h
+
+-- the role that a kind gives where a bit names its chunk
+same-role : (c : List ℕ) (kind : ℕ)
+    → _≡_ {A = ℕ} (cond (eqb kind 8) 3 (cond (eqb (getD c kind 0) 1) 2 1)) (cond (eqb (recode c kind) 8) 3 (cond (eqb (getD built-in (recode c kind) 0) 1) 2 1))
+unfolding recode
+same-role c kind = go (eqb kind 8) (eqb (getD c kind 0) 1)
+  where
+    go : (a b : Bool) → _≡_ {A = ℕ} (cond a 3 (cond b 2 1)) (cond (eqb (cond a 8 (cond b 1 0)) 8) 3 (cond (eqb (getD built-in (cond a 8 (cond b 1 0)) 0) 1) 2 1))
+    go true b = refl
+    go false true = refl
+    go false false = refl
+
+same-roles : (c kinds : List ℕ) (set b : ℕ) → role c kinds set b ≡ role built-in (recoded c kinds) set b
+unfolding role
+same-roles c kinds set b =
+    go (ltb b (bits (length kinds)) && eqb (set / 2 ^ b % 2) 1) refl
+    ∙ ap (λ j. cond (ltb b (bits j) && eqb (set / 2 ^ b % 2) 1) (cond (eqb (getD (recoded c kinds) b 0) 8) 3 (cond (eqb (getD built-in (getD (recoded c kinds) b 0) 0) 1) 2 1)) 0) (sym (same-count c kinds))
+  where
+    kind-at : b < length kinds → getD (recoded c kinds) b 0 ≡ recode c (getD kinds b 0)
+    kind-at h = recoded-at c kinds b h
+
+    go : (t : Bool) → (ltb b (bits (length kinds)) && eqb (set / 2 ^ b % 2) 1) ≡ t
+        → _≡_ {A = ℕ} (cond t (cond (eqb (getD kinds b 0) 8) 3 (cond (eqb (getD c (getD kinds b 0) 0) 1) 2 1)) 0)
+        (cond t (cond (eqb (getD (recoded c kinds) b 0) 8) 3 (cond (eqb (getD built-in (getD (recoded c kinds) b 0) 0) 1) 2 1)) 0)
+    go true q =
+        same-role c (getD kinds b 0)
+        ∙ ap (λ v. cond (eqb v 8) 3 (cond (eqb (getD built-in v 0) 1) 2 1)) (sym (kind-at (omega (arith, ltb-true b (bits (length kinds)) (and-left (ltb b (bits (length kinds))) _ q), bits-le (length kinds) .1))))
+    go false q = refl
+
+-- "with others only the split into user and dynamic entries changes": the choice is the built-in one on kinds recoded by their class
+pub only-the-split : (c kinds : List ℕ) (set : ℕ) (l : Lent) → choice c kinds set l ≡ choice built-in (recoded c kinds) set l
+unfolding choice
+only-the-split c kinds set l =
+    ap (λ r. chosen r (length kinds) l) (fun-ext (same-roles c kinds set)) ∙ ap (λ j. chosen (role built-in (recoded c kinds) set) j l) (sym (same-count c kinds))

@@ -1,5 +1,5 @@
--- What the call answers, refused or not. Sentences quoted are document 02's, (i). Assumes nothing.
-use Prim.Native.Nat.{ℕ}
+-- What the calls answer, refused or not. Sentences quoted are document 02's, (i), or (iv) where it says so. Assumes nothing.
+use Prim.Native.Nat.{ℕ, _%_}
 use mathlib.Core.Bool.{Bool, not, cond, _&&_, _||_, false}
 use mathlib.Core.List.{List}
 use lib.ListN.{getD, length}
@@ -40,5 +40,13 @@ row23 k m kinds l =
 unfoldable pub told : ℕ → Answer
 told x = cond (eqb x None) nothing (chunk x)
 
+-- (iv) "25 when there aren't eight, a row is neither 0 nor 1, or an odd row isn't 1"
+unfoldable pub row25 : List ℕ → Bool
+row25 c = other-length c 8 || (any-misfit 2 false c || some-below (λ i. eqb (i % 2) 1 && not (eqb (getD c i 0) 1)) 8)
+
 unfoldable pub find : ℕ → ℕ → List ℕ → ℕ → Lent → Answer
 find k m kinds set l = cond (row23 k m kinds l) (refused 23) (told (choice built-in kinds set l))
+
+-- (iv) "In a call beside (i)'s a bank lends its own eight class numbers"; 25 is "checked after 23"
+unfoldable pub find-by : List ℕ → ℕ → ℕ → List ℕ → ℕ → Lent → Answer
+find-by c k m kinds set l = cond (row23 k m kinds l) (refused 23) (cond (row25 c) (refused 25) (told (choice c kinds set l)))

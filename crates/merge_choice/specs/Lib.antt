@@ -9,3 +9,4 @@ pub mod Search
 pub mod Guards
 pub mod Rows
 pub mod Chosen
+pub mod Classes

@@ -1,6 +1,7 @@
 // The choice of the chunk that a candidate may be merged into. Of lists of lists each is lent with its starts: the modules of each chunk (mstarts,
 // modules), who imports each module statically (istarts, importers) and dynamically (dstarts, dynamics), the dynamic entries that each chunk
 // reaches (rstarts, reached).
+mod classes; // classes.rt: the row that refuses a bank's own classes
 mod guards; // guards.rt: what bars a target
 mod marks; // marks.rt: numbers of lists marked
 mod named; // named.rt: what the bits of a set name
@@ -15,7 +16,7 @@ ghost use mathlib.Core.Bool.{false};
 ghost use lib.ListN.{length};
 ghost use Rattle.entry_set.specs.Sets.{number};
 ghost use Rattle.merge_choice.specs.Choice.{lists, user-target, dynamic-target, choice};
-ghost use Rattle.merge_choice.specs.Find.{row23, told, find};
+ghost use Rattle.merge_choice.specs.Find.{row23, told, find, find-by};
 ghost use Rattle.merge_choice.specs.Named.{reads};
 ghost use Rattle.merge_choice.specs.Chosen.{lent, Ready, CanGuard};
 ghost use Rattle.merge_target.specs.Answers.{target-told};
@@ -219,5 +220,67 @@ pub fn merge_target(
         candidate,
         set,
         &classes,
+    ))
+}
+
+// The same by the classes of the entry kinds that are lent: eight, 0 dynamic and 1 user, odd rows 1.
+pub fn merge_target_by_classes(
+    counts: Counts,
+    kinds: &[u32],
+    entries: &[u32],
+    mstarts: &[u32],
+    modules: &[u32],
+    istarts: &[u32],
+    importers: &[u32],
+    dstarts: &[u32],
+    dynamics: &[u32],
+    rstarts: &[u32],
+    reached: &[u32],
+    effects: &[u32],
+    exports: &[u32],
+    candidate: &[u32],
+    set: EntrySet,
+    classes: &[u32],
+) -> TargetAnswer
+    ensures { λ r. ⌜ target-told r ≡ find-by (now (classes .entry)) (counts .chunks) (counts .modules) (now (kinds .entry)) (number set) (lent (now (entries .entry)) (now (mstarts .entry)) (now (modules .entry)) (now (istarts .entry)) (now (importers .entry)) (now (dstarts .entry)) (now (dynamics .entry)) (now (rstarts .entry)) (now (reached .entry)) (now (effects .entry)) (now (exports .entry)) (now (candidate .entry))) ⌝ }
+{
+    if row::is_refused(
+        counts,
+        kinds,
+        entries,
+        mstarts,
+        modules,
+        istarts,
+        importers,
+        dstarts,
+        dynamics,
+        rstarts,
+        reached,
+        effects,
+        exports,
+        candidate,
+    ) {
+        return TargetAnswer::Refused(23);
+    }
+    if classes::are_refused(classes) {
+        return TargetAnswer::Refused(25);
+    }
+    answer(choose(
+        counts,
+        kinds,
+        entries,
+        mstarts,
+        modules,
+        istarts,
+        importers,
+        dstarts,
+        dynamics,
+        rstarts,
+        reached,
+        effects,
+        exports,
+        candidate,
+        set,
+        classes,
     ))
 }

@@ -9,6 +9,8 @@ pub struct Case {
     pub entries: Entries,
     pub candidate: Vec<u32>,
     pub set: [u64; 4],
+    /// A bank's own classes, for the call that takes them.
+    pub classes: Option<Vec<u32>>,
 }
 
 /// The library under test.
@@ -24,18 +26,25 @@ pub fn reply(answer: Answer) -> Reply {
 
 /// The model as a library, with a bug.
 pub fn planted(plant: Plant) -> impl Fn(&Case) -> Reply {
-    move |case| reply(choose(&case.entries, &case.candidate, case.set, plant).0)
+    move |case| reply(choose(&case.entries, &case.candidate, case.set, case.classes.as_deref(), plant).0)
 }
 
 #[cfg(feature = "ours")]
 pub fn ours(case: &Case) -> Reply {
+    use crate::raw::{chunk_optimization_graph_merge_target, chunk_optimization_graph_merge_target_by_classes};
     let (entries, set) = (&case.entries, case.set);
     macro_rules! lent {
         ($($list:expr),*) => {
             // SAFETY: each pointer is a list's, followed by its length, and the lists are only read.
-            unsafe { crate::raw::chunk_optimization_graph_merge_target(
-                entries.k, entries.m, $($list.as_ptr(), $list.len(),)* set[0], set[1], set[2], set[3],
-            ) }
+            match &case.classes {
+                None => unsafe { chunk_optimization_graph_merge_target(
+                    entries.k, entries.m, $($list.as_ptr(), $list.len(),)* set[0], set[1], set[2], set[3],
+                ) },
+                Some(classes) => unsafe { chunk_optimization_graph_merge_target_by_classes(
+                    entries.k, entries.m, $($list.as_ptr(), $list.len(),)* set[0], set[1], set[2], set[3],
+                    classes.as_ptr(), classes.len(),
+                ) },
+            }
         };
     }
     lent!(
@@ -58,10 +67,10 @@ pub fn ours(case: &Case) -> Reply {
 impl Case {
     /// What decided, or where the original, the model and the library differ.
     pub fn check(&self, library: Option<Call>) -> Result<Decided, String> {
-        let (answer, decided) = choose(&self.entries, &self.candidate, self.set, "");
+        let (answer, decided) = choose(&self.entries, &self.candidate, self.set, self.classes.as_deref(), "");
         #[cfg(original)]
-        if decided != Decided::Refused {
-            let original = crate::target_original::choose(&self.entries, &self.candidate, self.set);
+        if answer.is_ok() {
+            let original = crate::target_original::choose(&self.recoded(), &self.candidate, self.set);
             if Ok(original) != answer {
                 return Err(format!("the original says {original:?}, the model {answer:?}, for {self:?}"));
             }
@@ -73,6 +82,17 @@ impl Case {
             }
         }
         Ok(decided)
+    }
+
+    /// The entries with kinds 1 for user entries and 0 for dynamic ones where the classes are lent: the original knows its own alone.
+    pub fn recoded(&self) -> Entries {
+        let mut entries = self.entries.clone();
+        if let Some(classes) = &self.classes {
+            for kind in entries.kinds.iter_mut().filter(|kind| **kind != 8) {
+                *kind = classes[*kind as usize];
+            }
+        }
+        entries
     }
 
     /// As numbers: README.md has the format.
@@ -91,7 +111,7 @@ impl Case {
             vec![self.candidate.len() as u32],
             self.candidate.clone(),
         ];
-        let told = reply(choose(entries, &self.candidate, self.set, "").0);
+        let told = reply(choose(entries, &self.candidate, self.set, self.classes.as_deref(), "").0);
         let numbers = parts.concat().into_iter().map(u64::from);
         [entries.k, entries.m].into_iter().chain(numbers).chain(self.set).chain([told.refusal, told.value]).collect()
     }
@@ -180,7 +200,20 @@ pub fn made_up(random: &mut Random, k: u64, m: u64) -> Case {
     let candidate = some(random, candidate, m);
     let percent = random.pick(&[20, 50, 80, 100]);
     let set = some_set(random, percent, k);
-    Case { entries, candidate, set }
+    Case { entries, candidate, set, classes: None }
+}
+
+/// Classes with odd rows 1, now and then with one thing wrong.
+pub fn some_classes(random: &mut Random) -> Vec<u32> {
+    let mut classes: Vec<u32> = (0..8).map(|row| if row % 2 == 1 { 1 } else { random.below(2) as u32 }).collect();
+    match random.below(24) {
+        0 => drop(classes.pop()),
+        1 => classes.push(1),
+        2 => classes[random.index(8)] = random.odd_number(),
+        3 => classes[2 * random.index(4) + 1] = 0,
+        _ => {}
+    }
+    classes
 }
 
 /// A case with one thing wrong, or perhaps nothing.
@@ -242,5 +275,5 @@ pub fn limit(k: u64, m: u64) -> Case {
         side_effects: vec![1; k as usize],
         observable_exports: vec![1; m as usize],
     };
-    Case { entries, candidate: vec![0, m as u32 - 1], set: [u64::MAX; 4] }
+    Case { entries, candidate: vec![0, m as u32 - 1], set: [u64::MAX; 4], classes: None }
 }

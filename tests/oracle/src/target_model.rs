@@ -1,4 +1,4 @@
-//! Document 02's requests (i) and its reading in docs/DECISIONS.md, worked out plainly: the choice of a merge target.
+//! Document 02's requests (i) and (iv), in the reading of docs/DECISIONS.md, worked out plainly: the choice of a merge target.
 
 /// Lists in one: list i is `items[starts[i]..starts[i + 1]]`.
 #[derive(Clone, Debug, Default, PartialEq, Eq)]
@@ -50,6 +50,7 @@ pub struct Entries {
 #[derive(Clone, Copy, Debug, PartialEq, Eq, Hash, PartialOrd, Ord)]
 pub enum Decided {
     Refused,
+    ClassesRefused,
     Common,
     NoEntry,
     UserNotImported,
@@ -62,13 +63,13 @@ pub enum Decided {
     UserFound,
 }
 
-/// Refusal 23, as a row's number, or the target.
+/// Refusal 23 or 25, as a row's number, or the target.
 pub type Answer = Result<Option<u32>, u64>;
 
 /// A bug planted for the self-test; the model proper has `""`.
 pub type Plant = &'static str;
 
-pub const PLANTS: [Plant; 11] = [
+pub const PLANTS: [Plant; 14] = [
     "the last wins",
     "the same module must import itself",
     "the next entry after a guard",
@@ -80,7 +81,19 @@ pub const PLANTS: [Plant; 11] = [
     "an emitted entry is dynamic",
     "a common chunk's entry module is read",
     "bits from 64 on name nothing",
+    "an odd class is free",
+    "25 before 23",
+    "lent classes are ignored",
 ];
+
+/// The class of each entry kind: 1 for user entries, which have bit 1 or 4.
+pub const BUILT_IN: [u32; 8] = [0, 1, 0, 1, 1, 1, 1, 1];
+
+fn row25(classes: &[u32], plant: Plant) -> bool {
+    classes.len() != 8
+        || classes.iter().any(|&class| class > 1)
+        || plant != "an odd class is free" && classes.iter().skip(1).step_by(2).any(|&class| class != 1)
+}
 
 fn row23(entries: &Entries, candidate: &[u32], plant: Plant) -> bool {
     let (k, m) = (entries.k, entries.m);
@@ -101,7 +114,7 @@ fn row23(entries: &Entries, candidate: &[u32], plant: Plant) -> bool {
 }
 
 /// Which named chunks are user entries, and which dynamic ones; none where a common chunk is named.
-fn split(entries: &Entries, set: [u64; 4], plant: Plant) -> Option<(Vec<u32>, Vec<u32>)> {
+fn split(entries: &Entries, set: [u64; 4], classes: &[u32], plant: Plant) -> Option<(Vec<u32>, Vec<u32>)> {
     let bits = if plant == "bits from 64 on name nothing" { 64 } else { 256 };
     let (mut users, mut dynamic) = (vec![], vec![]);
     for bit in (0..bits).filter(|&bit| u64::from(bit) < entries.k && set[bit as usize / 64] >> (bit % 64) & 1 == 1) {
@@ -109,7 +122,7 @@ fn split(entries: &Entries, set: [u64; 4], plant: Plant) -> Option<(Vec<u32>, Ve
             8 if plant == "a common chunk is skipped" => {}
             8 => return None,
             4 | 6 if plant == "an emitted entry is dynamic" => dynamic.push(bit),
-            kind if kind & 5 != 0 => users.push(bit),
+            kind if classes[kind as usize] == 1 => users.push(bit),
             _ => dynamic.push(bit),
         }
     }
@@ -156,12 +169,28 @@ fn exports_guard(entries: &Entries, candidate: &[u32], target: u32, dynamic: &[u
     candidate.iter().any(|&module| other(module) && entry(module) && shows(module)).then_some(Decided::Exports)
 }
 
-/// The answer, and what decided it.
-pub fn choose(entries: &Entries, candidate: &[u32], set: [u64; 4], plant: Plant) -> (Answer, Decided) {
+/// The answer, and what decided it; `classes` where a bank lends its own.
+pub fn choose(
+    entries: &Entries,
+    candidate: &[u32],
+    set: [u64; 4],
+    classes: Option<&[u32]>,
+    plant: Plant,
+) -> (Answer, Decided) {
+    let faulty = classes.is_some_and(|classes| row25(classes, plant));
+    if faulty && plant == "25 before 23" {
+        return (Err(25), Decided::ClassesRefused);
+    }
     if row23(entries, candidate, plant) {
         return (Err(23), Decided::Refused);
     }
-    let Some((users, dynamic)) = split(entries, set, plant) else { return (Ok(None), Decided::Common) };
+    if faulty {
+        return (Err(25), Decided::ClassesRefused);
+    }
+    let own = classes.filter(|_| plant != "lent classes are ignored");
+    let Some((users, dynamic)) = split(entries, set, own.unwrap_or(&BUILT_IN), plant) else {
+        return (Ok(None), Decided::Common);
+    };
     let user = !users.is_empty();
     let these = if user { &users } else { &dynamic };
     if these.is_empty() {

@@ -4,11 +4,11 @@ use std::process::ExitCode;
 use std::time::Instant;
 
 use oracle::run::Random;
-use oracle::target_cases::{Call, Case, damaged, limit, made_up, planted};
+use oracle::target_cases::{Call, Case, damaged, limit, made_up, planted, some_classes};
 use oracle::target_model::{Decided, PLANTS};
 
 const HELP: &str = "targets [--percent NUMBER] [--seed NUMBER] [--self-test] [--record CASES]
-  default      120,000 cases of the library if linked (feature `ours`), the original and the model
+  default      160,000 cases of the library if linked (feature `ours`), the original and the model
   --percent    so many hundredths of the default; below 100 the counts of what decided aren't held to 1,000
   --seed       another seed than 1
   --self-test  the model with each planted bug in the library's place: every one must be found
@@ -33,7 +33,10 @@ fn next(random: &mut Random) -> Case {
     };
     let m = if k == 0 && random.chance(20) { 0 } else { m };
     let case = made_up(random, k, m);
-    if random.chance(15) { damaged(random, &case) } else { case }
+    let mut case = if random.chance(15) { damaged(random, &case) } else { case };
+    // A quarter of the cases by classes of a bank's own.
+    case.classes = random.chance(25).then(|| some_classes(random));
+    case
 }
 
 fn run(library: Option<Call>, seed: u64, percent: u64) -> Result<BTreeMap<Decided, u64>, String> {
@@ -46,7 +49,7 @@ fn run(library: Option<Call>, seed: u64, percent: u64) -> Result<BTreeMap<Decide
             return Err(format!("{k} kinds and {m} modules: {decided:?}"));
         }
     }
-    for _ in 0..(120_000 * percent / 100).max(1) {
+    for _ in 0..(160_000 * percent / 100).max(1) {
         *counts.entry(next(&mut random).check(library)?).or_insert(0) += 1;
     }
     Ok(counts)
@@ -66,7 +69,7 @@ fn compare(seed: u64, percent: u64) -> ExitCode {
             println!("targets: the original, the model{library}: {cases} cases, seed {seed}, no disagreement");
             println!("  decided by: {} ({:.0} s)", words.join(", "), start.elapsed().as_secs_f32());
             let rare = |count: &u64| *count < AT_LEAST;
-            if percent >= 100 && (counts.len() < 11 || counts.values().any(rare)) {
+            if percent >= 100 && (counts.len() < 12 || counts.values().any(rare)) {
                 println!("targets: something decided fewer than {AT_LEAST} cases");
                 return ExitCode::FAILURE;
             }
