@@ -7,50 +7,15 @@ use mathlib.Core.Bool.{Bool, true, false, not, cond, _&&_, _||_, true≢false}
 use lib.Dec.{eqb}
 use borrow.Author.Tests.{eqb-true, eqb-false, eq-eqb, ne-eqb, not-true}
 use Rattle.graphs.specs.Bools.{or-cases, or-left, or-right, and-left, and-right, and-both, alike}
-use Rattle.graphs.specs.Lists.{some-below, some-give, some-take}
 use Rattle.graphs.specs.Walk.{Walk, one, more}
 use Rattle.graphs.specs.Walks.{join}
 use Rattle.graphs.specs.Walks as walks
 use mathlib.Core.List.{[]}
 use Rattle.merge_state.specs.State.{None, Graph, put, put-same, put-other}
-use Rattle.merge_state.specs.Merges.{counted, without}
+use Rattle.graph_walks.specs.Counted.{counted, without, counted-give, counted-take}
 use Rattle.merge_state.specs.Methods.{absorbed, warns}
 use Rattle.merge_state.specs.Warning.{fused, fuse, fuse-ends, fuse-cases, Sound, Looped, warning-exactly}
 use Rattle.merge_state.specs.Absorbed.{union, absorbed-source, absorbed-target, absorbed-other}
-
-module _ (d : ℕ → ℕ → Bool) (end : ℕ → ℕ) (n : ℕ) where
-  pub counted-give : (i j : ℕ) → i < n → j < n → d i j ≡ true → (end i ≡ end j → ⊥) → counted d end n (end i) (end j) ≡ true
-  unfolding counted
-  counted-give i j a b h ne =
-      and-both _ _ (ap not (ne-eqb (end i) (end j) ne))
-      (some-give (λ i′. eqb (end i′) (end i) && some-below (λ j′. eqb (end j′) (end j) && d i′ j′) n) n i a
-      (and-both _ _ (eq-eqb (end i) (end i) refl) (some-give (λ j′. eqb (end j′) (end j) && d i j′) n j b (and-both _ _ (eq-eqb (end j) (end j) refl) h))))
-
-  pub record Stored (x y : ℕ) : Type 0 where
-    pub source : ℕ
-    pub target : ℕ
-    pub source-in : source < n
-    pub target-in : target < n
-    pub from : end source ≡ x
-    pub to : end target ≡ y
-    pub edge : d source target ≡ true
-    pub differ : x ≡ y → ⊥
-
-  pub counted-take : (x y : ℕ) → counted d end n x y ≡ true → Stored x y
-  unfolding counted
-  counted-take x y h =
-      let r = some-take (λ i. eqb (end i) x && some-below (λ j. eqb (end j) y && d i j) n) n (and-right (not (eqb x y)) _ h) in
-      let q = some-take (λ j. eqb (end j) y && d (r .0) j) n (and-right (eqb (end (r .0)) x) _ (r .2)) in
-      record {
-        source = r .0;
-        target = q .0;
-        source-in = r .1;
-        target-in = q .1;
-        from = eqb-true _ _ (and-left (eqb (end (r .0)) x) _ (r .2));
-        to = eqb-true _ _ (and-left (eqb (end (q .0)) y) _ (q .2));
-        edge = and-right (eqb (end (q .0)) y) _ (q .2);
-        differ = eqb-false x y (not-true _ (and-left (not (eqb x y)) _ h));
-      }
 
 -- an edge between equal nodes
 moved : (f : ℕ → ℕ → Bool) {a b x y : ℕ} → a ≡ x → b ≡ y → f a b ≡ true → f x y ≡ true

@@ -2,7 +2,7 @@
 use Prim.Native.Nat.{ℕ, zero, suc}
 use mathlib.Core.Bool.{Bool, not, cond, _&&_}
 use lib.Dec.{eqb}
-use Rattle.graphs.specs.Lists.{some-below}
+use Rattle.graph_walks.specs.Counted.{counted}
 use Rattle.merge_state.specs.State.{None, Graph}
 
 -- "the chunk at the end of its merges", after at most k of them: `into x` is the chunk that x was merged into, or None
@@ -14,15 +14,6 @@ ending into (suc k) x = cond (eqb (into x) None) x (ending into k (into x))
 unfoldable pub merged-into : (ℕ → ℕ) → ℕ → ℕ → Bool
 merged-into into x y = not (eqb (into x) None) && eqb (into x) y
 
--- "a stored dependency on a merged chunk, or of one, counts as on or of the chunk at the end of its merges, and dependencies on oneself are
--- dropped"
-unfoldable pub counted : (ℕ → ℕ → Bool) → (ℕ → ℕ) → ℕ → ℕ → ℕ → Bool
-counted d end n x y = not (eqb x y) && some-below (λ i. eqb (end i) x && some-below (λ j. eqb (end j) y && d i j) n) n
-
--- all dependencies but the direct one of s on t
-unfoldable pub without : (ℕ → ℕ → Bool) → ℕ → ℕ → ℕ → ℕ → Bool
-without d s t x y = d x y && not (eqb x s && eqb y t)
-
 -- x "has already been merged away"
 abbrev pub gone : Graph → ℕ → Bool
 gone g x = not (eqb (g .into x) None)
@@ -31,7 +22,8 @@ gone g x = not (eqb (g .into x) None)
 abbrev pub end : Graph → ℕ → ℕ
 end g x = ending (g .into) (g .made) x
 
--- the dependencies that count in the mode
+-- the dependencies that count in the mode: "a stored dependency on a merged chunk, or of one, counts as on or of the chunk at the end of its
+-- merges, and dependencies on oneself are dropped"
 abbrev pub counts : Graph → ℕ → ℕ → Bool
 counts g = counted (g .depends) (end g) (g .made)
 

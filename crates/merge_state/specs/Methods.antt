@@ -8,8 +8,9 @@ use Rattle.graphs.specs.Count.{count}
 use Rattle.graphs.specs.Lists.{some-below, below}
 use Rattle.graphs.specs.Walk.{via}
 use Rattle.graph_walks.specs.Closed.{closed}
+use Rattle.graph_walks.specs.Counted.{without}
 use Rattle.merge_state.specs.State.{None, Graph, put, chunk-of, flag, at}
-use Rattle.merge_state.specs.Merges.{without, end, counts, waits}
+use Rattle.merge_state.specs.Merges.{end, counts, waits}
 
 -- Module m is listed with chunk x: "appends to the named chunk and or-s its side effects"; "assigned where it was put last".
 unfoldable pub appended : List ℕ → Graph → ℕ → ℕ → Graph
