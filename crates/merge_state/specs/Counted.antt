@@ -1,7 +1,7 @@
 -- Counted dependencies: what a merge makes of them, and what the warning says of them. Sentences quoted are document 02's, (vii) and (xiii). Assumes nothing.
 use Prim.Native.Nat.{ℕ, _<_}
 use native.Mathlib.Decide.{ℕ-discrete}
-use mathlib.Core.Path.{_≡_, refl, sym, ap, ap₂, subst, _∙_}
+use mathlib.Core.Path.{_≡_, refl, sym, ap, ap₂, subst, fun-ext, _∙_}
 use mathlib.Core.Logic.{_⊎_, inl, inr, ⊎-elim, _↔_}
 use mathlib.Core.Bool.{Bool, true, false, not, cond, _&&_, _||_, true≢false}
 use lib.Dec.{eqb}
@@ -20,6 +20,17 @@ use Rattle.merge_state.specs.Absorbed.{union, absorbed-source, absorbed-
 -- an edge between equal nodes
 moved : (f : ℕ → ℕ → Bool) {a b x y : ℕ} → a ≡ x → b ≡ y → f a b ≡ true → f x y ≡ true
 moved f p q h = sym (ap₂ f p q) ∙ h
+
+-- the ends of the first n chunks decide
+pub counted-ends : (d : ℕ → ℕ → Bool) (e f : ℕ → ℕ) (n : ℕ) → ((x : ℕ) → x < n → e x ≡ f x) → counted d e n ≡ counted d f n
+counted-ends d e f n q = fun-ext (λ x. fun-ext (λ y. alike _ _ (go e f q x y) (go f e (λ x b. sym (q x b)) x y)))
+  where
+    go : (e f : ℕ → ℕ) → ((x : ℕ) → x < n → e x ≡ f x) → (x y : ℕ) → counted d e n x y ≡ true → counted d f n x y ≡ true
+    go e f q x y h =
+        let r = counted-take d e n x y h in
+        let a : f (r .source) ≡ x = sym (q (r .source) (r .source-in)) ∙ r .from in
+        let b : f (r .target) ≡ y = sym (q (r .target) (r .target-in)) ∙ r .to in
+        moved (counted d f n) a b (counted-give d f n (r .source) (r .target) (r .source-in) (r .target-in) (r .edge) (λ g. r .differ (sym a ∙ g ∙ b)))
 
 -- A merge of s into t, both at the end of their merges: what is counted after it is the fused graph of what was counted before.
 module _ (d : ℕ → ℕ → Bool) (end : ℕ → ℕ) (n s t : ℕ) (apart : s ≡ t → ⊥) (s-end : end s ≡ s) (t-end : end t ≡ t) (s-in : s < n) (t-in : t < n) where
