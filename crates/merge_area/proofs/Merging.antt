@@ -14,12 +14,12 @@ use Rattle.graphs.specs.Lists.{below}
 use Rattle.graphs.specs.Walk.{cyclic}
 use Rattle.merge_state.specs.declared.Sizes.{Sizes}
 use Rattle.merge_state.specs.State.{None}
-use Rattle.merge_state.specs.Merges.{ending, merged-into}
-use Rattle.merge_area.specs.Layout.{cell, head, into}
-use Rattle.merge_area.specs.Read.{mode-in, into-in}
+use Rattle.merge_state.specs.Merges.{ending, merged-into, gone, waits}
+use Rattle.merge_area.specs.Layout.{cell, head, need, into}
+use Rattle.merge_area.specs.Read.{read, needs-in, mode-in, into-in}
 use Rattle.merge_area.specs.Consistent.{faults, lane-faults, merges-fault}
 use Rattle.merge_area.specs.Within.{Headed}
-use Rattle.merge_area.specs.Merged.{Range, Far, Inside, Led, Doubled, CanFollow, into-at, lane-range, first-far, far-on, far-less}
+use Rattle.merge_area.specs.Merged.{Range, Far, Inside, Led, Doubled, CanFollow, into-at, into-off, into-past, lane-range, first-far, far-on, far-less}
 
 -- one step is taken from the first k chunks
 pub record Stepped (f : ℕ → ℕ) (n k : ℕ) (l₀ l : List ℕ) : Type 0 where
@@ -125,6 +125,25 @@ module _ (n : ℕ) where
 -- the number of a merge, at its place
 pub left-at : {z : Sizes} {a : List ℕ} {n x p : ℕ} → CanFollow z a n → x < n → p ≡ into z x → getD a p 0 ≡ into-in z a x
 left-at {z} {a} {n} {x} can b e = ap (cell a) e ∙ sym (into-at z a x (can .on) (omega (arith, can .few)))
+
+-- a chunk that was merged away, and one that waits
+module _ (z : Sizes) (a : List ℕ) (x : ℕ) where
+  pub not-gone-off : mode-in z a ≡ false → false ≡ gone (read z a) x
+  not-gone-off m = rw (into-off z a m x)
+
+  pub not-gone-past : z .chunks ≤ x → false ≡ gone (read z a) x
+  not-gone-past h = rw (into-past z a x h)
+
+  pub gone-at : {p : ℕ} → mode-in z a ≡ true → x < z .chunks → p ≡ into z x → not (eqb (cell a p) None) ≡ gone (read z a) x
+  gone-at m b e = ap (λ v. not (eqb v None)) (ap (cell a) e ∙ sym (into-at z a x m b))
+
+  pub needless : {p : ℕ} → p ≡ need z x → x < z .chunks → cell a p ≡ 0 → false ≡ waits (read z a) x
+  unfolding needs-in
+  needless e b h = rw (lt-ltb x (z .chunks) b, sym (ap (cell a) e) ∙ h)
+
+  pub waits-at : {p : ℕ} {r : Bool} → p ≡ need z x → x < z .chunks → (cell a p ≡ 0 → ⊥) → r ≡ gone (read z a) x → not r ≡ waits (read z a) x
+  unfolding needs-in
+  waits-at e b h q = rw (lt-ltb x (z .chunks) b, ne-eqb (cell a (need z x)) 0 (λ k. h (ap (cell a) e ∙ k))) (ap not q)
 
 -- the tests of `merges-fault`, in order
 module _ (z : Sizes) (a : List ℕ) where

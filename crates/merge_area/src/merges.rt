@@ -2,6 +2,7 @@
 use crate::count_faults;
 use crate::header;
 use crate::places::into_place;
+use crate::places::need_place;
 use merge_state::NONE;
 use merge_state::Sizes;
 ghost use mathlib.Core.Path.{_≡_};
@@ -12,9 +13,9 @@ ghost use lib.Dec.{eqb};
 ghost use Rattle.graphs.specs.Lists.{some-below, below};
 ghost use Rattle.graphs.specs.Walk.{cyclic};
 ghost use Rattle.merge_state.specs.State.{None};
-ghost use Rattle.merge_state.specs.Merges.{merged-into};
+ghost use Rattle.merge_state.specs.Merges.{merged-into, gone, waits};
 ghost use Rattle.merge_area.specs.Layout.{cell, head};
-ghost use Rattle.merge_area.specs.Read.{mode-in, into-in};
+ghost use Rattle.merge_area.specs.Read.{read, mode-in, into-in};
 ghost use Rattle.merge_area.specs.Consistent.{lane-faults, merges-fault};
 ghost use Rattle.merge_area.specs.Within.{Headed};
 ghost use Rattle.merge_area.specs.Merged.{Inside, Led, Doubled, CanFollow};
@@ -25,6 +26,33 @@ pub fn is_mode(sizes: Sizes, area: &[u32]) -> bool
     ensures { λ r. ⌜ r ≡ mode-in sizes (now (area .entry)) ⌝ }
 {
     header(sizes, area, 5) != 0
+}
+
+// Chunk x was merged away, where merged chunks stand for their target.
+pub fn is_gone(sizes: Sizes, area: &[u32], x: usize) -> bool
+    requires { ⌜ Headed sizes (now area) ⌝ }
+    ensures { λ r. ⌜ r ≡ gone (read sizes (now (area .entry))) x ⌝ }
+{
+    if !is_mode(sizes, area) {
+        return false;
+    }
+    if sizes.chunks <= x {
+        return false;
+    }
+    let at = into_place(sizes, x);
+    area[at] != NONE
+}
+
+// Chunk x needs creation and wasn't merged away.
+pub fn is_waiting(sizes: Sizes, area: &[u32], x: usize) -> bool
+    requires { ⌜ Headed sizes (now area) × (x < sizes .chunks) ⌝ }
+    ensures { λ r. ⌜ r ≡ waits (read sizes (now (area .entry))) x ⌝ }
+{
+    let at = need_place(sizes, x);
+    if area[at] == 0 {
+        return false;
+    }
+    !is_gone(sizes, area, x)
 }
 
 // The chunk that x was merged into, as v tells, or x itself.
