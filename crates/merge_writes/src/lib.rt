@@ -4,6 +4,7 @@ use merge_area::places::entry_chunk_place;
 use merge_area::places::entry_module_place;
 use merge_area::places::head_place;
 use merge_area::places::home_place;
+use merge_area::places::into_place;
 use merge_area::places::key_place;
 use merge_area::places::need_place;
 use merge_area::places::set_chunk_place;
@@ -21,7 +22,7 @@ ghost use Rattle.graphs.specs.Count.{ind};
 ghost use Rattle.entry_set.specs.Sets.{number};
 ghost use Rattle.merge_state.specs.State.{yes};
 ghost use Rattle.merge_area.specs.Layout.{room};
-ghost use Rattle.merge_area.specs.Writes.{register-area, append-area, open-area, init-area, link, linked, calc-area, union-cell, merged-rows, merge-area, create-area};
+ghost use Rattle.merge_area.specs.Writes.{register-area, append-area, open-area, init-area, link, linked, calc-area, union-cell, merged-rows, absorb-area, record-area, merge-area, create-area};
 ghost use Rattle.merge_area.specs.Within.{Within};
 ghost use Rattle.merge_laws.specs.Can.{CanAppend, CanOpen, CanAssign, CanLink, CanLinked, CanCalc, CanMerge, CanMergeArea, CanCreate};
 
@@ -174,15 +175,35 @@ fn merge_rows(flags: &mut [u32], c: usize, target: usize, source: usize)
 }
 
 // The two rows, and the target's side effects.
-pub fn merge(sizes: Sizes, area: &mut [u32], target: ChunkIdx, source: ChunkIdx)
+fn absorb(sizes: Sizes, area: &mut [u32], target: ChunkIdx, source: ChunkIdx)
     requires { ⌜ CanMergeArea sizes (now area) (target .0) (source .0) ⌝ }
-    ensures { λ _. ⌜ now (area .exit) ≡ merge-area sizes (now (area .entry)) (target .0) (source .0) ⌝ }
+    ensures { λ _. ⌜ now (area .exit) ≡ absorb-area sizes (now (area .entry)) (target .0) (source .0) ⌝ }
 {
     let kept = side_place(sizes, target.0 as usize);
     let taken = side_place(sizes, source.0 as usize);
     let effects = or_flag(area[kept], area[taken] != 0);
     merge_rows(area, sizes.chunks, target.0 as usize, source.0 as usize);
     area[kept] = effects;
+}
+
+// Where merged chunks stand for their target, the source is recorded as merged into it.
+fn record_merge(sizes: Sizes, area: &mut [u32], target: ChunkIdx, source: ChunkIdx)
+    requires { ⌜ CanMergeArea sizes (now area) (target .0) (source .0) ⌝ }
+    ensures { λ _. ⌜ now (area .exit) ≡ record-area sizes (now (area .entry)) (target .0) (source .0) ⌝ }
+{
+    if merge_area::header(sizes, area, 5) == 0 {
+        return;
+    }
+    area[into_place(sizes, source.0 as usize)] = target.0;
+}
+
+// The target takes over the source's dependencies and side effects.
+pub fn merge(sizes: Sizes, area: &mut [u32], target: ChunkIdx, source: ChunkIdx)
+    requires { ⌜ CanMergeArea sizes (now area) (target .0) (source .0) ⌝ }
+    ensures { λ _. ⌜ now (area .exit) ≡ merge-area sizes (now (area .entry)) (target .0) (source .0) ⌝ }
+{
+    absorb(sizes, area, target, source);
+    record_merge(sizes, area, target, source);
 }
 
 // Chunk x is registered for the next number.
