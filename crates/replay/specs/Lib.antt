@@ -1,2 +1,0 @@
--- What the replay takes of its list. Assumes nothing.
-pub mod Compared
