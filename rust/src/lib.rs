@@ -5,8 +5,8 @@
 //! - [`MoveGraph`] holds atoms (groups of modules), each in a set of entry bits. Atoms with equal sets form a chunk. A
 //!   move of an atom to another set is accepted exactly when the chunk graph then has no cycle.
 //! - [`MergeGraph`] holds chunks with modules and dependencies. It warns of a merge exactly when the source depends
-//!   directly on the target, or the two fused lie on a cycle with another chunk; chunks merged away are not followed.
-//!   It merges, and runs the pass that decides about each chunk that needs creation.
+//!   directly on the target, or the two fused lie on a cycle with another chunk; chunks merged away are not followed,
+//!   unless they stand for their target ([`Mode`]). It merges, and runs the pass that decides about each chunk that needs creation.
 //!
 //! No call on a graph panics on odd numbers: it answers, or gives a [`Refusal`] and has changed nothing. Both types own
 //! their work area; [`lent`] has the same calls on areas that you lend, and [`raw`] the C interface.
@@ -34,7 +34,7 @@ pub mod raw;
 mod refusal;
 
 pub use entry_set::EntrySet;
-pub use merge_graph::{Assignment, ChunkIdx, InitialChunks, MergeGraph, ModuleIdx, Size};
+pub use merge_graph::{Assignment, ChunkIdx, InitialChunks, MergeGraph, Mode, ModuleIdx, Size};
 pub use move_graph::{Edge, Load, MoveGraph};
 pub use refusal::Refusal;
 

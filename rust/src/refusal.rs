@@ -45,6 +45,7 @@ impl Refusal {
             19 => "there is no room for another list entry",
             20 => "source and target are the same chunk",
             21 => "the merge graph's area is inconsistent",
+            28 => "a chunk has been merged away",
             _ => "no row of that number is known",
         }
     }
