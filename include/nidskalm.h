@@ -155,9 +155,9 @@ nidskalm_edge_reply reduced_chunk_graph_edge_at(
 /* Loads `initial` chunks: `module_starts` (initial + 1) and `modules` list their modules; set i of `sets` (w numbers
  * each) is the one of chunk set_chunks[i]. Where `mode` isn't 0, merged chunks stand for their target: a dependency on a
  * merged chunk, or of one, counts as on or of the chunk at the end of its merges. Choose it where the script writer
- * resolves an import of a merged chunk to its target: then no pass closes an import loop. With mode 0 merged chunks
- * are forgotten, as in the original. The smallest loop that this lets through: 0 depends on 1, and 3 on 2; merge 2
- * into 0, then 3 into 1. Neither is warned of; then 0 depends on 1, and 1 on 2, which is 0. */
+ * resolves an import of a merged chunk to its target: the warning then sees through what was merged away. With mode 0
+ * it doesn't, as in the original. The smallest loop that this lets through: 0 depends on 1, and 3 on 2; merge 2 into 0,
+ * then 3 into 1. Neither is warned of; then 0 depends on 1, and 1 on 2, which is 0. */
 nidskalm_reply chunk_optimization_graph_new(
     uint64_t c, uint64_t m, uint64_t l, uint64_t e,
     uint64_t initial, uint32_t mode,
@@ -229,7 +229,8 @@ nidskalm_reply chunk_optimization_graph_merge_chunk_dependencies(
  * chunk or NIDSKALM_NONE, a bar (nonzero bars merging), and the answers: kind 0 merged into chunk `number`, kind 1
  * created and registered under `number`. A chunk is merged into the proposed one if there is no bar and no warning, and
  * else created. Value: how many chunks needed creation. Where merged chunks stand for their target, a chunk that was
- * merged away is none of these: choose this mode, at loading, where the pass must close no import loop. */
+ * merged away is none of these, and warnings see through it: choose this mode, at loading, where imports of a merged
+ * chunk are resolved to its target. */
 nidskalm_reply chunk_optimization_graph_pass(
     uint64_t c, uint64_t m, uint64_t l, uint64_t e,
     uint32_t *area, size_t area_length,

@@ -42,7 +42,7 @@ pub enum Mode {
     /// It stays with the merged chunk, as in the original: the warning doesn't see through chunks that were merged away.
     Original = 0,
     /// It counts as on or of the chunk at the end of its merges. Choose this where the script writer resolves an import
-    /// of a merged chunk to its target: then no [`pass`](MergeGraph::pass) closes an import loop.
+    /// of a merged chunk to its target: the warning, and so the [`pass`](MergeGraph::pass), then sees through it.
     StandForTarget = 1,
 }
 
@@ -184,8 +184,8 @@ impl<'a> MergeGraph<'a> {
 
     /// Decides about each chunk that needs creation, in rising order: one proposal and one bar for each. A chunk is
     /// merged into the proposed one if there is no bar and no warning, and else created. In [`Mode::StandForTarget`] a
-    /// chunk that was merged away is no candidate, and none that was may be proposed (28); choose it where the pass must
-    /// close no import loop.
+    /// chunk that was merged away is no candidate, and none that was may be proposed (28); choose it where imports of a
+    /// merged chunk are resolved to its target.
     pub fn pass(&mut self, proposals: &[Option<ChunkIdx>], bars: &[bool]) -> Result<Vec<Assignment>, Refusal> {
         // A proposed chunk with the number of none isn't none: it becomes another that is never initial.
         let number = |chunk: &Option<ChunkIdx>| chunk.map_or(NONE, |chunk| chunk.0.min(NONE - 1));
