@@ -143,8 +143,7 @@ swapped-merges z a before after t s u v apart free alone =
     }
 
 -- (vii) of document 02: "Swapping two merges is promised here under the same condition, for the counted dependencies": they are those of equal areas
-pub swapped-counted : (z : Sizes) (a : List ℕ) (before after : List Call) (target source target′ source′ : ℕ)
-    → (source ≡ source′ → ⊥) → (source ≡ target′ → ⊥) → (source′ ≡ target → ⊥)
+pub swapped-counted : (z : Sizes) (a : List ℕ) (before after : List Call) (target source target′ source′ : ℕ) → (source ≡ source′ → ⊥) → (source ≡ target′ → ⊥) → (source′ ≡ target → ⊥)
     → counts (read z (ends z a (before ++ (merge-chunk-dependencies target source ∷ merge-chunk-dependencies target′ source′ ∷ after))))
     ≡ counts (read z (ends z a (before ++ (merge-chunk-dependencies target′ source′ ∷ merge-chunk-dependencies target source ∷ after))))
 swapped-counted z a before after t s u v apart free alone = ap (λ r. counts (read z r)) (swapped-merges z a before after t s u v apart free alone .area)
