@@ -1,5 +1,7 @@
 //! Plans a small split: folds shared code into entries where that is safe, then decides about the rest.
-use nidskalm::{Assignment, ChunkIdx, EntrySet, InitialChunks, Load, MergeGraph, Mode, ModuleIdx, MoveGraph, Refusal, Size};
+use nidskalm::{
+    Assignment, ChunkIdx, EntrySet, InitialChunks, Load, MergeGraph, Mode, ModuleIdx, MoveGraph, Refusal, Size,
+};
 
 fn bits(set: EntrySet) -> String {
     let bits: Vec<String> = set.bits().map(|bit| bit.to_string()).collect();

@@ -1,6 +1,7 @@
 //! Every call once through the safe crate, and the rows that only it can bring about.
 use nidskalm::{
-    Assignment, ChunkIdx, Edge, EntrySet, InitialChunks, Load, MergeGraph, Mode, ModuleIdx, MoveGraph, Refusal, Size, NONE,
+    Assignment, ChunkIdx, Edge, EntrySet, InitialChunks, Load, MergeGraph, Mode, ModuleIdx, MoveGraph, Refusal, Size,
+    NONE,
 };
 
 fn set(bits: u64) -> EntrySet {
@@ -114,10 +115,18 @@ fn refused_merges() {
     assert_eq!(row(MergeGraph::new(Size { modules: u64::MAX, ..SIZE }, INITIAL, Mode::Original, &effects)), 14);
     assert_eq!(row(MergeGraph::new(SIZE, INITIAL, Mode::Original, &effects[1..])), 15);
     let far = [EntrySet::from_bits([99])];
-    assert_eq!(row(MergeGraph::new(SIZE, InitialChunks { sets: &far, set_chunks: &[0], ..INITIAL }, Mode::Original, &effects)), 16);
+    assert_eq!(
+        row(MergeGraph::new(SIZE, InitialChunks { sets: &far, set_chunks: &[0], ..INITIAL }, Mode::Original, &effects)),
+        16
+    );
     let twice = [set(1), set(1)];
     assert_eq!(
-        row(MergeGraph::new(SIZE, InitialChunks { sets: &twice, set_chunks: &[0, 1], ..INITIAL }, Mode::Original, &effects)),
+        row(MergeGraph::new(
+            SIZE,
+            InitialChunks { sets: &twice, set_chunks: &[0, 1], ..INITIAL },
+            Mode::Original,
+            &effects
+        )),
         17
     );
     let mut graph = MergeGraph::new(SIZE, INITIAL, Mode::Original, &effects).unwrap();

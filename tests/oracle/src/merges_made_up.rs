@@ -237,7 +237,8 @@ fn random_merges(random: &mut Random, made: u64) -> Vec<Option<u32>> {
         let later = &order[place + 1..];
         if !later.is_empty() && random.chance(share) {
             // Often the very next, so that chains are long.
-            merged_into[chunk as usize] = Some(if random.chance(50) { later[0] } else { later[random.index(later.len())] });
+            merged_into[chunk as usize] =
+                Some(if random.chance(50) { later[0] } else { later[random.index(later.len())] });
         }
     }
     merged_into

@@ -72,7 +72,8 @@ fn decode_merges(at: MergeLayout, area: &[u32], made: usize) -> Option<Vec<Optio
     if (0..at.c).any(|chunk| into(chunk) != NONE && (chunk >= made || into(chunk) as usize >= made)) {
         return None;
     }
-    let merged_into: Vec<Option<u32>> = (0..made).map(|chunk| Some(into(chunk)).filter(|&chunk| chunk != NONE)).collect();
+    let merged_into: Vec<Option<u32>> =
+        (0..made).map(|chunk| Some(into(chunk)).filter(|&chunk| chunk != NONE)).collect();
     for chunk in 0..made {
         let mut merges = 0;
         let mut at = chunk;

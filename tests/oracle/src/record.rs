@@ -293,8 +293,13 @@ fn at_limits(random: &mut Random) -> Vec<Vec<u64>> {
         lines.push(record_moves(&moves_case(random, moves_made_up::Shape { a, d, e, n, calls: 12 })));
     }
     for (c, m, l, e) in [(1, 0, 0, 0), (1, 1, 1, 1), (40, 30, 60, 64), (40, 30, 60, 65), (20, 30, 40, 256)] {
-        let shape =
-            merges_made_up::Shape { size: Size { c, m, l, e }, initial: c.div_ceil(3), mode: 0, pairs: c / 4, calls: 30 };
+        let shape = merges_made_up::Shape {
+            size: Size { c, m, l, e },
+            initial: c.div_ceil(3),
+            mode: 0,
+            pairs: c / 4,
+            calls: 30,
+        };
         lines.push(record_merges(&merges_case(random, shape)));
     }
     lines
