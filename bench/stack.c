@@ -33,7 +33,7 @@ static void edge_count(void) { refusal = reduced_chunk_graph_edge_count(LOAD).re
 static void edge_at(void) { refusal = reduced_chunk_graph_edge_at(LOAD, 3).refusal; }
 
 static void merge_new(void) {
-    refusal = chunk_optimization_graph_new(C, M, L, E, 1, module_starts, 2, list, 1, sets, 4 * NAMED, list, NAMED,
+    refusal = chunk_optimization_graph_new(C, M, L, E, 1, 0, module_starts, 2, list, 1, sets, 4 * NAMED, list, NAMED,
         effects, M, merge_area, sizeof merge_area / sizeof *merge_area).refusal;
 }
 static void init_module(void) {

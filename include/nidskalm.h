@@ -33,10 +33,12 @@
  *   18  no room for a new chunk; or initial + created so far + candidates > C (pass)
  *   19  no room for a list entry
  *   20  source is target
- *   21  the merge area is inconsistent (later calls)
+ *   21  the merge area is inconsistent, or its merges run in a ring (later calls)
  *   23  over 1,024 kinds or 4,096 modules, a list of the wrong length, faulty starts, or a kind or index out of range
  *       (choice of a merge target)
  *   25  there aren't eight classes, one is neither 0 nor 1, or an odd one isn't 1; after 23
+ *   28  source, target or a proposed chunk has been merged away, where merged chunks stand for their target; right after
+ *       20
  *
  * A set of E bits is w = E / 64, rounded up, numbers of 64 bits, lowest first, bit 0 lowest.
  */
@@ -154,10 +156,14 @@ nidskalm_edge_reply reduced_chunk_graph_edge_at(
  */
 
 /* Loads `initial` chunks: `module_starts` (initial + 1) and `modules` list their modules; set i of `sets` (w numbers
- * each) is the one of chunk set_chunks[i]. */
+ * each) is the one of chunk set_chunks[i]. Where `mode` isn't 0, merged chunks stand for their target: a dependency on a
+ * merged chunk, or of one, counts as on or of the chunk at the end of its merges. Choose it where the script writer
+ * resolves an import of a merged chunk to its target: the warning then sees through what was merged away. With mode 0
+ * it doesn't, as in the original. The smallest loop that this lets through: 0 depends on 1, and 3 on 2; merge 2 into 0,
+ * then 3 into 1. Neither is warned of; then 0 depends on 1, and 1 on 2, which is 0. */
 nidskalm_reply chunk_optimization_graph_new(
     uint64_t c, uint64_t m, uint64_t l, uint64_t e,
-    uint64_t initial,
+    uint64_t initial, uint32_t mode,
     const uint32_t *module_starts, size_t module_starts_length,
     const uint32_t *modules, size_t modules_length,
     const uint64_t *sets, size_t sets_length,
@@ -201,19 +207,22 @@ nidskalm_reply chunk_optimization_graph_calc_chunk_dependencies(
 
 /* The warning before source is merged into target. Value 1 exactly when source depends directly on target, or the two
  * fused lie on a cycle with another chunk. It follows the dependencies that chunks have now. A merge takes those of its
- * source away, so no cycle through a chunk that was merged away is seen. */
+ * source away, so no cycle through a chunk that was merged away is seen. Where merged chunks stand for their target:
+ * value 1 exactly when the two fused lie on a cycle with another chunk, by the dependencies that count then. */
 nidskalm_reply chunk_optimization_graph_would_create_circular_dependency(
     uint64_t c, uint64_t m, uint64_t l, uint64_t e,
     const uint32_t *area, size_t area_length,
     uint32_t source, uint32_t target);
 
-/* Value 1 where `from` reaches `to` in one step or more. */
+/* Value 1 where `from` reaches `to` in one step or more. Where merged chunks stand for their target, each of the two
+ * stands for the end of its merges, and the dependencies that count are followed. */
 nidskalm_reply chunk_optimization_graph_is_reachable(
     uint64_t c, uint64_t m, uint64_t l, uint64_t e,
     const uint32_t *area, size_t area_length,
     uint32_t from, uint32_t to);
 
-/* Gives target the dependencies of source, which loses them, whatever the warning would say. */
+/* Gives target the dependencies of source, which loses them, whatever the warning would say. Where merged chunks stand
+ * for their target (see chunk_optimization_graph_new for when to choose this), the merge is recorded. */
 nidskalm_reply chunk_optimization_graph_merge_chunk_dependencies(
     uint64_t c, uint64_t m, uint64_t l, uint64_t e,
     uint32_t *area, size_t area_length,
@@ -222,7 +231,9 @@ nidskalm_reply chunk_optimization_graph_merge_chunk_dependencies(
 /* The pass over the chunks needing creation, in rising order. All four lists have one item for each: a proposed initial
  * chunk or NIDSKALM_NONE, a bar (nonzero bars merging), and the answers: kind 0 merged into chunk `number`, kind 1
  * created and registered under `number`. A chunk is merged into the proposed one if there is no bar and no warning, and
- * else created. Value: how many chunks needed creation. */
+ * else created. Value: how many chunks needed creation. Where merged chunks stand for their target, a chunk that was
+ * merged away is none of these, and warnings see through it: choose this mode, at loading, where imports of a merged
+ * chunk are resolved to its target. */
 nidskalm_reply chunk_optimization_graph_pass(
     uint64_t c, uint64_t m, uint64_t l, uint64_t e,
     uint32_t *area, size_t area_length,

@@ -51,7 +51,7 @@ static void merges(void) {
     const uint64_t set = 3;
     uint32_t kind[1] = {9}, number[1] = {9};
     nidskalm_reply reply = chunk_optimization_graph_new(
-        4, 3, 4, 2, 2, module_starts, 3, modules, 2, &set, 0, modules, 0, effects, 3,
+        4, 3, 4, 2, 2, 0, module_starts, 3, modules, 2, &set, 0, modules, 0, effects, 3,
         merge_area, sizeof merge_area / sizeof *merge_area);
     expect("loading chunks", reply.refusal, reply.value, 0, 0);
     reply = chunk_optimization_graph_init_module_assignment(SIZE, 2, &set, 1, effects, 3);

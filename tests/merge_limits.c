@@ -40,7 +40,7 @@ static void begin(void) {
     const uint32_t starts[] = {0, 1, 2}, modules[] = {0, 1}, chunks[] = {0};
     const uint64_t sets[] = {1};
     fill(AREA, 7);
-    done("two initial chunks", chunk_optimization_graph_new(FOUR, 2, starts, 3, modules, 2, sets, 1, chunks, 1, effects, 4, AREA));
+    done("two initial chunks", chunk_optimization_graph_new(FOUR, 2, 0, starts, 3, modules, 2, sets, 1, chunks, 1, effects, 4, AREA));
 }
 
 /* Modules 2 and 3 in chunks that need creation; 0 depends on 1, and 3 on 2. */
@@ -126,7 +126,7 @@ static void smallest(void) {
     const uint32_t starts[] = {0, 0}, none[] = {0};
     const uint64_t set = 1;
     fill(SMALL, 7);
-    done("C = 1", chunk_optimization_graph_new(ONE, 1, starts, 2, none, 0, &set, 0, none, 0, none, 1, SMALL));
+    done("C = 1", chunk_optimization_graph_new(ONE, 1, 0, starts, 2, none, 0, &set, 0, none, 0, none, 1, SMALL));
     done("a set of its own", chunk_optimization_graph_init_module_assignment(ONE, SMALL, 0, &set, 1, none, 1));
     done("a module in the chunk", chunk_optimization_graph_add_module_to_chunk(ONE, SMALL, 0, 0, none, 1));
     said("it reaches itself", chunk_optimization_graph_is_reachable(ONE, SMALL, 0, 0));
@@ -139,7 +139,7 @@ static void whole(void) {
     const uint32_t starts[5] = {0}, none[] = {0};
     const uint64_t set = 4;
     fill(AREA, 7);
-    done("initial = C", chunk_optimization_graph_new(FOUR, 4, starts, 5, none, 0, &set, 0, none, 0, no_effects, 4, AREA));
+    done("initial = C", chunk_optimization_graph_new(FOUR, 4, 0, starts, 5, none, 0, &set, 0, none, 0, no_effects, 4, AREA));
     done("a set of its own", chunk_optimization_graph_init_module_assignment(FOUR, AREA, 0, &set, 1, no_effects, 4));
     done("the last key", chunk_optimization_graph_register_chunk_graph_index(FOUR, AREA, 3, 0));
     done("one past it", chunk_optimization_graph_register_chunk_graph_index(FOUR, AREA, 4, 0));
@@ -152,7 +152,7 @@ static void loaded(void) {
     const uint32_t starts[] = {0, 2, 3}, modules[] = {3, 0, 3}, chunks[] = {0, 1};
     const uint64_t sets[] = {1, 2};
     fill(AREA, 7);
-    done("a loading", chunk_optimization_graph_new(FOUR, 2, starts, 3, modules, 3, sets, 2, chunks, 2, effects, 4, AREA));
+    done("a loading", chunk_optimization_graph_new(FOUR, 2, 0, starts, 3, modules, 3, sets, 2, chunks, 2, effects, 4, AREA));
     say("chunks made", area[MADE]);
     say("sets", area[SETS]);
     say("list entries", area[ENTRIES]);
@@ -180,7 +180,7 @@ typedef struct {
 
 static void load_into(const char *name, load x, uint32_t *into, size_t length) {
     nidskalm_reply reply = chunk_optimization_graph_new(
-        FOUR, x.initial, x.starts, x.initial + 1, x.modules, x.modules_length, x.sets, x.sets_length, x.chunks, x.chunks_length,
+        FOUR, x.initial, 0, x.starts, x.initial + 1, x.modules, x.modules_length, x.sets, x.sets_length, x.chunks, x.chunks_length,
         no_effects, 4, into, length);
     done(name, reply);
 }

@@ -208,7 +208,7 @@ static void load(graph *x) {
     const uint32_t *chunks = smalls(pairs);
     x->effects = smalls(x->m);
     done_told(chunk_optimization_graph_new(
-        SIZES(x), initial, starts, initial + 1, modules, count, sets, pairs * x->w, chunks, pairs, x->effects, x->m,
+        SIZES(x), initial, 0, starts, initial + 1, modules, count, sets, pairs * x->w, chunks, pairs, x->effects, x->m,
         x->area, x->length));
 }
 

@@ -1,5 +1,7 @@
 //! Plans a small split: folds shared code into entries where that is safe, then decides about the rest.
-use nidskalm::{Assignment, ChunkIdx, EntrySet, InitialChunks, Load, MergeGraph, ModuleIdx, MoveGraph, Refusal, Size};
+use nidskalm::{
+    Assignment, ChunkIdx, EntrySet, InitialChunks, Load, MergeGraph, Mode, ModuleIdx, MoveGraph, Refusal, Size,
+};
 
 fn bits(set: EntrySet) -> String {
     let bits: Vec<String> = set.bits().map(|bit| bit.to_string()).collect();
@@ -27,7 +29,7 @@ fn main() -> Result<(), Refusal> {
     // name no chunk yet, so they get chunks 2 and 3, which need creation. Module 0 needs 2, 1 needs 3, and 3 needs 0.
     let size = Size { chunks: 8, modules: 4, entries: 16, entry_bits: 2 };
     let initial = InitialChunks { module_starts: &[0, 1, 2], modules: &[0, 1], sets: &[], set_chunks: &[] };
-    let mut merges = MergeGraph::new(size, initial, &[0; 4])?;
+    let mut merges = MergeGraph::new(size, initial, Mode::Original, &[0; 4])?;
     merges.init_module_assignment(ModuleIdx(2), EntrySet::from(3))?;
     merges.init_module_assignment(ModuleIdx(3), EntrySet::from(2))?;
     merges.calc_chunk_dependencies(&[0, 1, 2, 2, 3], &[2, 3, 0])?;

@@ -5,7 +5,7 @@
 //! chunks, and those of chunks and modules of [`Entries`], are taken from the lengths of the lists in [`Load`],
 //! [`InitialChunks`] and [`Entries`]. Every row of refusals can still occur.
 use crate::raw::{self, EdgeReply, Reply, SetReply};
-use crate::{Entries, InitialChunks, Load, Size};
+use crate::{Entries, InitialChunks, Load, Mode, Size};
 
 /// Numbers that a move graph's area must have, or none where the sizes are over the limits.
 pub fn move_area_length(load: &Load, sets: u64) -> Option<usize> {
@@ -96,6 +96,7 @@ pub fn reduced_chunk_graph_edge_at(load: &Load, n: u64, area: &[u32], k: u64) ->
 pub fn chunk_optimization_graph_new(
     size: Size,
     initial: &InitialChunks,
+    mode: Mode,
     sets: &[u64],
     side_effects: &[u32],
     area: &mut [u32],
@@ -104,6 +105,7 @@ pub fn chunk_optimization_graph_new(
         chunk_optimization_graph_new,
         size,
         initial.module_starts.len().saturating_sub(1) as u64,
+        mode as u32,
         initial.module_starts.as_ptr(),
         initial.module_starts.len(),
         initial.modules.as_ptr(),

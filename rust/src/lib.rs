@@ -5,8 +5,8 @@
 //! - [`MoveGraph`] holds atoms (groups of modules), each in a set of entry bits. Atoms with equal sets form a chunk. A
 //!   move of an atom to another set is accepted exactly when the chunk graph then has no cycle.
 //! - [`MergeGraph`] holds chunks with modules and dependencies. It warns of a merge exactly when the source depends
-//!   directly on the target, or the two fused lie on a cycle with another chunk; chunks merged away are not followed.
-//!   It merges, and runs the pass that decides about each chunk that needs creation.
+//!   directly on the target, or the two fused lie on a cycle with another chunk; chunks merged away are not followed,
+//!   unless they stand for their target ([`Mode`]). It merges, and runs the pass that decides about each chunk that needs creation.
 //!
 //! [`Entries`] chooses the chunk that such a chunk may be merged into.
 //!
@@ -38,7 +38,7 @@ mod refusal;
 
 pub use entries::Entries;
 pub use entry_set::EntrySet;
-pub use merge_graph::{Assignment, ChunkIdx, InitialChunks, MergeGraph, ModuleIdx, Size};
+pub use merge_graph::{Assignment, ChunkIdx, InitialChunks, MergeGraph, Mode, ModuleIdx, Size};
 pub use move_graph::{Edge, Load, MoveGraph};
 pub use refusal::Refusal;
 

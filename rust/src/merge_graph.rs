@@ -36,6 +36,16 @@ pub struct InitialChunks<'a> {
     pub set_chunks: &'a [u32],
 }
 
+/// What a dependency on a merged chunk, or of one, means.
+#[derive(Clone, Copy, Debug, PartialEq, Eq)]
+pub enum Mode {
+    /// It stays with the merged chunk, as in the original: the warning doesn't see through chunks that were merged away.
+    Original = 0,
+    /// It counts as on or of the chunk at the end of its merges. Choose this where the script writer resolves an import
+    /// of a merged chunk to its target: the warning, and so the [`pass`](MergeGraph::pass), then sees through it.
+    StandForTarget = 1,
+}
+
 /// What the pass did with a chunk that needed creation.
 #[derive(Clone, Copy, Debug, PartialEq, Eq)]
 pub enum Assignment {
@@ -51,12 +61,30 @@ pub enum Assignment {
 /// [`would_create_circular_dependency`](Self::would_create_circular_dependency), would say; only the
 /// [`pass`](Self::pass) asks it first.
 ///
+/// The [`Mode`] decides what becomes of a merged chunk. The smallest loop that [`Mode::Original`] lets through: 0 depends
+/// on 1, and 3 on 2. Merge 2 into 0, then 3 into 1; then 0 depends on 1, and 1 on 2, which is 0.
+///
 /// ```
-/// use nidskalm::{Assignment, ChunkIdx, EntrySet, InitialChunks, MergeGraph, ModuleIdx, Size};
+/// use nidskalm::{ChunkIdx, InitialChunks, MergeGraph, Mode, Size};
+///
+/// let size = Size { chunks: 4, modules: 4, entries: 4, entry_bits: 1 };
+/// let initial = InitialChunks { module_starts: &[0, 1, 2, 3, 4], modules: &[0, 1, 2, 3], sets: &[], set_chunks: &[] };
+/// for (mode, warned) in [(Mode::Original, false), (Mode::StandForTarget, true)] {
+///     let mut graph = MergeGraph::new(size, initial, mode, &[0; 4])?;
+///     graph.calc_chunk_dependencies(&[0, 1, 1, 1, 2], &[1, 2])?;
+///     assert!(!graph.would_create_circular_dependency(ChunkIdx(2), ChunkIdx(0))?);
+///     graph.merge_chunk_dependencies(ChunkIdx(0), ChunkIdx(2))?;
+///     assert_eq!(graph.would_create_circular_dependency(ChunkIdx(3), ChunkIdx(1))?, warned);
+/// }
+/// # Ok::<(), nidskalm::Refusal>(())
+/// ```
+///
+/// ```
+/// use nidskalm::{Assignment, ChunkIdx, EntrySet, InitialChunks, MergeGraph, Mode, ModuleIdx, Size};
 ///
 /// let size = Size { chunks: 4, modules: 3, entries: 8, entry_bits: 2 };
 /// let initial = InitialChunks { module_starts: &[0, 1, 2], modules: &[0, 1], sets: &[], set_chunks: &[] };
-/// let mut graph = MergeGraph::new(size, initial, &[0, 0, 1])?;
+/// let mut graph = MergeGraph::new(size, initial, Mode::StandForTarget, &[0, 0, 1])?;
 /// // Module 2 belongs to entries 0 and 1: a chunk that needs creation. Module 0 depends on it.
 /// graph.init_module_assignment(ModuleIdx(2), EntrySet::from(3))?;
 /// graph.calc_chunk_dependencies(&[0, 1, 1, 1], &[2])?;
@@ -74,10 +102,10 @@ pub struct MergeGraph<'a> {
 
 impl<'a> MergeGraph<'a> {
     /// Loads the initial chunks. `side_effects` has a number for each module, nonzero means yes.
-    pub fn new(size: Size, initial: InitialChunks, side_effects: &'a [u32]) -> Result<Self, Refusal> {
+    pub fn new(size: Size, initial: InitialChunks, mode: Mode, side_effects: &'a [u32]) -> Result<Self, Refusal> {
         let (list, whole) = flat(initial.sets, size.entry_bits.div_ceil(64).min(4) as usize);
         let mut area = vec![0; lent::merge_area_length(size).unwrap_or(0)];
-        let reply = lent::chunk_optimization_graph_new(size, &initial, &list, side_effects, &mut area);
+        let reply = lent::chunk_optimization_graph_new(size, &initial, mode, &list, side_effects, &mut area);
         // Without entry bits the list is empty for any number of sets; and a bit may have been cut off.
         let row = Refusal::first(reply.refusal, initial.sets.len() != initial.set_chunks.len(), 15);
         let row = Refusal::first(row, !whole, 16);
@@ -130,20 +158,24 @@ impl<'a> MergeGraph<'a> {
     /// fused lie on a cycle with another chunk.
     ///
     /// It follows the dependencies that chunks have now. A merge takes those of its source away, so no cycle through a
-    /// chunk that was merged away is seen.
+    /// chunk that was merged away is seen. In [`Mode::StandForTarget`]: true exactly when the two fused lie on a cycle
+    /// with another chunk, by the dependencies that count then.
     pub fn would_create_circular_dependency(&self, source: ChunkIdx, target: ChunkIdx) -> Result<bool, Refusal> {
         let (size, area) = (self.size, &self.area);
         let reply = lent::chunk_optimization_graph_would_create_circular_dependency(size, area, source.0, target.0);
         Refusal::check(reply.refusal, reply.value == 1)
     }
 
-    /// Whether one chunk reaches another in one step or more.
+    /// Whether one chunk reaches another in one step or more; in [`Mode::StandForTarget`] each of them stands for the end
+    /// of its merges, and the dependencies that count are followed.
     pub fn is_reachable(&self, from: ChunkIdx, to: ChunkIdx) -> Result<bool, Refusal> {
         let reply = lent::chunk_optimization_graph_is_reachable(self.size, &self.area, from.0, to.0);
         Refusal::check(reply.refusal, reply.value == 1)
     }
 
-    /// Gives target the dependencies of source, which loses them, whatever the warning would say.
+    /// Gives target the dependencies of source, which loses them, whatever the warning would say. In
+    /// [`Mode::StandForTarget`], the one to choose where imports of a merged chunk are resolved to its target, the merge
+    /// is recorded, and neither may have been merged away (28).
     pub fn merge_chunk_dependencies(&mut self, target: ChunkIdx, source: ChunkIdx) -> Result<(), Refusal> {
         let (size, area) = (self.size, &mut self.area);
         let reply = lent::chunk_optimization_graph_merge_chunk_dependencies(size, area, target.0, source.0);
@@ -151,7 +183,9 @@ impl<'a> MergeGraph<'a> {
     }
 
     /// Decides about each chunk that needs creation, in rising order: one proposal and one bar for each. A chunk is
-    /// merged into the proposed one if there is no bar and no warning, and else created.
+    /// merged into the proposed one if there is no bar and no warning, and else created. In [`Mode::StandForTarget`] a
+    /// chunk that was merged away is no candidate, and none that was may be proposed (28); choose it where imports of a
+    /// merged chunk are resolved to its target.
     pub fn pass(&mut self, proposals: &[Option<ChunkIdx>], bars: &[bool]) -> Result<Vec<Assignment>, Refusal> {
         // A proposed chunk with the number of none isn't none: it becomes another that is never initial.
         let number = |chunk: &Option<ChunkIdx>| chunk.map_or(NONE, |chunk| chunk.0.min(NONE - 1));

@@ -77,7 +77,7 @@ unsafe extern "C" {
     pub fn reduced_chunk_graph_edge_at(a: u64, d: u64, e: u64, n: u64, starts: *const u32, starts_length: usize, dependencies: *const u32, dependencies_length: usize, hosts: *const u32, hosts_length: usize, area: *const u32, area_length: usize, k: u64) -> EdgeReply;
 
     /// Loads a merge graph.
-    pub fn chunk_optimization_graph_new(c: u64, m: u64, l: u64, e: u64, initial: u64, module_starts: *const u32, module_starts_length: usize, modules: *const u32, modules_length: usize, sets: *const u64, sets_length: usize, set_chunks: *const u32, set_chunks_length: usize, side_effects: *const u32, side_effects_length: usize, area: *mut u32, area_length: usize) -> Reply;
+    pub fn chunk_optimization_graph_new(c: u64, m: u64, l: u64, e: u64, initial: u64, mode: u32, module_starts: *const u32, module_starts_length: usize, modules: *const u32, modules_length: usize, sets: *const u64, sets_length: usize, set_chunks: *const u32, set_chunks_length: usize, side_effects: *const u32, side_effects_length: usize, area: *mut u32, area_length: usize) -> Reply;
     /// Appends a module to the chunk of a set, or to a new chunk that needs creation.
     pub fn chunk_optimization_graph_init_module_assignment(c: u64, m: u64, l: u64, e: u64, area: *mut u32, area_length: usize, module: u32, bits: *const u64, bits_length: usize, side_effects: *const u32, side_effects_length: usize) -> Reply;
     /// Appends a module to a chunk.

@@ -46,6 +46,7 @@ impl Refusal {
             21 => "the merge graph's area is inconsistent",
             23 => "over 1,024 kinds or 4,096 modules, or a list with a wrong length, faulty starts, or a kind or index out of range",
             25 => "the entry classes aren't eight, one is neither 0 nor 1, or an odd one isn't 1",
+            28 => "a chunk has been merged away",
             _ => "no row of that number is known",
         }
     }
@@ -87,7 +88,7 @@ mod tests {
         let unknown = Refusal(22).condition();
         assert_eq!(Refusal(13).condition(), unknown, "13 is no row any more");
         let mut seen = BTreeSet::from([unknown]);
-        for row in (1..=12).chain(14..=21).chain([23, 25]) {
+        for row in (1..=12).chain(14..=21).chain([23, 25, 28]) {
             let words = Refusal(row).condition();
             assert!(!words.trim().is_empty(), "row {row} has no words");
             assert!(seen.insert(words), "row {row} has no words of its own");

@@ -1,7 +1,7 @@
 //! Every call once through the safe crate, and the rows that only it can bring about.
 use nidskalm::{
-    Assignment, ChunkIdx, Edge, Entries, EntrySet, InitialChunks, Load, MergeGraph, ModuleIdx, MoveGraph, Refusal,
-    Size, NONE,
+    Assignment, ChunkIdx, Edge, Entries, EntrySet, InitialChunks, Load, MergeGraph, Mode, ModuleIdx, MoveGraph,
+    Refusal, Size, NONE,
 };
 
 fn set(bits: u64) -> EntrySet {
@@ -98,7 +98,7 @@ fn merges() {
     let effects = [0, 0, 7, 0];
     let named = [set(1), set(2)];
     let initial = InitialChunks { sets: &named, set_chunks: &[0, 1], ..INITIAL };
-    let mut graph = MergeGraph::new(SIZE, initial, &effects).unwrap();
+    let mut graph = MergeGraph::new(SIZE, initial, Mode::Original, &effects).unwrap();
     graph.init_module_assignment(ModuleIdx(2), set(3)).unwrap();
     graph.init_module_assignment(ModuleIdx(3), set(0)).unwrap();
     graph.add_module_to_chunk(ModuleIdx(3), ChunkIdx(3)).unwrap();
@@ -122,17 +122,25 @@ fn merges() {
 #[test]
 fn refused_merges() {
     let effects = [0; 4];
-    assert_eq!(row(MergeGraph::new(Size { chunks: 0, ..SIZE }, INITIAL, &effects)), 14);
-    assert_eq!(row(MergeGraph::new(Size { modules: u64::MAX, ..SIZE }, INITIAL, &effects)), 14);
-    assert_eq!(row(MergeGraph::new(SIZE, INITIAL, &effects[1..])), 15);
+    assert_eq!(row(MergeGraph::new(Size { chunks: 0, ..SIZE }, INITIAL, Mode::Original, &effects)), 14);
+    assert_eq!(row(MergeGraph::new(Size { modules: u64::MAX, ..SIZE }, INITIAL, Mode::Original, &effects)), 14);
+    assert_eq!(row(MergeGraph::new(SIZE, INITIAL, Mode::Original, &effects[1..])), 15);
     let far = [EntrySet::from_bits([99])];
-    assert_eq!(row(MergeGraph::new(SIZE, InitialChunks { sets: &far, set_chunks: &[0], ..INITIAL }, &effects)), 16);
+    assert_eq!(
+        row(MergeGraph::new(SIZE, InitialChunks { sets: &far, set_chunks: &[0], ..INITIAL }, Mode::Original, &effects)),
+        16
+    );
     let twice = [set(1), set(1)];
     assert_eq!(
-        row(MergeGraph::new(SIZE, InitialChunks { sets: &twice, set_chunks: &[0, 1], ..INITIAL }, &effects)),
+        row(MergeGraph::new(
+            SIZE,
+            InitialChunks { sets: &twice, set_chunks: &[0, 1], ..INITIAL },
+            Mode::Original,
+            &effects
+        )),
         17
     );
-    let mut graph = MergeGraph::new(SIZE, INITIAL, &effects).unwrap();
+    let mut graph = MergeGraph::new(SIZE, INITIAL, Mode::Original, &effects).unwrap();
     let (one, two) = (ChunkIdx(1), ChunkIdx(2));
     assert_eq!(row(graph.init_module_assignment(ModuleIdx(4), set(1))), 16);
     assert_eq!(row(graph.init_module_assignment(ModuleIdx(0), EntrySet::from_bits([64]))), 16);
@@ -150,11 +158,37 @@ fn refused_merges() {
 }
 
 #[test]
+fn merged_chunks_stand_for_their_target() {
+    let size = Size { chunks: 4, modules: 4, entries: 4, entry_bits: 1 };
+    let initial = InitialChunks { module_starts: &[0, 1, 2], modules: &[0, 1], sets: &[], set_chunks: &[] };
+    let chunk = ChunkIdx;
+    let mut graph = MergeGraph::new(size, initial, Mode::StandForTarget, &[0; 4]).unwrap();
+    graph.init_module_assignment(ModuleIdx(2), set(0)).unwrap();
+    graph.init_module_assignment(ModuleIdx(3), set(1)).unwrap();
+    graph.calc_chunk_dependencies(&[0, 1, 1, 1, 2], &[1, 2]).unwrap();
+    // A direct dependency alone doesn't warn.
+    assert_eq!(graph.would_create_circular_dependency(chunk(0), chunk(1)), Ok(false));
+    // 2 is merged into 0; then 3, which depends on it, can't be merged into 1, on which 0 depends.
+    let decided = graph.pass(&[Some(chunk(0)), Some(chunk(1))], &[false, false]);
+    assert_eq!(decided, Ok(vec![Assignment::Merged(chunk(0)), Assignment::Created(chunk(2))]));
+    assert_eq!(graph.is_reachable(chunk(3), chunk(1)), Ok(true));
+    assert_eq!(graph.is_reachable(chunk(2), chunk(1)), Ok(true));
+    // A merged chunk is no source, target, candidate or proposal.
+    assert_eq!(row(graph.would_create_circular_dependency(chunk(2), chunk(1))), 28);
+    assert_eq!(row(graph.merge_chunk_dependencies(chunk(2), chunk(1))), 28);
+    assert_eq!(row(graph.merge_chunk_dependencies(chunk(2), chunk(2))), 20);
+    assert_eq!(row(graph.pass(&[None, None], &[false, false])), 15);
+    graph.merge_chunk_dependencies(chunk(1), chunk(0)).unwrap();
+    assert_eq!(row(graph.pass(&[Some(chunk(0))], &[true])), 28);
+    assert_eq!(graph.pass(&[None], &[false]), Ok(vec![Assignment::Created(chunk(3))]));
+}
+
+#[test]
 fn merges_without_entry_bits() {
     let load = |chunks: u64, sets: &[EntrySet], set_chunks: &[u32]| {
         let size = Size { chunks, entry_bits: 0, ..SIZE };
         let initial = InitialChunks { sets, set_chunks, ..INITIAL };
-        MergeGraph::new(size, initial, &[0; 4]).map_or_else(Refusal::row, |_| 0)
+        MergeGraph::new(size, initial, Mode::Original, &[0; 4]).map_or_else(Refusal::row, |_| 0)
     };
     assert_eq!(load(5, &[], &[]), 0);
     assert_eq!(load(5, &[set(0)], &[0]), 0);
@@ -169,7 +203,7 @@ fn merges_without_entry_bits() {
 
 #[test]
 fn a_proposal_with_the_number_of_none_is_refused() {
-    let mut graph = MergeGraph::new(SIZE, INITIAL, &[0; 4]).unwrap();
+    let mut graph = MergeGraph::new(SIZE, INITIAL, Mode::Original, &[0; 4]).unwrap();
     graph.init_module_assignment(ModuleIdx(2), set(3)).unwrap();
     for number in [NONE, NONE - 1, 2] {
         let proposal = Some(ChunkIdx(number));

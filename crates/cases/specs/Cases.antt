@@ -12,6 +12,8 @@ use Rattle.move_ledger.specs.Loading.{row4, row5, row6, first-row, entry-sets, 
 use Rattle.cases.specs.Run.{MoveCase, MoveOutcome, move-outcome, tries, every, shut}
 use Rattle.cases.specs.Moves.{move-cases}
 use Rattle.graph_walks.specs.Closed.{closed}
+use Rattle.graph_walks.specs.Counted.{counted, without}
+use Rattle.merge_state.specs.Merges.{ending}
 use Rattle.merge_state.specs.State.{misfit}
 use Rattle.merge_state.specs.State as state
 use Rattle.merge_state.specs.Methods.{reachable, warns, absorbed, merged, created-chunk, candidate, passed}
@@ -41,5 +43,5 @@ abbrev pub table : List Case
 table = map moves move-cases ++ map merges merge-cases
 
 pub cases-right : map outcome table ≡ map expected table
-unfolding move-outcome tries every shut any all has below count tab via cyclic only joined parts owner lies members entry facade mult edge insert rising row rows edges kept index put smallest-empty free-place register decide move kth ask call answers ledger row4 row5 row6 first-row entry-sets row7 row8 loading-row loading closed state.put misfit reachable warns absorbed merged created-chunk methods.merges candidate passed first-fitting any-misfit later acted turned merge-outcome among turn replies-to left-by needed-by dependencies
+unfolding move-outcome tries every shut any all has below count tab via cyclic only joined parts owner lies members entry facade mult edge insert rising row rows edges kept index put smallest-empty free-place register decide move kth ask call answers ledger row4 row5 row6 first-row entry-sets row7 row8 loading-row loading closed counted without ending state.put misfit reachable warns methods.warn absorbed merged created-chunk methods.merges candidate passed first-fitting any-misfit later acted turned merge-outcome among turn replies-to left-by needed-by dependencies
 cases-right = refl

@@ -12,8 +12,10 @@ pub record MergeOutcome : Type 0 where
   pub replies : List Answer
   pub end : List (List ℕ)
 
--- how many chunks are initial and how many are made, pairs of a chunk and one that it depends on; the calls; and what must come out
+-- whether merged chunks stand for their target, how many chunks are initial and how many are made, pairs of a chunk and one that it depends on;
+-- the calls; and what must come out
 pub record MergeCase : Type 0 where
+  pub mode : Bool
   pub initial : ℕ
   pub made : ℕ
   pub depends : List (ℕ × ℕ)
@@ -43,6 +45,8 @@ begins c =
       sets = [];
       home = λ m. None;
       keys = λ k. None;
+      mode = c .mode;
+      into = λ x. None;
     }
 
 -- a call's answer, and the graph after it

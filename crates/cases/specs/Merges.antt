@@ -20,15 +20,19 @@ abbrev d : ℕ
 d = 3
 
 -- four initial chunks with these dependencies: the warning about source s and target t, which changes nothing
-abbrev warned : List (ℕ × ℕ) → Bool → List (List ℕ) → MergeCase
-warned depends answer end =
+abbrev warned-in : Bool → List (ℕ × ℕ) → Bool → List (List ℕ) → MergeCase
+warned-in mode depends answer end =
     record {
+      mode = mode;
       initial = 4;
       made = 4;
       depends = depends;
       calls = would-create-circular-dependency s t ∷ [];
       expected = record { replies = says answer ∷ []; end = end };
     }
+
+abbrev warned : List (ℕ × ℕ) → Bool → List (List ℕ) → MergeCase
+warned = warned-in false
 
 -- "s on t only: yes"
 abbrev pub P9 : MergeCase
@@ -50,6 +54,7 @@ P12 = warned ((s, c) ∷ (c, d) ∷ (d, c) ∷ []) false ((c ∷ []) ∷ [] ∷ 
 abbrev pub P13 : MergeCase
 P13 =
     record {
+      mode = false;
       initial = 4;
       made = 4;
       depends = (s, c) ∷ (s, t) ∷ (t, d) ∷ (t, s) ∷ [];
@@ -61,6 +66,7 @@ P13 =
 abbrev pub refusals : MergeCase
 refusals =
     record {
+      mode = false;
       initial = 2;
       made = 2;
       depends = (0, 1) ∷ [];
@@ -85,6 +91,7 @@ refusals =
 abbrev pub stale : MergeCase
 stale =
     record {
+      mode = false;
       initial = 2;
       made = 4;
       depends = (0, 1) ∷ (3, 2) ∷ [];
@@ -107,6 +114,7 @@ commits proposals bars = pass proposals bars (0 ∷ 0 ∷ []) (0 ∷ 0 ∷ [])
 abbrev pub passes : MergeCase
 passes =
     record {
+      mode = false;
       initial = 2;
       made = 4;
       depends = (0, 1) ∷ (3, 2) ∷ [];
@@ -140,5 +148,72 @@ passes =
           };
     }
 
+-- (vii) of 02: "a direct dependency alone no longer warns", of s on t; but one of t by way of c does
+abbrev pub direct : MergeCase
+direct = warned-in true ((s, t) ∷ []) false ((t ∷ []) ∷ [] ∷ [] ∷ [] ∷ [])
+
+abbrev pub roundabout : MergeCase
+roundabout = warned-in true ((s, t) ∷ (t, c) ∷ (c, s) ∷ []) true ((t ∷ []) ∷ (c ∷ []) ∷ (s ∷ []) ∷ [] ∷ [])
+
+-- (vii): the loop that `stale` lets through is warned of, since 2 stands for 0. A merged chunk is no source or target: 28, "right after 20"
+abbrev pub followed : MergeCase
+followed =
+    record {
+      mode = true;
+      initial = 2;
+      made = 4;
+      depends = (0, 1) ∷ (3, 2) ∷ [];
+      calls =
+          would-create-circular-dependency 2 0
+          ∷ merge-chunk-dependencies 0 2
+          ∷ would-create-circular-dependency 3 1
+          ∷ is-reachable 3 1
+          ∷ is-reachable 2 1
+          ∷ would-create-circular-dependency 2 1
+          ∷ would-create-circular-dependency 1 2
+          ∷ merge-chunk-dependencies 2 1
+          ∷ merge-chunk-dependencies 2 2
+          ∷ [];
+      expected =
+          record {
+            replies = says false ∷ done ∷ says true ∷ says true ∷ says true ∷ refused 28 ∷ refused 28 ∷ refused 28 ∷ refused 20 ∷ [];
+            end = (1 ∷ []) ∷ [] ∷ [] ∷ (2 ∷ []) ∷ [];
+          };
+    }
+
+-- (vii): two merges are followed to their end: 0 into 1, 1 into 2
+abbrev pub chained : MergeCase
+chained =
+    record {
+      mode = true;
+      initial = 4;
+      made = 4;
+      depends = (3, 0) ∷ (1, 0) ∷ [];
+      calls = merge-chunk-dependencies 1 0 ∷ merge-chunk-dependencies 2 1 ∷ is-reachable 3 2 ∷ is-reachable 3 0 ∷ is-reachable 0 1 ∷ would-create-circular-dependency 3 2 ∷ [];
+      expected = record { replies = done ∷ done ∷ says true ∷ says true ∷ says false ∷ says false ∷ []; end = [] ∷ [] ∷ (0 ∷ []) ∷ (0 ∷ []) ∷ [] };
+    }
+
+-- (vii): "A chunk merged away is no candidate of a later pass here": after 2 is merged, only 3 is one. A proposal that was merged away is 28, before 18
+abbrev pub later-pass : MergeCase
+later-pass =
+    record {
+      mode = true;
+      initial = 2;
+      made = 4;
+      depends = (0, 1) ∷ (3, 2) ∷ [];
+      calls =
+          commits (0 ∷ 1 ∷ []) (0 ∷ 0 ∷ [])
+          ∷ commits (0 ∷ 1 ∷ []) (0 ∷ 0 ∷ [])
+          ∷ pass (None ∷ []) (0 ∷ []) (0 ∷ []) (0 ∷ [])
+          ∷ merge-chunk-dependencies 1 0
+          ∷ pass (0 ∷ []) (1 ∷ []) (0 ∷ []) (0 ∷ [])
+          ∷ [];
+      expected =
+          record {
+            replies = lists (0 ∷ 1 ∷ []) (0 ∷ 2 ∷ []) ∷ refused 15 ∷ lists (1 ∷ []) (3 ∷ []) ∷ done ∷ refused 28 ∷ [];
+            end = [] ∷ [] ∷ [] ∷ (2 ∷ []) ∷ [];
+          };
+    }
+
 abbrev pub merge-cases : List MergeCase
-merge-cases = P9 ∷ P10 ∷ P11 ∷ P12 ∷ P13 ∷ refusals ∷ stale ∷ passes ∷ []
+merge-cases = P9 ∷ P10 ∷ P11 ∷ P12 ∷ P13 ∷ refusals ∷ stale ∷ passes ∷ direct ∷ roundabout ∷ followed ∷ chained ∷ later-pass ∷ []

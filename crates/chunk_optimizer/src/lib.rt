@@ -151,7 +151,8 @@ pub fn calc_chunk_dependencies(
     DoneAnswer::Done
 }
 
-// Whether source depends directly on target, or the two fused would lie on a cycle with another chunk. What was merged away isn't followed.
+// Whether source depends directly on target, or the two fused would lie on a cycle with another chunk; what was merged away isn't followed. Where
+// merged chunks stand for their target: whether the two fused would lie on a cycle with another chunk, by the dependencies that count then.
 pub fn would_create_circular_dependency(
     sizes: Sizes,
     area: &[u32],
@@ -164,14 +165,7 @@ pub fn would_create_circular_dependency(
     if row != 0 {
         return YesNoAnswer::Refused(row);
     }
-    let made = merge_area::header(sizes, area, 1) as usize;
-    YesNoAnswer::Is(merge_warning::warn(
-        area,
-        sizes.chunks,
-        made,
-        source.0 as usize,
-        target.0 as usize,
-    ))
+    YesNoAnswer::Is(merge_questions::warns(sizes, area, source, target))
 }
 
 // Whether a chunk reaches another in one step or more.
@@ -182,14 +176,7 @@ pub fn is_reachable(sizes: Sizes, area: &[u32], from: ChunkIdx, to: ChunkIdx) ->
     if row != 0 {
         return YesNoAnswer::Refused(row);
     }
-    let made = merge_area::header(sizes, area, 1) as usize;
-    YesNoAnswer::Is(merge_warning::reaches(
-        area,
-        sizes.chunks,
-        made,
-        from.0 as usize,
-        to.0 as usize,
-    ))
+    YesNoAnswer::Is(merge_questions::reaches(sizes, area, from, to))
 }
 
 // The target takes over the source's dependencies and side effects.

@@ -12,11 +12,12 @@ use lib.Seq.{ext-getD}
 use Rattle.graphs.specs.Count.{ind}
 use Rattle.merge_state.specs.declared.Sizes.{Sizes}
 use Rattle.merge_state.specs.State as state
-use Rattle.merge_area.specs.Layout.{cell, side}
+use Rattle.merge_area.specs.Layout.{cell, head, side, into}
+use Rattle.merge_area.specs.Read.{mode-in}
 use Rattle.merge_area.specs.Writes.{union-cell, merge-area}
 use Rattle.merge_laws.specs.Can.{CanMergeArea}
-use Rattle.merge_reads.specs.Fields.{yes-ind}
-use Rattle.merge_reads.specs.Cells.{area-length, area-target, area-source, area-other, area-side, area-rest}
+use Rattle.merge_reads.specs.Fields.{yes-ind, mode-same}
+use Rattle.merge_reads.specs.Cells.{area-length, area-target, area-source, area-other, area-side, area-rest, area-into, area-unmarked}
 
 or-swap : (a b c u : Bool) → ((((a || b) && u) || c) && u) ≡ ((((a || c) && u) || b) && u)
 or-swap a b c false = and-false ((a || b) && false || c) ∙ sym (and-false ((a || c) && false || b))
@@ -106,17 +107,17 @@ module _ (z : Sizes) (a : List ℕ) (t s u v : ℕ) (c : CanSwap z a t s u v) wh
     | yes q ↦
         let e₁ = area-side z (merge-area z a t s) u v n₁ in
         let e₂ = area-side z a t s (c .one) in
-        let e₃ = area-rest z a t s (c .one) (side z v) (omega arith) (omega (arith, c .alone)) in
+        let e₃ = area-rest z a t s (c .one) (side z v) (omega arith) (omega (arith, c .alone)) (omega (arith, c .two .source)) in
         let e₄ = area-side z (merge-area z a u v) t s n₂ in
         let e₅ = area-side z a u v (c .two) in
-        let e₆ = area-rest z a u v (c .two) (side z s) (omega arith) (omega (arith, c .free)) in
+        let e₆ = area-rest z a u v (c .two) (side z s) (omega arith) (omega (arith, c .free)) (omega (arith, c .one .source)) in
         cc (side-swap (cell a (side z t)) (cell a (side z s)) (cell a (side z v)))
     | no q ↦
-        let e₁ = area-rest z (merge-area z a t s) u v n₁ (side z t) (omega arith) (omega arith) in
+        let e₁ = area-rest z (merge-area z a t s) u v n₁ (side z t) (omega arith) (omega arith) (omega (arith, c .one .target)) in
         let e₂ = area-side z a t s (c .one) in
         let e₃ = area-side z (merge-area z a u v) t s n₂ in
-        let e₄ = area-rest z a u v (c .two) (side z t) (omega arith) (omega arith) in
-        let e₅ = area-rest z a u v (c .two) (side z s) (omega arith) (omega (arith, c .free)) in
+        let e₄ = area-rest z a u v (c .two) (side z t) (omega arith) (omega arith) (omega (arith, c .one .target)) in
+        let e₅ = area-rest z a u v (c .two) (side z s) (omega arith) (omega (arith, c .free)) (omega (arith, c .one .source)) in
         cc
   ]
 
@@ -125,10 +126,26 @@ module _ (z : Sizes) (a : List ℕ) (t s u v : ℕ) (c : CanSwap z a t s u v) wh
       area-other z (merge-area z a t s) u v n₁ x y b d m n ∙ area-other z a t s (c .one) x y b d p q
       ∙ sym (area-other z (merge-area z a u v) t s n₂ x y b d p q ∙ area-other z a u v (c .two) x y b d m n)
 
-  other-place : (i : ℕ) → z .chunks * z .chunks ≤ i → (i ≡ side z t → ⊥) → (i ≡ side z u → ⊥) → cell one-first i ≡ cell two-first i
-  other-place i h m n =
-      area-rest z (merge-area z a t s) u v n₁ i h n ∙ area-rest z a t s (c .one) i h m
-      ∙ sym (area-rest z (merge-area z a u v) t s n₂ i h m ∙ area-rest z a u v (c .two) i h n)
+  -- each source's own merge
+  source-into : cell one-first (into z s) ≡ cell two-first (into z s)
+  source-into = go (mode-in z a) refl
+    where
+      e₁ : cell one-first (into z s) ≡ cell (merge-area z a t s) (into z s)
+      e₁ = area-rest z (merge-area z a t s) u v n₁ (into z s) (omega arith) (omega (arith, c .two .target)) (omega (arith, c .apart))
+
+      same-mode : mode-in z (merge-area z a u v) ≡ mode-in z a
+      same-mode = mode-same z a (merge-area z a u v) (area-rest z a u v (c .two) (head z 5) (omega arith) (omega arith) (omega arith))
+
+      go : (m : Bool) → mode-in z a ≡ m → cell one-first (into z s) ≡ cell two-first (into z s)
+      go true m = e₁ ∙ area-into z a t s (c .one) m ∙ sym (area-into z (merge-area z a u v) t s n₂ (same-mode ∙ m))
+      go false m =
+          e₁ ∙ area-unmarked z a t s (c .one) m
+          ∙ sym (area-unmarked z (merge-area z a u v) t s n₂ (same-mode ∙ m) ∙ area-rest z a u v (c .two) (into z s) (omega arith) (omega (arith, c .two .target)) (omega (arith, c .apart)))
+
+  other-place : (i : ℕ) → z .chunks * z .chunks ≤ i → (i ≡ side z t → ⊥) → (i ≡ side z u → ⊥) → (i ≡ into z s → ⊥) → (i ≡ into z v → ⊥) → cell one-first i ≡ cell two-first i
+  other-place i h m n p q =
+      area-rest z (merge-area z a t s) u v n₁ i h n q ∙ area-rest z a t s (c .one) i h m p
+      ∙ sym (area-rest z (merge-area z a u v) t s n₂ i h m p ∙ area-rest z a u v (c .two) i h n q)
 
   same-length : length one-first ≡ length two-first
   same-length =
@@ -150,7 +167,13 @@ module _ (z : Sizes) (a : List ℕ) (t s u v : ℕ) (c : CanSwap z a t s u v) wh
   beyond : (i : ℕ) → z .chunks * z .chunks ≤ i → cell (one-first z a t s u v c) i ≡ cell (two-first z a t s u v c) i
   beyond i h = elim (ℕ-discrete i (side z t)) [
     | yes q ↦ rw q (target-side z a t s u v c)
-    | no m ↦ elim (ℕ-discrete i (side z u)) [ yes q ↦ rw q (sym (target-side z a u v t s (turn-round c))) | no n ↦ other-place z a t s u v c i h m n ]
+    | no m ↦ elim (ℕ-discrete i (side z u)) [
+      | yes q ↦ rw q (sym (target-side z a u v t s (turn-round c)))
+      | no n ↦ elim (ℕ-discrete i (into z s)) [
+        | yes q ↦ rw q (source-into z a t s u v c)
+        | no p ↦ elim (ℕ-discrete i (into z v)) [ yes q ↦ rw q (sym (source-into z a u v t s (turn-round c))) | no q ↦ other-place z a t s u v c i h m n p q ]
+      ]
+    ]
   ]
 
   -- the two merges leave the same area in either order

@@ -66,8 +66,9 @@ write-holds z a (pass props bars kinds numbers) h =
     let f = free z a (pass props bars kinds numbers) refl h in
     let h₁ = none-fits _ 15 _ (omega arith) (f .later) in
     let h₂ = none-fits _ 16 _ (omega arith) (h₁ .1) in
-    let h₃ = none-fits _ 18 _ (omega arith) (h₂ .1) in
-    pass-holds z a (f .stood) (ltb-false _ _ (h₃ .0)) props bars (h₂ .0) (cell a (head z 1)) (omega arith)
+    let h₃ = none-fits _ 28 _ (omega arith) (h₂ .1) in
+    let h₄ = none-fits _ 18 _ (omega arith) (h₃ .1) in
+    pass-holds z a (f .stood) (ltb-false _ _ (h₄ .0)) props bars (h₂ .0) (h₃ .0) (cell a (head z 1)) (omega arith)
 
 -- a call, refused or not, leaves a consistent area consistent, and as long as it was
 module _ (z : Sizes) (a : List ℕ) (c : Call) where

@@ -3,7 +3,7 @@ use Prim.Native.Nat.{ℕ, zero, suc, _+_, _*_, _<_, _≤_}
 use native.Mathlib.Omega.{arith}
 use native.Mathlib.Decide.{decLt}
 use mathlib.Core.Path.{_≡_, refl, sym, ap, ap₂, _∙_, subst}
-use mathlib.Core.Bool.{false}
+use mathlib.Core.Bool.{Bool, true, false}
 use mathlib.Core.List.{List, []}
 use lib.ListN.{getD, length}
 use lib.Dec.{ltb}
@@ -13,20 +13,23 @@ use Rattle.entry_set.specs.Sets.{width}
 use Rattle.entry_set.specs.SetLaws.{below-256, sets-room}
 use Rattle.merge_state.specs.declared.Sizes.{Sizes}
 use Rattle.merge_state.specs.State.{None, Graph, pairs}
+use Rattle.merge_state.specs.State as state
 use Rattle.merge_state.specs.Methods.{appended}
 use Rattle.merge_state.specs.Table.{turned}
 use Rattle.merge_state.specs.Ordered.{Ordered}
 use Rattle.merge_state.specs.Loading.{Lent, lister, lent-pair, loaded, load}
 use Rattle.merge_state.specs.LoadKept.{listed-in, loaded-kept, load-kept}
-use Rattle.merge_area.specs.Layout.{room, cell, head, side, need, key, home}
-use Rattle.merge_area.specs.Read.{entry, named-set, depends-in, effects-in, needs-in, log-in, sets-in, home-in, keys-in, read}
+use Rattle.merge_area.specs.Layout.{room, cell, head, side, need, key, into, home}
+use Rattle.merge_area.specs.Read.{entry, named-set, depends-in, effects-in, needs-in, log-in, sets-in, home-in, keys-in, mode-in, into-in, read}
+use Rattle.merge_area.specs.Merged.{into-at, into-off, into-past}
 use Rattle.merge_state.specs.Pairs.{pairs-length, pairs-same}
 use Rattle.merge_area.specs.Consistent.{inconsistent}
-use Rattle.merge_loading.specs.Loading.{first-key, cleared-area, headed-area, bare-area, listed-area, loaded-area, load-refusal, load-step}
-use Rattle.merge_loading.specs.Bare.{cleared-long, cleared-flag, cleared-side, cleared-need, cleared-key, cleared-home, headed-far, headed-initial, headed-made, headed-created, headed-sets, headed-used, named-chunk, named-value, base-long, bare-far}
+use Rattle.merge_loading.specs.Loading.{mode-area, first-key, cleared-area, headed-area, bare-area, listed-area, loaded-area, load-refusal, load-step}
+use Rattle.merge_loading.specs.Bare.{mode-long, mode-head, mode-into, cleared-head, cleared-into, cleared-long, cleared-flag, cleared-side, cleared-need, cleared-key, cleared-home, headed-far, headed-initial, headed-made, headed-created, headed-sets, headed-used, named-chunk, named-value, base-long, bare-far}
 use Rattle.merge_loading.specs.Listing.{entry-can}
 use Rattle.merge_loading.specs.Rows.{CanLoad, can-load, load-list}
 use Rattle.merge_laws.specs.Ordering.{depends-parts}
+use Rattle.merge_reads.specs.Fields.{yes-ind}
 use Rattle.merge_reads.specs.Reads.{read-append}
 use Rattle.merge_reads.specs.Order.{ordered-consistent}
 
@@ -34,59 +37,66 @@ module _ (z : Sizes) (n : Lent) (a : List ℕ) (can : CanLoad z n a) where
   abbrev count : ℕ
   count = length (n .chunks)
 
+  -- the area with its mode written
+  abbrev moded : List ℕ
+  moded = mode-area z (n .mode) a
+
   abbrev cleared : List ℕ
-  cleared = cleared-area z (n .initial) a
+  cleared = cleared-area z (n .initial) moded
 
   abbrev base : List ℕ
   base = headed-area z (n .initial) count cleared
 
   abbrev bare : List ℕ
-  bare = bare-area z (n .initial) (n .flat) (n .chunks) a
+  bare = bare-area z (n .initial) (n .flat) (n .chunks) moded
+
+  moded-room : room z ≤ length moded
+  moded-room = omega (arith, can .long, mode-long z (n .mode) a)
 
   cleared-room : room z ≤ length cleared
-  cleared-room = omega (arith, can .long, cleared-long z (n .initial) a)
+  cleared-room = omega (arith, moded-room, cleared-long z (n .initial) moded)
 
   base-room : room z ≤ length base
-  base-room = omega (arith, can .long, base-long z (n .initial) (n .flat) (n .chunks) a (can .allowed .few-pairs))
+  base-room = omega (arith, moded-room, base-long z (n .initial) (n .flat) (n .chunks) moded (can .allowed .few-pairs))
 
   -- a number of the header, and one that neither the header nor a pair has
   at-head : (k : ℕ) → k < 32 → cell bare (head z k) ≡ cell base (head z k)
-  at-head k h = bare-far z (n .initial) (n .flat) (n .chunks) a (can .allowed .few-pairs) (head z k) (λ b. absurd (omega arith))
+  at-head k h = bare-far z (n .initial) (n .flat) (n .chunks) moded (can .allowed .few-pairs) (head z k) (λ b. absurd (omega arith))
 
   elsewhere : (k : ℕ) → (z .chunks * z .chunks ≤ k → z .chunks * z .chunks + 32 + 18 * z .chunks ≤ k) → cell bare k ≡ cell cleared k
   elsewhere k f =
-      bare-far z (n .initial) (n .flat) (n .chunks) a (can .allowed .few-pairs) k (λ b. f (omega arith))
+      bare-far z (n .initial) (n .flat) (n .chunks) moded (can .allowed .few-pairs) k (λ b. f (omega arith))
       ∙ headed-far z (n .initial) count cleared k (λ j h e. let g = f (omega arith) in omega arith)
 
   no-flag : (x y : ℕ) → depends-in z bare x y ≡ false
   no-flag x y = fails _ (λ q.
       let p = depends-parts z bare x y q in
       let r = sets-room {i = x} {n = z .chunks} (z .chunks) (p .0) in
-      p .2 (elsewhere (x * z .chunks + y) (λ b. absurd (omega (arith, p .1))) ∙ cleared-flag z (n .initial) a (can .long) (x * z .chunks + y) (omega (arith, p .1))))
+      p .2 (elsewhere (x * z .chunks + y) (λ b. absurd (omega (arith, p .1))) ∙ cleared-flag z (n .initial) moded moded-room (x * z .chunks + y) (omega (arith, p .1))))
 
   no-effect : (x : ℕ) → effects-in z bare x ≡ false
   unfolding effects-in
   no-effect x = fails _ (λ q.
       let h = ltb-true x (z .chunks) (and-left (ltb x (z .chunks)) _ q) in
-      eqb-false _ 0 (not-true _ (and-right (ltb x (z .chunks)) _ q)) (elsewhere (side z x) (λ b. omega arith) ∙ cleared-side z (n .initial) a (can .long) x (omega arith)))
+      eqb-false _ 0 (not-true _ (and-right (ltb x (z .chunks)) _ q)) (elsewhere (side z x) (λ b. omega arith) ∙ cleared-side z (n .initial) moded moded-room x (omega arith)))
 
   no-need : (x : ℕ) → needs-in z bare x ≡ false
   unfolding needs-in
   no-need x = fails _ (λ q.
       let h = ltb-true x (z .chunks) (and-left (ltb x (z .chunks)) _ q) in
-      eqb-false _ 0 (not-true _ (and-right (ltb x (z .chunks)) _ q)) (elsewhere (need z x) (λ b. omega arith) ∙ cleared-need z (n .initial) a (can .long) x h))
+      eqb-false _ 0 (not-true _ (and-right (ltb x (z .chunks)) _ q)) (elsewhere (need z x) (λ b. omega arith) ∙ cleared-need z (n .initial) moded moded-room x h))
 
   no-home : (m : ℕ) → home-in z bare m ≡ None
   unfolding home-in
   no-home m = elim (decLt m (z .modules)) [
-    | yes h ↦ rw (lt-ltb m (z .modules) h) (elsewhere (home z m) (λ b. omega arith) ∙ cleared-home z (n .initial) a (can .long) m h)
+    | yes h ↦ rw (lt-ltb m (z .modules) h) (elsewhere (home z m) (λ b. omega arith) ∙ cleared-home z (n .initial) moded moded-room m h)
     | no h ↦ rw (le-ltb m (z .modules) (omega arith))
   ]
 
   first-keys : (k : ℕ) → keys-in z bare k ≡ first-key (n .initial) k
   unfolding keys-in
   first-keys k = elim (decLt k (z .chunks)) [
-    | yes h ↦ rw (lt-ltb k (z .chunks) h) (elsewhere (key z k) (λ b. omega arith) ∙ cleared-key z (n .initial) a (can .long) k h)
+    | yes h ↦ rw (lt-ltb k (z .chunks) h) (elsewhere (key z k) (λ b. omega arith) ∙ cleared-key z (n .initial) moded moded-room k h)
     | no h ↦ rw (le-ltb k (z .chunks) (omega arith), le-ltb k (n .initial) (omega (arith, can .allowed .few)))
   ]
 
@@ -102,6 +112,22 @@ module _ (z : Sizes) (n : Lent) (a : List ℕ) (can : CanLoad z n a) where
   unfolding pairs
   no-entry = ap (pairs (entry z bare)) (at-head 4 (omega arith) ∙ headed-used z (n .initial) count cleared cleared-room)
 
+  the-mode : mode-in z bare ≡ state.yes (n .mode)
+  unfolding mode-in
+  the-mode =
+      ap state.yes (at-head 5 (omega arith) ∙ headed-far z (n .initial) count cleared (head z 5) (λ j h e. omega arith) ∙ cleared-head z (n .initial) moded moded-room 5 (omega arith) ∙ mode-head z (n .mode) a (can .long))
+      ∙ yes-ind (state.yes (n .mode))
+
+  no-merge : (x : ℕ) → into-in z bare x ≡ None
+  no-merge x = go (mode-in z bare) refl
+    where
+      go : (m : Bool) → mode-in z bare ≡ m → into-in z bare x ≡ None
+      go true m = elim (decLt x (z .chunks)) [
+        | yes h ↦ into-at z bare x m h ∙ elsewhere (into z x) (λ b. omega arith) ∙ cleared-into z (n .initial) moded moded-room x h ∙ mode-into z (n .mode) a (can .long) x h
+        | no h ↦ into-past z bare x (omega arith)
+      ]
+      go false m = into-off z bare m x
+
   -- before the list entries
   read-bare : read z bare ≡ loaded z n 0
   unfolding loaded
@@ -116,6 +142,8 @@ module _ (z : Sizes) (n : Lent) (a : List ℕ) (can : CanLoad z n a) where
     sets = the-sets i;
     home = λ m. no-home m i;
     keys = λ k. first-keys k i;
+    mode = the-mode i;
+    into = λ x. no-merge x i;
   }
 
   abbrev entries : ℕ → List ℕ

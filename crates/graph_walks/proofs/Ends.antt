@@ -112,47 +112,47 @@ module _ {starts list : List ℕ} {n mark root : ℕ} {l s : List ℕ} (can : Ca
         (λ x b m. last .from x b m refl)
         (λ x q. from-root (sound e (below n) root x q))
 
--- `closure`
-module _ {q : List ℕ} {c n source target mark : ℕ} {l s : List ℕ} (can : CanClose q c n source target mark l s) where
-  abbrev deps : ℕ → ℕ → Bool
-  deps = flagEdge q c n
-
+-- the closed union of two nodes' edges, after a scan of each and of all that goes on the stack
+module _ {deps : ℕ → ℕ → Bool} {n : ℕ} {d : ℕ → ℕ} {f : ℕ → ℕ → ℕ} {h : ℕ → ℕ → Bool} (G : Offers deps n d f h) (to : (x y : ℕ) → deps x y ≡ true → y < n) (source target : ℕ) where
   abbrev in-closed : ℕ → Bool
   in-closed = closed deps n source target
 
   given : (y : ℕ) → (deps source y ≡ true) ⊎ (deps target y ≡ true) → in-closed y ≡ true
-  given y k = closed-first deps n source target y (⊎-elim (flag-to q c n source y) (flag-to q c n target y) k) k
+  given y k = closed-first deps n source target y (⊎-elim (to source y) (to target y) k) k
 
   handed : HandsOn deps none in-closed
-  handed x y w k u = closed-next deps n source target (flag-from q c n) x y w k
+  handed x y w k u = closed-next deps n source target (G .from) x y w k
 
-  module _ {l₁ s₁ l₂ s₂ l₃ s₃ : List ℕ} {sp₁ sp₂ : ℕ} (v : Scanned deps n (wide n) itself deps mark l s 0 source n l₁ s₁ sp₁) (v₂ : Scanned deps n (wide n) itself deps mark l₁ s₁ sp₁ target n l₂ s₂ sp₂)
-      (w : Done deps n (wide n) itself deps mark l₂ s₂ sp₂ l₃ s₃ 0) where
-    G : Offers deps n (wide n) itself deps
-    G = offers-rows q c n
+  module _ {mark : ℕ} {l s l₁ s₁ l₂ s₂ l₃ s₃ : List ℕ} {sp₁ sp₂ : ℕ} (fresh : (x : ℕ) → x < n → getD l x 0 < mark) (v : Scanned deps n d f h mark l s 0 source (d source) l₁ s₁ sp₁) (v₂ : Scanned deps n d f h mark l₁ s₁ sp₁ target (d target) l₂ s₂ sp₂)
+      (w : Done deps n d f h mark l₂ s₂ sp₂ l₃ s₃ 0) where
+    one-row : Spread n d f h none in-closed (met mark l₁) (stk s₁) sp₁ n 0
+    one-row = scan-done G in-closed v (start mark l s fresh) (λ y k. given y (inl k))
 
-    one-row : Spread n (wide n) itself deps none in-closed (met mark l₁) (stk s₁) sp₁ n 0
-    one-row = scan-done G in-closed v (start mark l s (can .fresh)) (λ y k. given y (inl k))
-
-    ended : Spread n (wide n) itself deps none in-closed (met mark l₃) (stk s₃) 0 n 0
+    ended : Spread n d f h none in-closed (met mark l₃) (stk s₃) 0 n 0
     ended = w .state none in-closed handed (scan-done G in-closed v₂ one-row (λ y k. given y (inr k)))
 
     seeds : (y : ℕ) → (deps source y ≡ true) ⊎ (deps target y ≡ true) → met mark l₃ y ≡ 1
     seeds y k = kept-met (w .kept) y (⊎-elim
-        (λ a. kept-met (v₂ .kept) y (scan-met G in-closed v (start mark l s (can .fresh)) (λ y k. given y (inl k)) y a))
+        (λ a. kept-met (v₂ .kept) y (scan-met G in-closed v (start mark l s fresh) (λ y k. given y (inl k)) y a))
         (λ a. scan-met G in-closed v₂ one-row (λ y k. given y (inr k)) y a)
         k)
 
     reached : (x : ℕ) → in-closed x ≡ true → (x < n) × (met mark l₃ x ≡ 1)
     reached = closed-all deps n source target (λ x. (x < n) × (met mark l₃ x ≡ 1))
-        (λ x k. (⊎-elim (flag-to q c n source x) (flag-to q c n target x) k, seeds x k))
-        (λ x y m k. (flag-to q c n x y k, moves.step-out G ended x y (m .0) (m .1) refl k))
+        (λ x k. (⊎-elim (to source x) (to target x) k, seeds x k))
+        (λ x y m k. (to x y k, moves.step-out G ended x y (m .0) (m .1) refl k))
 
-    pub closure-done : length l₃ ≡ length l → l₃ ≡ marking in-closed mark l
-    closure-done long = marking-is l (kept-trans (kept-trans (v .kept) (v₂ .kept)) (w .kept)) long (can .fresh)
+    pub union-done : length l₃ ≡ length l → l₃ ≡ marking in-closed mark l
+    union-done long = marking-is l (kept-trans (kept-trans (v .kept) (v₂ .kept)) (w .kept)) long fresh
         (λ x k. reached x k .0)
         (λ x b m. ended .from x b m refl)
         (λ x k. reached x k .1)
+
+-- `closure`
+pub closure-done : {q : List ℕ} {c n source target mark : ℕ} {l s : List ℕ} → CanClose q c n source target mark l s → {l₁ s₁ l₂ s₂ l₃ s₃ : List ℕ} {sp₁ sp₂ : ℕ}
+    → Scanned (flagEdge q c n) n (wide n) itself (flagEdge q c n) mark l s 0 source n l₁ s₁ sp₁ → Scanned (flagEdge q c n) n (wide n) itself (flagEdge q c n) mark l₁ s₁ sp₁ target n l₂ s₂ sp₂
+    → Done (flagEdge q c n) n (wide n) itself (flagEdge q c n) mark l₂ s₂ sp₂ l₃ s₃ 0 → length l₃ ≡ length l → l₃ ≡ marking (closed (flagEdge q c n) n source target) mark l
+closure-done {q} {c} {n} {source} {target} can v v₂ w long = union-done (offers-rows q c n) (flag-to q c n) source target (can .fresh) v v₂ w long
 
 -- one flag of row t
 module _ {q : List ℕ} {c n mark : ℕ} {l₀ s₀ l s : List ℕ} {sp₀ sp t j : ℕ} (can : CanScanRow q c n mark l₀ s₀ sp₀ t)

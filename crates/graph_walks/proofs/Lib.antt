@@ -2,3 +2,4 @@
 pub mod Moves
 pub mod Layer
 pub mod Ends
+pub mod EndLaws

@@ -3,3 +3,6 @@ pub mod Marks
 pub mod Spread
 pub mod Closed
 pub mod ClosedLaws
+pub mod Counted
+pub mod Places
+pub mod Ends

@@ -1,4 +1,6 @@
 // Walks that mark what they reach: over neighbour lists, and over rows of flags.
+pub mod end_rows; // end_rows.rt: over rows of flags whose nodes stand for their ends
+
 ghost use mathlib.Core.Path.{_≡_};
 ghost use Prim.Native.Nat.{ℕ, _+_, _*_, _<_, _≤_};
 ghost use lib.ListN.{length, getD};

@@ -20,7 +20,7 @@ use Rattle.merge_state.specs.Table.{first-fitting}
 use Rattle.merge_area.specs.Calls.{standing}
 use Rattle.merge_area.specs.Layout.{cell, head, set-place, set-chunk, need, key, home, entry-chunk, entry-module}
 use Rattle.merge_area.specs.Twice.{twice-is}
-use Rattle.merge_area.specs.Consistent.{over, short, faults, head-fault, row-fault, flags-fault, index-faults, out-of-range, sets-fault, inconsistent}
+use Rattle.merge_area.specs.Consistent.{over, short, faults, head-fault, row-fault, flags-fault, index-faults, merges-fault, out-of-range, sets-fault, inconsistent}
 
 -- counting on by one
 pub counted : (p : ℕ → Bool) (i : ℕ) {b m : ℕ} → b ≡ count p i → m ≡ ind (p i) → b + m ≡ count p (i + 1)
@@ -91,17 +91,21 @@ module _ (z : Sizes) (a : List ℕ) where
   unfolding inconsistent
   odd-index p q h = rw (p, q, lt-ltb 0 (index-faults z a) h)
 
-  pub odd-range : {n : ℕ} {r : Bool} → head-fault z a ≡ false → Flags ≡ false → index-faults z a ≤ 0 → n ≡ cell a (head z 3)
+  pub odd-merges : head-fault z a ≡ false → Flags ≡ false → index-faults z a ≤ 0 → merges-fault z a ≡ true → true ≡ inconsistent z a
+  unfolding inconsistent
+  odd-merges p q h m = rw (p, q, le-ltb 0 (index-faults z a) h, m)
+
+  pub odd-range : {n : ℕ} {r : Bool} → head-fault z a ≡ false → Flags ≡ false → index-faults z a ≤ 0 → merges-fault z a ≡ false → n ≡ cell a (head z 3)
       → r ≡ some-below (out-of-range z a) n → r ≡ true → true ≡ inconsistent z a
   unfolding inconsistent sets-fault
-  odd-range p q h e f k = let v : some-below (out-of-range z a) (cell a (head z 3)) ≡ true = rw (← e) (sym f ∙ k) in rw (p, q, le-ltb 0 (index-faults z a) h, v)
+  odd-range p q h m e f k = let v : some-below (out-of-range z a) (cell a (head z 3)) ≡ true = rw (← e) (sym f ∙ k) in rw (p, q, le-ltb 0 (index-faults z a) h, m, v)
 
-  pub odd-twice : {n : ℕ} {r s : Bool} → head-fault z a ≡ false → Flags ≡ false → index-faults z a ≤ 0 → n ≡ cell a (head z 3)
+  pub odd-twice : {n : ℕ} {r s : Bool} → head-fault z a ≡ false → Flags ≡ false → index-faults z a ≤ 0 → merges-fault z a ≡ false → n ≡ cell a (head z 3)
       → r ≡ some-below (out-of-range z a) n → r ≡ false → s ≡ twice (λ i. lanes a (set-place z i) 1) n → s ≡ inconsistent z a
   unfolding inconsistent sets-fault
-  odd-twice p q h e f k g =
+  odd-twice p q h m e f k g =
       let v : some-below (out-of-range z a) (cell a (head z 3)) ≡ false = rw (← e) (sym f ∙ k) in
-      g ∙ ap (twice (λ i. lanes a (set-place z i) 1)) e ∙ (rw (p, q, le-ltb 0 (index-faults z a) h, v))
+      g ∙ ap (twice (λ i. lanes a (set-place z i) 1)) e ∙ (rw (p, q, le-ltb 0 (index-faults z a) h, m, v))
 
 -- the tests of `standing`, in order
 module _ (z : Sizes) (a : List ℕ) where

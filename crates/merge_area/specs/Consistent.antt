@@ -1,17 +1,20 @@
--- Rows 14, 15 and 21 of a merge area, as computed tests. Sentences quoted are document 01's. Assumes nothing.
+-- Rows 14, 15 and 21 of a merge area, as computed tests. Sentences quoted are document 01's, (vii) is document 02's. Assumes nothing.
 use Prim.Native.Nat.{ℕ, _+_, _-_, _*_, _^_, _≤_}
 use mathlib.Core.Path.{_≡_}
-use mathlib.Core.Bool.{Bool, true, false, not, _||_}
+use mathlib.Core.Bool.{Bool, true, false, not, _&&_, _||_}
 use mathlib.Core.List.{List}
 use lib.ListN.{getD, length}
 use lib.Dec.{ltb, eqb}
 use Rattle.graphs.specs.Count.{count}
-use Rattle.graphs.specs.Lists.{some-below}
+use Rattle.graphs.specs.Lists.{some-below, below}
+use Rattle.graphs.specs.Walk.{cyclic}
 use Rattle.entry_set.specs.Lanes.{lanes}
 use Rattle.merge_state.specs.declared.Sizes.{Sizes}
 use Rattle.merge_state.specs.State.{misfit}
+use Rattle.merge_state.specs.Merges.{merged-into}
 use Rattle.merge_state.specs.Loading.{twice}
-use Rattle.merge_area.specs.Layout.{room, cell, head, set-place, set-chunk, need, key, home, entry-chunk, entry-module}
+use Rattle.merge_area.specs.Layout.{room, cell, head, set-place, set-chunk, need, key, into, home, entry-chunk, entry-module}
+use Rattle.merge_area.specs.Read.{mode-in, into-in}
 
 -- row 14: "C = 0 or > 1,024, M > 4,096, L > 8,192, E > 256"
 unfoldable pub over : Sizes → Bool
@@ -51,6 +54,14 @@ index-faults z a =
     faults a (set-chunk z 0) (cell a (head z 3)) made false + faults a (key z 0) (z .chunks) made true + faults a (home z 0) (z .modules) made true
     + faults a (entry-chunk z 0) (cell a (head z 4)) made false + faults a (entry-module z 0) (cell a (head z 4)) (z .modules) false + faults a (need z 0) (cell a (head z 0)) 1 false
 
+-- "every index in range" of the merges: a chunk that is made was merged into one that is, or isn't merged; no other chunk was
+unfoldable pub lane-faults : Sizes → List ℕ → ℕ
+lane-faults z a = let made = cell a (head z 1) in faults a (into z 0) made made true + faults a (into z made) (z .chunks - made) 0 true
+
+-- (vii): "an area whose merges run in a ring is inconsistent"; the merges are looked at only where merged chunks stand for their target
+unfoldable pub merges-fault : Sizes → List ℕ → Bool
+merges-fault z a = mode-in z a && (ltb 0 (lane-faults z a) || cyclic (merged-into (into-in z a)) (below (cell a (head z 1))))
+
 -- the first n sets: one has a bit at or above E, or two are equal ("sets distinct")
 unfoldable pub out-of-range : Sizes → List ℕ → ℕ → Bool
 out-of-range z a i = not (ltb (lanes a (set-place z i) 1) (2 ^ z .bits))
@@ -60,4 +71,4 @@ sets-fault z a n = some-below (out-of-range z a) n || twice (λ i. lanes a (set-
 
 -- row 21
 unfoldable pub inconsistent : Sizes → List ℕ → Bool
-inconsistent z a = head-fault z a || (flags-fault a (z .chunks) (cell a (head z 1)) || (ltb 0 (index-faults z a) || sets-fault z a (cell a (head z 3))))
+inconsistent z a = head-fault z a || (flags-fault a (z .chunks) (cell a (head z 1)) || (ltb 0 (index-faults z a) || (merges-fault z a || sets-fault z a (cell a (head z 3)))))

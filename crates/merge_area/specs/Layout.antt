@@ -10,7 +10,8 @@ room z = z .chunks * z .chunks + 32 * (z .chunks + z .modules + z .entries + 1)
 
 -- Chunk x depends on chunk y where the flag at x × C + y isn't 0.
 
--- header: 0 initial chunks, 1 chunks made, 2 created over all passes, 3 sets, 4 list entries in use
+-- header: 0 initial chunks, 1 chunks made, 2 created over all passes, 3 sets, 4 list entries in use, 5 whether merged chunks stand for their
+-- target
 abbrev pub head : Sizes → ℕ → ℕ
 head z k = z .chunks * z .chunks + k
 
@@ -31,6 +32,10 @@ need z x = z .chunks * z .chunks + 32 + 19 * z .chunks + x
 -- the chunk registered for key k, or None
 abbrev pub key : Sizes → ℕ → ℕ
 key z k = z .chunks * z .chunks + 32 + 20 * z .chunks + k
+
+-- the chunk that chunk x was merged into, or None; looked at and written only where merged chunks stand for their target
+abbrev pub into : Sizes → ℕ → ℕ
+into z x = z .chunks * z .chunks + 32 + 21 * z .chunks + x
 
 -- module m's chunk, or None
 abbrev pub home : Sizes → ℕ → ℕ

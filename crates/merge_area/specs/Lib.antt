@@ -6,3 +6,5 @@ pub mod Calls
 pub mod Within
 pub mod Twice
 pub mod FlagRows
+pub mod Faults
+pub mod Merged

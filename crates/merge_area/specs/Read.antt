@@ -6,7 +6,7 @@ use lib.Dec.{ltb}
 use Rattle.entry_set.specs.Lanes.{lanes}
 use Rattle.merge_state.specs.declared.Sizes.{Sizes}
 use Rattle.merge_state.specs.State.{None, Graph, yes, pairs}
-use Rattle.merge_area.specs.Layout.{cell, head, set-place, set-chunk, side, need, key, home, entry-chunk, entry-module}
+use Rattle.merge_area.specs.Layout.{cell, head, set-place, set-chunk, side, need, key, into, home, entry-chunk, entry-module}
 
 -- each field of the graph
 unfoldable pub depends-in : Sizes → List ℕ → ℕ → ℕ → Bool
@@ -36,6 +36,13 @@ home-in z a m = cond (ltb m (z .modules)) (cell a (home z m)) None
 unfoldable pub keys-in : Sizes → List ℕ → ℕ → ℕ
 keys-in z a k = cond (ltb k (z .chunks)) (cell a (key z k)) None
 
+-- "chosen at loading by a nonzero number" (document 02, (vii))
+unfoldable pub mode-in : Sizes → List ℕ → Bool
+mode-in z a = yes (cell a (head z 5))
+
+unfoldable pub into-in : Sizes → List ℕ → ℕ → ℕ
+into-in z a x = cond (mode-in z a && ltb x (z .chunks)) (cell a (into z x)) None
+
 abbrev pub read : Sizes → List ℕ → Graph
 read z a = record {
   initial = cell a (head z 0);
@@ -48,4 +55,6 @@ read z a = record {
   sets = sets-in z a;
   home = home-in z a;
   keys = keys-in z a;
+  mode = mode-in z a;
+  into = into-in z a;
 }

@@ -10,10 +10,11 @@ use Rattle.entry_set.specs.Lanes.{setLanes}
 use Rattle.entry_set.specs.Sets.{value}
 use Rattle.merge_state.specs.declared.Sizes.{Sizes}
 use Rattle.merge_state.specs.State.{None, yes, flag, chunk-of}
+use Rattle.merge_state.specs.Merges.{waits}
 use Rattle.merge_state.specs.Methods.{merges}
 use Rattle.merge_state.specs.Table.{Call, init-module-assignment, add-module-to-chunk, register-chunk-graph-index, to-temp-idx, calc-chunk-dependencies, would-create-circular-dependency, is-reachable, merge-chunk-dependencies, pass}
-use Rattle.merge_area.specs.Layout.{cell, head, set-place, set-chunk, side, need, key, home, entry-chunk, entry-module}
-use Rattle.merge_area.specs.Read.{read, needs-in, sets-in}
+use Rattle.merge_area.specs.Layout.{cell, head, set-place, set-chunk, side, need, key, into, home, entry-chunk, entry-module}
+use Rattle.merge_area.specs.Read.{read, sets-in, mode-in}
 
 -- chunk x is registered for key k
 unfoldable pub register-area : Sizes → List ℕ → ℕ → ℕ → List ℕ
@@ -69,9 +70,17 @@ merging l c t s k i = cond (within (t * c) k i) (union-cell (getD l i 0) (getD l
 unfoldable pub merged-rows : List ℕ → ℕ → ℕ → ℕ → List ℕ
 merged-rows l c t s = tab (merging l c t s c) (length l)
 
--- `merge_chunk_dependencies`: the two rows, and the target's side effects
+-- the two rows, and the target's side effects
+unfoldable pub absorb-area : Sizes → List ℕ → ℕ → ℕ → List ℕ
+absorb-area z a t s = set (merged-rows a (z .chunks) t s) (side z t) (ind (yes (cell a (side z t)) || yes (cell a (side z s))))
+
+-- where merged chunks stand for their target, source s is recorded as merged into t
+unfoldable pub record-area : Sizes → List ℕ → ℕ → ℕ → List ℕ
+record-area z a t s = cond (mode-in z a) (set a (into z s) t) a
+
+-- `merge_chunk_dependencies`
 unfoldable pub merge-area : Sizes → List ℕ → ℕ → ℕ → List ℕ
-merge-area z a t s = set (merged-rows a (z .chunks) t s) (side z t) (ind (yes (cell a (side z t)) || yes (cell a (side z s))))
+merge-area z a t s = record-area z (absorb-area z a t s) t s
 
 -- chunk x is created: registered for the next number
 unfoldable pub create-area : Sizes → List ℕ → ℕ → List ℕ
@@ -86,7 +95,7 @@ unfoldable pub pass-area : Sizes → List ℕ → List ℕ → List ℕ → ℕ 
 pass-area z a props bars zero = a
 pass-area z a props bars (suc k) =
     let r = pass-area z a props bars k in
-    cond (needs-in z a k) (candidate-area z r k (getD props (count (needs-in z a) k) None) (getD bars (count (needs-in z a) k) 0)) r
+    cond (waits (read z a) k) (candidate-area z r k (getD props (count (waits (read z a)) k) None) (getD bars (count (waits (read z a)) k) 0)) r
 
 -- the area that a call leaves, if it isn't refused
 unfoldable pub write : Sizes → List ℕ → Call → List ℕ

@@ -1,4 +1,5 @@
 // The merge area: its limits and length, its header, its sets, and the first of rows 14, 15 and 21 that fits.
+pub mod merges; // merges.rt: recorded merges and their ends
 pub mod places; // places.rt: where the numbers of the area stand
 
 use crate::places::entry_chunk_place;
@@ -232,6 +233,9 @@ pub fn is_inconsistent(sizes: Sizes, area: &[u32]) -> bool
         return true;
     }
     if 0 < count_index_faults(sizes, area) {
+        return true;
+    }
+    if crate::merges::merges_have_fault(sizes, area) {
         return true;
     }
     let sets = header(sizes, area, 3) as usize;

@@ -2,7 +2,7 @@
 use merge_state::Sizes;
 ghost use mathlib.Core.Path.{_≡_};
 ghost use Prim.Native.Nat.{_^_, _<_};
-ghost use Rattle.merge_area.specs.Layout.{head, set-place, set-chunk, side, need, key, home, entry-chunk, entry-module};
+ghost use Rattle.merge_area.specs.Layout.{head, set-place, set-chunk, side, need, key, into, home, entry-chunk, entry-module};
 ghost use Rattle.merge_area.specs.Within.{Within};
 
 // Number k of the header.
@@ -51,6 +51,14 @@ pub fn key_place(sizes: Sizes, k: usize) -> usize
     ensures { λ r. ⌜ r ≡ key sizes k ⌝ }
 {
     sizes.chunks * sizes.chunks + 32 + 20 * sizes.chunks + k
+}
+
+// The chunk that chunk x was merged into.
+pub fn into_place(sizes: Sizes, x: usize) -> usize
+    requires { ⌜ Within sizes × (x < 2 ^ 32) ⌝ }
+    ensures { λ r. ⌜ r ≡ into sizes x ⌝ }
+{
+    sizes.chunks * sizes.chunks + 32 + 21 * sizes.chunks + x
 }
 
 // Module m's chunk.

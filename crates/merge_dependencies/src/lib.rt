@@ -2,6 +2,7 @@
 use merge_area::places::entry_chunk_place;
 use merge_area::places::entry_module_place;
 use merge_area::places::home_place;
+use merge_area::places::into_place;
 use merge_area::places::side_place;
 use merge_state::ChunkIdx;
 use merge_state::NONE;
@@ -10,7 +11,7 @@ use merge_writes::or_flag;
 ghost use mathlib.Core.Path.{_≡_};
 ghost use Prim.Native.Nat.{_+_, _*_, _<_};
 ghost use lib.ListN.{length, getD, set};
-ghost use Rattle.merge_area.specs.Writes.{link, linked, calc-area, union-cell, merged-rows, merge-area};
+ghost use Rattle.merge_area.specs.Writes.{link, linked, calc-area, union-cell, merged-rows, absorb-area, record-area, merge-area};
 ghost use Rattle.merge_laws.specs.Can.{CanLink, CanLinked, CanCalc, CanMerge, CanMergeArea};
 
 // Chunk x depends on chunk y, if y isn't None nor x.
@@ -97,13 +98,33 @@ fn merge_rows(flags: &mut [u32], c: usize, target: usize, source: usize)
 }
 
 // The two rows, and the target's side effects.
-pub fn merge(sizes: Sizes, area: &mut [u32], target: ChunkIdx, source: ChunkIdx)
+fn absorb(sizes: Sizes, area: &mut [u32], target: ChunkIdx, source: ChunkIdx)
     requires { ⌜ CanMergeArea sizes (now area) (target .0) (source .0) ⌝ }
-    ensures { λ _. ⌜ now (area .exit) ≡ merge-area sizes (now (area .entry)) (target .0) (source .0) ⌝ }
+    ensures { λ _. ⌜ now (area .exit) ≡ absorb-area sizes (now (area .entry)) (target .0) (source .0) ⌝ }
 {
     let kept = side_place(sizes, target.0 as usize);
     let taken = side_place(sizes, source.0 as usize);
     let effects = or_flag(area[kept], area[taken] != 0);
     merge_rows(area, sizes.chunks, target.0 as usize, source.0 as usize);
     area[kept] = effects;
+}
+
+// Where merged chunks stand for their target, the source is recorded as merged into it.
+fn record_merge(sizes: Sizes, area: &mut [u32], target: ChunkIdx, source: ChunkIdx)
+    requires { ⌜ CanMergeArea sizes (now area) (target .0) (source .0) ⌝ }
+    ensures { λ _. ⌜ now (area .exit) ≡ record-area sizes (now (area .entry)) (target .0) (source .0) ⌝ }
+{
+    if merge_area::header(sizes, area, 5) == 0 {
+        return;
+    }
+    area[into_place(sizes, source.0 as usize)] = target.0;
+}
+
+// The target takes over the source's dependencies and side effects.
+pub fn merge(sizes: Sizes, area: &mut [u32], target: ChunkIdx, source: ChunkIdx)
+    requires { ⌜ CanMergeArea sizes (now area) (target .0) (source .0) ⌝ }
+    ensures { λ _. ⌜ now (area .exit) ≡ merge-area sizes (now (area .entry)) (target .0) (source .0) ⌝ }
+{
+    absorb(sizes, area, target, source);
+    record_merge(sizes, area, target, source);
 }

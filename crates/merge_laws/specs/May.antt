@@ -1,8 +1,8 @@
 -- What each call may rely on once no row refuses it. Assumes nothing.
 use Prim.Native.Nat.{ℕ, zero, suc, _+_, _-_, _<_, _≤_}
 use native.Mathlib.Omega.{arith}
-use mathlib.Core.Path.{_≡_, sym, ap, _∙_}
-use mathlib.Core.Bool.{Bool, false, not, _&&_, _||_}
+use mathlib.Core.Path.{_≡_, sym, ap, ap₂, _∙_}
+use mathlib.Core.Bool.{Bool, true, false, not, _&&_, _||_}
 use mathlib.Core.List.{List}
 use lib.ListN.{getD, length}
 use lib.Dec.{eqb, leb, ltb}
@@ -11,22 +11,28 @@ use Rattle.graphs.specs.Bools.{and-left, or-false-left, or-false-right}
 use Rattle.graphs.specs.Lists.{below, some-none}
 use Rattle.graphs.specs.Walk.{via}
 use Rattle.graph_walks.specs.Closed.{flagEdge}
+use Rattle.graph_walks.specs.Counted.{counted, without}
+use Rattle.graph_walks.specs.Ends.{end-at, endEdge}
 use Rattle.entry_set.specs.Sets.{value, width}
 use Rattle.merge_state.specs.declared.Sizes.{Sizes}
 use Rattle.merge_state.specs.State.{None, chunk-of, pairs}
+use Rattle.merge_state.specs.Merges.{ending, end, counts}
+use Rattle.merge_state.specs.Counted.{counted-ends}
 use Rattle.merge_state.specs.Methods.{warns, warn, reachable}
 use Rattle.merge_state.specs.Table.{says, chunk, nothing, init-module-assignment, add-module-to-chunk, to-temp-idx, calc-chunk-dependencies, would-create-circular-dependency, is-reachable, merge-chunk-dependencies, falling, bad-starts, bad-lists, over-lists, later, acted, full}
 use Rattle.merge_state.specs.Ordered.{seen}
 use Rattle.merge_state.specs.Kept.{none-fits, no-misfit}
 use Rattle.merge_area.specs.Layout.{room, cell, head, key}
-use Rattle.merge_area.specs.Read.{read, sets-in, keys-in, entry, named-set}
+use Rattle.merge_area.specs.Read.{read, sets-in, keys-in, entry, named-set, depends-in, mode-in, into-in}
+use Rattle.merge_area.specs.Merged.{Led, led-end}
 use Rattle.merge_state.specs.Pairs.{pairs-length, pairs-at}
 use Rattle.merge_area.specs.Within.{Headed}
 use Rattle.merge_area.specs.Calls.{refusal, standing}
 use Rattle.merge_warning.specs.Hits.{CanAsk}
+use Rattle.merge_warning.specs.EndHits.{CanAskEnds}
 use Rattle.merge_laws.specs.Rows.{Stood, free}
 use Rattle.merge_laws.specs.Can.{CanAppend, CanAssign, CanCalc, CanMergeArea}
-use Rattle.merge_laws.specs.Ordering.{flags-clean, depends-flag, home-in-range, entry-chunk-in, entry-module-in, set-chunk-in}
+use Rattle.merge_laws.specs.Ordering.{flags-clean, merges-right, depends-flag, home-in-range, entry-chunk-in, entry-module-in, set-chunk-in}
 
 -- entries are left
 left : (z : Sizes) (a : List ℕ) → full z (read z a) ≡ false → cell a (head z 4) < z .entries
@@ -154,16 +160,46 @@ module _ (z : Sizes) (a : List ℕ) where
       }
 
   -- the questions' answers, by the flags
-  pub warn-by-flags : (s t : ℕ) {r : Bool} {n : ℕ} → Stood z a → n ≡ cell a (head z 1) → r ≡ warns (flagEdge a (z .chunks) n) n s t → r ≡ warn (read z a) s t
-  warn-by-flags s t k e h = h ∙ (rw e (ap (λ d. warns d (cell a (head z 1)) s t) (sym (depends-flag z a (cell a (head z 1)) (k .headed .fits) (flags-clean z a k)))))
+  depends-by : {n : ℕ} → Stood z a → n ≡ cell a (head z 1) → flagEdge a (z .chunks) n ≡ depends-in z a
+  depends-by k e = rw e (sym (depends-flag z a (cell a (head z 1)) (k .headed .fits) (flags-clean z a k)))
 
-  pub warn-is : (s t : ℕ) {r : Bool} {n : ℕ} → Stood z a → n ≡ cell a (head z 1) → r ≡ warns (flagEdge a (z .chunks) n) n s t → says r ≡ acted z (read z a) (would-create-circular-dependency s t) .0
+  pub warn-by-flags : (s t : ℕ) {r : Bool} {n : ℕ} → Stood z a → mode-in z a ≡ false → n ≡ cell a (head z 1) → r ≡ warns (flagEdge a (z .chunks) n) n s t → r ≡ warn (read z a) s t
+  unfolding warn
+  warn-by-flags s t {r} {n} k m e h = h ∙ (rw m (ap₂ (λ d n. warns d n s t) (depends-by k e) e))
+
+  pub reach-by-flags : (s t : ℕ) {r : Bool} {n : ℕ} → Stood z a → mode-in z a ≡ false → n ≡ cell a (head z 1) → r ≡ via (flagEdge a (z .chunks) n) (below n) s t → r ≡ reachable (read z a) s t
+  unfolding reachable
+  reach-by-flags s t k m e h = h ∙ (rw m (ap₂ (λ d n. via d (below n) s t) (depends-by k e) e))
+
+  -- where merged chunks stand for the end of their merges
+  module _ {n : ℕ} {ends : List ℕ} (k : Stood z a) (m : mode-in z a ≡ true) (e : n ≡ cell a (head z 1)) (led : Led (into-in z a) n 1024 ends) where
+    pub end-is : (x : ℕ) → x < n → end-at ends x ≡ end (read z a) x
+    end-is x b =
+        let v = merges-right z a k in
+        let few : n ≤ 1024 = omega (arith, k .headed .fits, k .headed .within .chunks, e) in
+        led-end (into-in z a) n (rw e (v .range)) led few (v .no-ring) x b ∙ ap (λ i. ending (into-in z a) i x) e
+
+    pub ask-ends : (s t : ℕ) → CanAsk a (z .chunks) (cell a (head z 1)) s t → CanAskEnds a (z .chunks) n ends s t
+    ask-ends s t can = record { ask = rw e can; long = led .inside .long; each = led .inside .each }
+
+    counts-is : counted (flagEdge a (z .chunks) n) (end-at ends) n ≡ counts (read z a)
+    counts-is = counted-ends (flagEdge a (z .chunks) n) (end-at ends) (end (read z a)) n end-is ∙ ap₂ (λ d i. counted d (end (read z a)) i) (depends-by k e) e
+
+    pub warn-by-ends : (s t : ℕ) {r : Bool} → r ≡ warns (endEdge a (z .chunks) n ends s t) n s t → r ≡ warn (read z a) s t
+    unfolding warn
+    warn-by-ends s t h = h ∙ (rw m (ap₂ (λ d i. warns (without d s t) i s t) counts-is e))
+
+    pub reach-by-ends : (s t : ℕ) {r : Bool} → s < n → t < n → r ≡ via (counted (flagEdge a (z .chunks) n) (end-at ends) n) (below n) (end-at ends s) (end-at ends t) → r ≡ reachable (read z a) s t
+    unfolding reachable
+    reach-by-ends s t b c h = h ∙ (rw (m, end-is s b, end-is t c) (ap₂ (λ d i. via d (below i) (end (read z a) s) (end (read z a) t)) counts-is e))
+
+  pub warn-is : (s t : ℕ) {r : Bool} → r ≡ warn (read z a) s t → says r ≡ acted z (read z a) (would-create-circular-dependency s t) .0
   unfolding acted
-  warn-is s t k e h = ap says (warn-by-flags s t k e h)
+  warn-is s t h = ap says h
 
-  pub reach-is : (s t : ℕ) {r : Bool} {n : ℕ} → Stood z a → n ≡ cell a (head z 1) → r ≡ via (flagEdge a (z .chunks) n) (below n) s t → says r ≡ acted z (read z a) (is-reachable s t) .0
-  unfolding acted reachable
-  reach-is s t {r} k e h = ap says (h ∙ (rw e (ap (λ d. via d (below (cell a (head z 1))) s t) (sym (depends-flag z a (cell a (head z 1)) (k .headed .fits) (flags-clean z a k))))))
+  pub reach-is : (s t : ℕ) {r : Bool} → r ≡ reachable (read z a) s t → says r ≡ acted z (read z a) (is-reachable s t) .0
+  unfolding acted
+  reach-is s t h = ap says h
 
   -- the chunk of a key
   pub temp-stands : (k : ℕ) {q : ℕ} → q ≡ standing z false false a → q ≡ refusal z a (to-temp-idx k)

@@ -4,14 +4,16 @@ use native.Mathlib.Omega.{arith}
 use native.Mathlib.Decide.{ℕ-discrete, decLt}
 use mathlib.Core.Path.{_≡_, refl, sym, ap, _∙_, fun-ext}
 use mathlib.Core.Logic.{_⊎_, inl, inr}
-use mathlib.Core.Bool.{Bool, true, false, not, cond, _&&_, _||_}
+use mathlib.Core.Bool.{Bool, true, false, not, cond, _&&_, _||_, true≢false}
 use mathlib.Core.List.{List}
 use lib.ListN.{getD}
 use lib.Dec.{eqb, ltb}
 use borrow.Author.Tests.{eqb-false, ne-eqb, leb-false, ltb-true, ltb-false, lt-ltb, le-ltb, not-true, not-false}
 use Rattle.graphs.specs.Bools.{alike, fails, and-left, and-right, and-both, or-false-left, or-false-right}
 use Rattle.graphs.specs.Count.{count-pos}
-use Rattle.graphs.specs.Lists.{some-below, some-none}
+use Rattle.graphs.specs.Lists.{some-below, below, some-none}
+use Rattle.graphs.specs.Walk.{Walk, one, more, cyclic}
+use Rattle.graphs.specs.Walks.{sources-below, acyclic-walk}
 use Rattle.graph_walks.specs.Closed.{flagEdge}
 use Rattle.graph_walks.specs.ClosedLaws.{flag-from, flag-to, flag-is}
 use Rattle.entry_set.specs.Lanes.{lanes}
@@ -20,31 +22,18 @@ use Rattle.merge_state.specs.declared.Sizes.{Sizes}
 use Rattle.merge_state.specs.State.{None, misfit, at}
 use Rattle.merge_state.specs.Loading.{came-before, twice}
 use Rattle.merge_state.specs.Warning.{Sound}
-use Rattle.merge_state.specs.Ordered.{Ordered, never}
+use Rattle.merge_state.specs.Merges.{merged-into}
+use Rattle.merge_state.specs.Ends.{Merges, step-take}
+use Rattle.merge_state.specs.Ordered.{Ordered}
 use Rattle.merge_area.specs.FlagRows.{rows-rest}
 use Rattle.merge_area.specs.Layout.{room, cell, head, set-place, set-chunk, need, key, home, entry-chunk, entry-module}
-use Rattle.merge_area.specs.Read.{read, named-set, entry, depends-in, needs-in, home-in, keys-in}
+use Rattle.merge_area.specs.Read.{read, named-set, entry, depends-in, needs-in, home-in, keys-in, mode-in, into-in}
 use Rattle.merge_state.specs.Pairs.{pairs-length, pairs-at}
-use Rattle.merge_area.specs.Consistent.{faults, row-fault, flags-fault, index-faults, out-of-range, sets-fault, inconsistent, head-fault}
+use Rattle.merge_area.specs.Consistent.{faults, row-fault, flags-fault, index-faults, lane-faults, merges-fault, out-of-range, sets-fault, inconsistent, head-fault}
 use Rattle.merge_area.specs.Within.{Headed}
+use Rattle.merge_area.specs.Faults.{no-fault, fits-free, part-below}
+use Rattle.merge_area.specs.Merged.{into-off, lane-range, CanFollow}
 use Rattle.merge_laws.specs.Rows.{Stood}
-
--- no faults
-no-fault : (l : List ℕ) (at n top : ℕ) (free : Bool) → faults l at n top free ≡ 0 → (i : ℕ) → i < n → misfit top free (getD l (at + i) 0) ≡ false
-unfolding faults
-no-fault l at n top free h i b = fails _ (λ q. omega (arith, count-pos (λ i. misfit top free (getD l (at + i) 0)) n i b q))
-
-fits-below : (top v : ℕ) → misfit top false v ≡ false → v < top
-unfolding misfit
-fits-below top v h = leb-false top v (fails _ (λ q. never _ (and-both _ _ q refl) h))
-
-fits-free : (top v : ℕ) → misfit top true v ≡ false → (v ≡ None → ⊥) → v < top
-unfolding misfit
-fits-free top v h n = leb-false top v (fails _ (λ q. never _ (and-both _ _ q (ap not (ne-eqb v None n))) h))
-
--- each number of a part is in range, given by its own place
-part-below : (l : List ℕ) (at n top : ℕ) → faults l at n top false ≡ 0 → (i : ℕ) → i < n → getD l (at + i) 0 < top
-part-below l at n top h i b = fits-below top _ (no-fault l at n top false h i b)
 
 -- the flags of an area that row 21 doesn't refuse
 pub record Clean (a : List ℕ) (c n : ℕ) : Type 0 where
@@ -110,7 +99,7 @@ module _ (z : Sizes) (a : List ℕ) (n : ℕ) (fits : n ≤ z .chunks) (k : Clea
           let yn = flag-to a (z .chunks) n x y h in
           and-both _ _ (and-both _ _ (lt-ltb x (z .chunks) (omega arith)) (lt-ltb y (z .chunks) (omega arith))) (sym (flag-is a (z .chunks) n x y xn yn) ∙ h)
 
-  depends-sound : (g : ℕ) → g ≡ n → Sound (record { initial = cell a (head z 0); made = g; created = cell a (head z 2); depends = depends-in z a; effects = λ x. false; needs = λ x. false; log = mathlib.Core.List.[]; sets = mathlib.Core.List.[]; home = λ m. 0; keys = λ m. 0 })
+  depends-sound : (g : ℕ) → g ≡ n → Sound (record { initial = cell a (head z 0); made = g; created = cell a (head z 2); depends = depends-in z a; effects = λ x. false; needs = λ x. false; log = mathlib.Core.List.[]; sets = mathlib.Core.List.[]; home = λ m. 0; keys = λ m. 0; mode = false; into = λ m. 0 })
   depends-sound g e = record { self = depends-self; from = λ x y h. omega (arith, depends-from x y h); to = λ x y h. omega (arith, depends-to x y h) }
 
 -- the parts of `inconsistent`
@@ -118,21 +107,42 @@ module _ (z : Sizes) (a : List ℕ) (s : Stood z a) where
   abbrev H : Headed z a
   H = s .headed
 
-  after-head : (flags-fault a (z .chunks) (cell a (head z 1)) || (ltb 0 (index-faults z a) || sets-fault z a (cell a (head z 3)))) ≡ false
+  after-head : (flags-fault a (z .chunks) (cell a (head z 1)) || (ltb 0 (index-faults z a) || (merges-fault z a || sets-fault z a (cell a (head z 3))))) ≡ false
   unfolding inconsistent
   after-head = or-false-right (head-fault z a) _ (s .consistent)
 
   pub flags-clean : Clean a (z .chunks) (cell a (head z 1))
   flags-clean = clean a (z .chunks) (cell a (head z 1)) (H .fits) (or-false-left (flags-fault a (z .chunks) (cell a (head z 1))) _ after-head)
 
-  after-flags : (ltb 0 (index-faults z a) || sets-fault z a (cell a (head z 3))) ≡ false
+  after-flags : (ltb 0 (index-faults z a) || (merges-fault z a || sets-fault z a (cell a (head z 3)))) ≡ false
   after-flags = or-false-right (flags-fault a (z .chunks) (cell a (head z 1))) _ after-head
 
   none : index-faults z a ≤ 0
   none = ltb-false 0 _ (or-false-left (ltb 0 (index-faults z a)) _ after-flags)
 
-  after-index : sets-fault z a (cell a (head z 3)) ≡ false
+  after-index : (merges-fault z a || sets-fault z a (cell a (head z 3))) ≡ false
   after-index = or-false-right (ltb 0 (index-faults z a)) _ after-flags
+
+  after-merges : sets-fault z a (cell a (head z 3)) ≡ false
+  after-merges = or-false-right (merges-fault z a) _ after-index
+
+  pub merges-right : Merges (mode-in z a) (into-in z a) (cell a (head z 1))
+  unfolding merges-fault
+  merges-right = go (mode-in z a) refl (or-false-left (merges-fault z a) _ after-index)
+    where
+      go : (m : Bool) → mode-in z a ≡ m → (m && (ltb 0 (lane-faults z a) || cyclic (merged-into (into-in z a)) (below (cell a (head z 1))))) ≡ false → Merges m (into-in z a) (cell a (head z 1))
+      go true e h =
+          let range = lane-range z a e (H .fits) (omega (arith, ltb-false 0 (lane-faults z a) (or-false-left (ltb 0 (lane-faults z a)) _ h))) in
+          record {
+            range = range;
+            no-ring = acyclic-walk (merged-into (into-in z a)) (below (cell a (head z 1))) (sources-below (λ x y q. range x (step-take (into-in z a) x y q .0) .0)) .0 (or-false-right (ltb 0 (lane-faults z a)) _ h);
+            off = λ q. absurd (true≢false q);
+          }
+      go false e h = record { range = λ x q. absurd (q (into-off z a e x)); no-ring = λ x w. stuck e w; off = λ q x. into-off z a e x }
+        where
+          stuck : mode-in z a ≡ false → {x y : ℕ} → Walk (merged-into (into-in z a)) x y → ⊥
+          stuck e (one {x} {y} q) = step-take (into-in z a) x y q .0 (into-off z a e x)
+          stuck e (more {x} {y} q w) = step-take (into-in z a) x y q .0 (into-off z a e x)
 
   shifted : (at i : ℕ) → cell a (at + 0 + i) ≡ cell a (at + i)
   shifted at i = ap (cell a) (omega arith)
@@ -169,13 +179,13 @@ module _ (z : Sizes) (a : List ℕ) (s : Stood z a) where
 
   set-in : (i : ℕ) → i < cell a (head z 3) → lanes a (set-place z i) 1 < 2 ^ z .bits
   unfolding sets-fault out-of-range
-  set-in i h = ltb-true _ _ (not-false _ (some-none (out-of-range z a) (cell a (head z 3)) (or-false-left (some-below (out-of-range z a) (cell a (head z 3))) _ after-index) i h))
+  set-in i h = ltb-true _ _ (not-false _ (some-none (out-of-range z a) (cell a (head z 3)) (or-false-left (some-below (out-of-range z a) (cell a (head z 3))) _ after-merges) i h))
 
   set-apart : (i j : ℕ) → i < j → j < cell a (head z 3) → lanes a (set-place z i) 1 ≡ lanes a (set-place z j) 1 → ⊥
   unfolding sets-fault twice came-before
   set-apart i j l h =
       eqb-false _ _ (some-none (λ i. eqb (lanes a (set-place z i) 1) (lanes a (set-place z j) 1)) j
-      (some-none (came-before (λ i. lanes a (set-place z i) 1)) (cell a (head z 3)) (or-false-right (some-below (out-of-range z a) (cell a (head z 3))) _ after-index) j h) i l)
+      (some-none (came-before (λ i. lanes a (set-place z i) 1)) (cell a (head z 3)) (or-false-right (some-below (out-of-range z a) (cell a (head z 3))) _ after-merges) j h) i l)
 
   ranged : {n top : ℕ} (f : ℕ → ℕ) → ((k : ℕ) → k < n → (f k ≡ None → ⊥) → f k < top) → (k : ℕ) → (cond (ltb k n) (f k) None ≡ None) ⊎ ((k < n) × (cond (ltb k n) (f k) None < top))
   ranged {n} {top} f h k = elim (decLt k n) [
@@ -201,4 +211,9 @@ module _ (z : Sizes) (a : List ℕ) (s : Stood z a) where
         room = omega (arith, pairs-length (named-set z a) (cell a (head z 3)), H .named);
         logged = λ i h. let b : i < cell a (head z 4) = omega (arith, pairs-length (entry z a) (cell a (head z 4))) in rw (pairs-at (entry z a) (cell a (head z 4)) i b) (entry-chunk-in i b, entry-module-in i b);
         used = omega (arith, pairs-length (entry z a) (cell a (head z 4)), H .used);
+        merges = merges-right;
       }
+
+  -- the merges can be followed
+  pub follows : {n : ℕ} → mode-in z a ≡ true → n ≡ cell a (head z 1) → CanFollow z a n
+  follows {n} m e = record { within = H .within; long = H .long; few = omega (arith, H .fits, e); on = m; range = rw e (merges-right .range) }

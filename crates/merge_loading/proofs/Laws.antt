@@ -87,33 +87,33 @@ three a b c a′ b′ c′ p q r = rw (p, q, r) refl
 
 pub later-is : (z : Sizes) (i : ℕ) (modules flat chunks : List ℕ) (w : ℕ) → w ≡ width (z .bits) → {bad repeated : Bool} {r : ℕ} → bad ≡ bad-index z i modules flat chunks
     → repeated ≡ twice (λ j. value (set-at w flat j)) (length chunks) → r ≡ first-fitting ((bad, 16) ∷ (repeated, 17) ∷ (ltb (z .entries) (length modules), 19) ∷ [])
-    → r ≡ first-fitting (later-load z (lent i [] modules flat chunks []))
+    → r ≡ first-fitting (later-load z (lent i [] modules flat chunks [] 0))
 unfolding later-load bad-index
 later-is z i modules flat chunks w wide a b e = e ∙ three _ _ _ _ _ _ a (b ∙ ap (λ v. twice (λ j. value (set-at v flat j)) (length chunks)) wide) refl
 
 -- what row 14 and 15 say of the lists
 module _ (z : Sizes) (i : ℕ) (starts modules flat chunks effects : List ℕ) where
-  pub many-initial : z .chunks < i → over-load z (lent i starts modules flat chunks effects) ≡ true
+  pub many-initial : z .chunks < i → over-load z (lent i starts modules flat chunks effects 0) ≡ true
   unfolding over-load
   many-initial h = or-left (ltb (z .chunks) i) _ (lt-ltb _ _ h)
 
-  pub many-pairs : z .chunks < length chunks → over-load z (lent i starts modules flat chunks effects) ≡ true
+  pub many-pairs : z .chunks < length chunks → over-load z (lent i starts modules flat chunks effects 0) ≡ true
   unfolding over-load
   many-pairs h = or-right (ltb (z .chunks) i) _ (lt-ltb _ _ h)
 
-  pub few-both : i ≤ z .chunks → length chunks ≤ z .chunks → over-load z (lent i starts modules flat chunks effects) ≡ false
+  pub few-both : i ≤ z .chunks → length chunks ≤ z .chunks → over-load z (lent i starts modules flat chunks effects 0) ≡ false
   unfolding over-load
   few-both h k = or-false (ltb (z .chunks) i) _ (le-ltb _ _ h) (le-ltb _ _ k)
 
-  pub bad-same : {r : Bool} → r ≡ (bad-starts i starts (length modules) || (not (eqb (length flat) (length chunks * width (z .bits))) || not (eqb (length effects) (z .modules)))) → r ≡ bad-load z (lent i starts modules flat chunks effects)
+  pub bad-same : {r : Bool} → r ≡ (bad-starts i starts (length modules) || (not (eqb (length flat) (length chunks * width (z .bits))) || not (eqb (length effects) (z .modules)))) → r ≡ bad-load z (lent i starts modules flat chunks effects 0)
   unfolding bad-load
   bad-same h = h
 
-  pub bad-full : bad-load z (lent i starts modules flat chunks effects) ≡ false → length flat ≡ length chunks * width (z .bits)
+  pub bad-full : bad-load z (lent i starts modules flat chunks effects 0) ≡ false → length flat ≡ length chunks * width (z .bits)
   unfolding bad-load
   bad-full h = eqb-true _ _ (not-false _ (or-false-left (not (eqb (length flat) (length chunks * width (z .bits)))) _ (or-false-right (bad-starts i starts (length modules)) _ h)))
 
   -- the later rows read neither starts nor side effects
-  pub later-same : {q : ℕ} → q ≡ first-fitting (later-load z (lent i [] modules flat chunks [])) → q ≡ first-fitting (later-load z (lent i starts modules flat chunks effects))
+  pub later-same : {q : ℕ} → q ≡ first-fitting (later-load z (lent i [] modules flat chunks [] 0)) → q ≡ first-fitting (later-load z (lent i starts modules flat chunks effects 0))
   unfolding later-load
   later-same h = h

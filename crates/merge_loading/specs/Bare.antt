@@ -8,6 +8,7 @@ use mathlib.Core.Path.{_≡_, refl, sym, ap, _∙_}
 use mathlib.Core.List.{List}
 use lib.ListN.{getD, length, set, replicate, length-set, length-replicate, getD-replicate}
 use lib.Seq.{getD-set-same, getD-set-other}
+use Rattle.graphs.specs.Count.{ind}
 use Rattle.graphs.specs.Tab.{tab, tab-length, tab-at}
 use Rattle.layout.specs.Patch.{patch, patch-long, patch-in, patch-out}
 use Rattle.entry_set.specs.Joined.{parts}
@@ -17,10 +18,32 @@ use Rattle.entry_set.specs.Lanes.{lanes, setLanes}
 use Rattle.entry_set.specs.LaneLaws.{length-setStrided, setStrided-other, lanes-set, lanes-same}
 use Rattle.merge_state.specs.declared.Sizes.{Sizes}
 use Rattle.merge_state.specs.State.{None}
+use Rattle.merge_state.specs.State as state
 use Rattle.merge_state.specs.Loading.{set-at}
-use Rattle.merge_area.specs.Layout.{room, cell, head, set-place, set-chunk, side, need, key, home}
+use Rattle.merge_area.specs.Layout.{room, cell, head, set-place, set-chunk, side, need, key, into, home}
 use Rattle.merge_area.specs.Within.{Within}
-use Rattle.merge_loading.specs.Loading.{first-key, cleared-area, headed-area, named-area, bare-area}
+use Rattle.merge_loading.specs.Loading.{mode-area, first-key, cleared-area, headed-area, named-area, bare-area}
+
+-- the mode, and no merge
+module _ (z : Sizes) (m : ℕ) (a : List ℕ) where
+  abbrev unmerged : List ℕ
+  unmerged = patch (into z 0) (replicate (z .chunks) None) a
+
+  pub mode-long : length (mode-area z m a) ≡ length a
+  unfolding mode-area
+  mode-long = rw length-set (patch-long (into z 0) (replicate (z .chunks) None) a)
+
+  module _ (long : room z ≤ length a) where
+    pub mode-head : cell (mode-area z m a) (head z 5) ≡ ind (state.yes m)
+    unfolding mode-area
+    mode-head = getD-set-same unmerged (head z 5) (ind (state.yes m)) 0 (omega (arith, patch-long (into z 0) (replicate (z .chunks) None) a))
+
+    pub mode-into : (x : ℕ) → x < z .chunks → cell (mode-area z m a) (into z x) ≡ None
+    unfolding mode-area
+    mode-into x h =
+        let e : into z x ≡ into z 0 + x = omega arith in
+        getD-set-other unmerged (head z 5) (into z x) (ind (state.yes m)) 0 (omega arith) ∙ ap (cell unmerged) e
+        ∙ patch-in (into z 0) (replicate (z .chunks) None) a x (rw length-replicate h) (omega arith) ∙ getD-replicate {A = ℕ} (z .chunks) x None 0 h
 
 -- no dependency, side effect, need or module's chunk, and the first keys
 module _ (z : Sizes) (i : ℕ) (a : List ℕ) where
@@ -55,6 +78,18 @@ module _ (z : Sizes) (i : ℕ) (a : List ℕ) where
     -- before the keys
     lower : (k : ℕ) → k < key z 0 → cell (cleared-area z i a) k ≡ cell sides k
     lower k h = low k (omega arith) ∙ patch-out (key z 0) (tab (first-key i) (z .chunks)) sides k (omega (arith, sides-long)) (λ b. absurd (omega arith))
+
+    -- header and merges aren't cleared
+    pub cleared-head : (k : ℕ) → k < 32 → cell (cleared-area z i a) (head z k) ≡ cell a (head z k)
+    cleared-head k h =
+        lower (head z k) (omega arith) ∙ patch-out (side z 0) (replicate (2 * z .chunks) 0) flags (head z k) (omega (arith, flags-long)) (λ b. absurd (omega arith))
+        ∙ patch-out 0 (replicate (z .chunks * z .chunks) 0) a (head z k) (omega arith) (λ b. rw length-replicate (omega arith))
+
+    pub cleared-into : (x : ℕ) → x < z .chunks → cell (cleared-area z i a) (into z x) ≡ cell a (into z x)
+    cleared-into x h =
+        low (into z x) (omega arith) ∙ patch-out (key z 0) (tab (first-key i) (z .chunks)) sides (into z x) (omega (arith, sides-long)) (λ b. rw tab-length (omega arith))
+        ∙ patch-out (side z 0) (replicate (2 * z .chunks) 0) flags (into z x) (omega (arith, flags-long)) (λ b. rw length-replicate (omega arith))
+        ∙ patch-out 0 (replicate (z .chunks * z .chunks) 0) a (into z x) (omega arith) (λ b. rw length-replicate (omega arith))
 
     pub cleared-flag : (k : ℕ) → k < z .chunks * z .chunks → cell (cleared-area z i a) k ≡ 0
     cleared-flag k h =

@@ -5,20 +5,26 @@ use mathlib.Core.Bool.{cond, _||_}
 use mathlib.Core.List.{List, _∷_}
 use lib.ListN.{getD, length, set, replicate}
 use lib.Dec.{ltb}
+use Rattle.graphs.specs.Count.{ind}
 use Rattle.graphs.specs.Tab.{tab}
 use Rattle.layout.specs.Patch.{patch}
 use Rattle.entry_set.specs.Sets.{value, width}
 use Rattle.entry_set.specs.Lanes.{setLanes}
 use Rattle.merge_state.specs.declared.Sizes.{Sizes}
-use Rattle.merge_state.specs.State.{None, flag}
+use Rattle.merge_state.specs.State.{None, yes, flag}
 use Rattle.merge_state.specs.Table.{Answer, done, first-fitting, turned}
 use Rattle.merge_state.specs.Loading.{Lent, lister, set-at, over-load, bad-load, later-load}
-use Rattle.merge_area.specs.Layout.{head, set-place, set-chunk, side, key, home}
+use Rattle.merge_area.specs.Layout.{head, set-place, set-chunk, side, key, into, home}
 use Rattle.merge_area.specs.Writes.{append-area}
 use Rattle.merge_area.specs.Consistent.{over, short}
 
-abbrev pub lent : ℕ → List ℕ → List ℕ → List ℕ → List ℕ → List ℕ → Lent
-lent initial starts modules flat chunks effects = record { initial = initial; starts = starts; modules = modules; flat = flat; chunks = chunks; effects = effects }
+abbrev pub lent : ℕ → List ℕ → List ℕ → List ℕ → List ℕ → List ℕ → ℕ → Lent
+lent initial starts modules flat chunks effects mode =
+    record { initial = initial; starts = starts; modules = modules; flat = flat; chunks = chunks; effects = effects; mode = mode }
+
+-- the mode, 1 or 0, and no merge
+unfoldable pub mode-area : Sizes → ℕ → List ℕ → List ℕ
+mode-area z m a = set (patch (into z 0) (replicate (z .chunks) None) a) (head z 5) (ind (yes m))
 
 -- "Initial chunks have equal indices in both graphs": the chunk first registered for key k, of i initial chunks
 abbrev pub first-key : ℕ → ℕ → ℕ
@@ -52,7 +58,7 @@ listed-area z i starts modules effects a (suc k) =
 
 -- "`new` takes each initial chunk's modules and pairs (set, chunk), distinct sets"
 unfoldable pub loaded-area : Sizes → Lent → List ℕ → List ℕ
-loaded-area z n a = listed-area z (n .initial) (n .starts) (n .modules) (n .effects) (bare-area z (n .initial) (n .flat) (n .chunks) a) (length (n .modules))
+loaded-area z n a = listed-area z (n .initial) (n .starts) (n .modules) (n .effects) (bare-area z (n .initial) (n .flat) (n .chunks) (mode-area z (n .mode) a)) (length (n .modules))
 
 -- "Merge calls check 14, 15; at loading then 16, 17, 19"
 unfoldable pub load-refusal : Sizes → Lent → List ℕ → ℕ

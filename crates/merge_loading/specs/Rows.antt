@@ -1,7 +1,7 @@
 -- The rows of a loading: what one that none refuses may rely on, and what `new` then answers and leaves. Assumes nothing.
 use Prim.Native.Nat.{ℕ, _≤_}
 use native.Mathlib.Omega.{arith}
-use mathlib.Core.Path.{_≡_, sym, ap, _∙_}
+use mathlib.Core.Path.{_≡_, refl, sym, ap, _∙_}
 use mathlib.Core.Bool.{true, false}
 use mathlib.Core.List.{List}
 use lib.ListN.{length}
@@ -15,8 +15,8 @@ use Rattle.merge_area.specs.Layout.{room}
 use Rattle.merge_area.specs.Consistent.{over, short}
 use Rattle.merge_area.specs.Within.{Within, within, longs}
 use Rattle.merge_laws.specs.Rows.{fits-here, fits-next, turned-refused, turned-free}
-use Rattle.merge_loading.specs.Loading.{bare-area, loaded-area, load-refusal, load-step, Loaded}
-use Rattle.merge_loading.specs.Bare.{bare-long, bare-used}
+use Rattle.merge_loading.specs.Loading.{lent, mode-area, bare-area, loaded-area, load-refusal, load-step, Loaded}
+use Rattle.merge_loading.specs.Bare.{CanName, mode-long, bare-long, bare-used}
 use Rattle.merge_loading.specs.Listing.{CanList}
 
 -- no row fits
@@ -38,13 +38,17 @@ can-load z n a e h =
 
 -- the list entries can then be written
 module _ {z : Sizes} {n : Lent} {a : List ℕ} (can : CanLoad z n a) where
-  pub load-list : {b : List ℕ} → b ≡ bare-area z (n .initial) (n .flat) (n .chunks) a → CanList z (n .initial) (n .starts) (n .modules) (n .effects) b
+  pub load-name : {b : List ℕ} → b ≡ mode-area z (n .mode) a → CanName z (n .flat) (n .chunks) b
+  load-name e = rw e (record { within = can .within; long = omega (arith, can .long, mode-long z (n .mode) a); few = can .allowed .few-pairs; full = can .allowed .flat })
+
+  pub load-list : {b : List ℕ} → b ≡ bare-area z (n .initial) (n .flat) (n .chunks) (mode-area z (n .mode) a) → CanList z (n .initial) (n .starts) (n .modules) (n .effects) b
   load-list {b} e =
-      let l = bare-long z (n .initial) (n .flat) (n .chunks) a (can .allowed .few-pairs) in
-      let u = bare-used z (n .initial) (n .flat) (n .chunks) a (can .allowed .few-pairs) (can .long) in
+      let k = mode-long z (n .mode) a in
+      let l = bare-long z (n .initial) (n .flat) (n .chunks) (mode-area z (n .mode) a) (can .allowed .few-pairs) in
+      let u = bare-used z (n .initial) (n .flat) (n .chunks) (mode-area z (n .mode) a) (can .allowed .few-pairs) (omega (arith, can .long, k)) in
       rw e (record {
         within = can .within;
-        long = omega (arith, can .long, l);
+        long = omega (arith, can .long, k, l);
         few = can .allowed .few;
         count = can .allowed .count;
         begin = can .allowed .begin;
@@ -55,6 +59,11 @@ module _ {z : Sizes} {n : Lent} {a : List ℕ} (can : CanLoad z n a) where
         room = can .allowed .room;
         empty = u;
       })
+
+-- the rows of a loading don't look at the mode
+pub any-mode : (z : Sizes) (i : ℕ) (starts modules flat chunks effects : List ℕ) (m : ℕ) (a : List ℕ) → load-refusal z (lent i starts modules flat chunks effects 0) a ≡ load-refusal z (lent i starts modules flat chunks effects m) a
+unfolding load-refusal over-load bad-load later-load
+any-mode z i starts modules flat chunks effects m a = refl
 
 -- the tests before the later rows, in order
 module _ (z : Sizes) (n : Lent) (a : List ℕ) where

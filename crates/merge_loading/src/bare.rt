@@ -6,6 +6,7 @@ use entry_set::write_lanes;
 use layout::fill_with;
 use merge_area::places::head_place;
 use merge_area::places::home_place;
+use merge_area::places::into_place;
 use merge_area::places::key_place;
 use merge_area::places::set_chunk_place;
 use merge_area::places::set_place;
@@ -15,14 +16,36 @@ use merge_state::Sizes;
 ghost use mathlib.Core.Path.{_≡_};
 ghost use Prim.Native.Nat.{_+_, _*_, _^_, _≤_, _<_};
 ghost use lib.ListN.{length, set};
+ghost use Rattle.graphs.specs.Count.{ind};
 ghost use Rattle.graphs.specs.Tab.{tab};
+ghost use Rattle.merge_state.specs.State.{yes};
 ghost use Rattle.layout.specs.Patch.{patch};
 ghost use Rattle.entry_set.specs.Sets.{number};
 ghost use Rattle.entry_set.specs.Lanes.{setLanes};
 ghost use Rattle.merge_area.specs.Layout.{room, set-place, set-chunk};
 ghost use Rattle.merge_area.specs.Within.{Within};
-ghost use Rattle.merge_loading.specs.Loading.{first-key, cleared-area, headed-area, named-area, bare-area};
+ghost use Rattle.merge_loading.specs.Loading.{mode-area, first-key, cleared-area, headed-area, named-area, bare-area};
 ghost use Rattle.merge_loading.specs.Bare.{CanName};
+
+// 1 where the number isn't 0.
+fn flag_of(v: u32) -> u32
+    ensures { λ r. ⌜ r ≡ ind (yes v) ⌝ }
+{
+    if v != 0 {
+        return 1;
+    }
+    0
+}
+
+// The mode, and no merge.
+pub fn write_mode(sizes: Sizes, area: &mut [u32], mode: u32)
+    requires { ⌜ Within sizes × (room sizes ≤ length (now area)) ⌝ }
+    ensures { λ _. ⌜ now (area .exit) ≡ mode-area sizes mode (now (area .entry)) ⌝ }
+{
+    let flag = flag_of(mode);
+    fill_with(area, into_place(sizes, 0), sizes.chunks, NONE);
+    area[head_place(sizes, 5)] = flag;
+}
 
 // The chunk first registered for key k: k itself where that is an initial chunk, else None.
 fn key_of(k: usize, initial: usize) -> u32

@@ -1,5 +1,6 @@
 // The list entries of a loading, and the whole.
 use crate::bare::write_bare;
+use crate::bare::write_mode;
 use merge_state::ChunkIdx;
 use merge_state::ModuleIdx;
 use merge_state::Sizes;
@@ -58,10 +59,12 @@ pub fn load(
     sets: &[u64],
     chunks: &[u32],
     effects: &[u32],
+    mode: u32,
 )
-    requires { ⌜ CanLoad sizes (lent initial (now starts) (now modules) (now sets) (now chunks) (now effects)) (now area) ⌝ }
-    ensures { λ _. ⌜ now (area .exit) ≡ loaded-area sizes (lent initial (now (starts .entry)) (now (modules .entry)) (now (sets .entry)) (now (chunks .entry)) (now (effects .entry))) (now (area .entry)) ⌝ }
+    requires { ⌜ CanLoad sizes (lent initial (now starts) (now modules) (now sets) (now chunks) (now effects) mode) (now area) ⌝ }
+    ensures { λ _. ⌜ now (area .exit) ≡ loaded-area sizes (lent initial (now (starts .entry)) (now (modules .entry)) (now (sets .entry)) (now (chunks .entry)) (now (effects .entry)) mode) (now (area .entry)) ⌝ }
 {
+    write_mode(sizes, area, mode);
     write_bare(sizes, area, initial, sets, chunks);
     list_modules(sizes, area, initial, starts, modules, effects);
 }

@@ -78,7 +78,7 @@ fn first_later(bad: bool, repeated: bool, full: bool) -> u32
 // The rows 16, 17 and 19.
 fn later_row(sizes: Sizes, initial: usize, modules: &[u32], sets: &[u64], chunks: &[u32]) -> u32
     requires { ⌜ (sizes .bits ≤ 256) × (length (now chunks) ≤ 1024) × (length (now sets) ≡ length (now chunks) * width (sizes .bits)) ⌝ }
-    ensures { λ r. ⌜ r ≡ first-fitting (later-load sizes (lent initial [] (now (modules .entry)) (now (sets .entry)) (now (chunks .entry)) [])) ⌝ }
+    ensures { λ r. ⌜ r ≡ first-fitting (later-load sizes (lent initial [] (now (modules .entry)) (now (sets .entry)) (now (chunks .entry)) [] 0)) ⌝ }
 {
     let bad = has_bad_index(sizes, initial, modules, sets, chunks);
     let repeated = any_twice(sets, set_width(sizes.bits), chunks.len());
@@ -96,7 +96,7 @@ pub fn load_row(
     effects: &[u32],
     area: &[u32],
 ) -> u32
-    ensures { λ r. ⌜ r ≡ load-refusal sizes (lent initial (now (starts .entry)) (now (modules .entry)) (now (sets .entry)) (now (chunks .entry)) (now (effects .entry))) (now (area .entry)) ⌝ }
+    ensures { λ r. ⌜ r ≡ load-refusal sizes (lent initial (now (starts .entry)) (now (modules .entry)) (now (sets .entry)) (now (chunks .entry)) (now (effects .entry)) 0) (now (area .entry)) ⌝ }
 {
     if merge_area::over_limits(sizes) {
         return 14;

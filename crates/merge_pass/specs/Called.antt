@@ -10,10 +10,11 @@ use borrow.Author.Tests.{eqb-true, ltb-false, not-false}
 use Rattle.graphs.specs.Bools.{or-false-left, or-false-right}
 use Rattle.graphs.specs.Count.{count, count-le}
 use Rattle.merge_state.specs.declared.Sizes.{Sizes}
+use Rattle.merge_state.specs.Merges.{waits}
 use Rattle.merge_state.specs.Table.{refused, lists, pass, later, acted}
 use Rattle.merge_state.specs.Kept.{none-fits}
 use Rattle.merge_area.specs.Layout.{cell, head}
-use Rattle.merge_area.specs.Read.{needs-in, read}
+use Rattle.merge_area.specs.Read.{read}
 use Rattle.merge_area.specs.Writes.{write}
 use Rattle.merge_area.specs.Calls.{refusal, lists-after, candidates, PassCalled}
 use Rattle.merge_laws.specs.Rows.{free, refused-called, acted-called}
@@ -22,7 +23,7 @@ use Rattle.merge_pass.specs.Lists.{kinds-listed, list-length}
 
 module _ (z : Sizes) (a ps bs ks ns : List ℕ) {q : ℕ} (e : q ≡ refusal z a (pass ps bs ks ns)) where
   abbrev n : ℕ
-  n = count (needs-in z a) (cell a (head z 1))
+  n = count (waits (read z a)) (cell a (head z 1))
 
   -- no row refuses the pass
   pub may-pass : q ≡ 0 → CanPass z a ps bs ks ns
@@ -31,13 +32,15 @@ module _ (z : Sizes) (a ps bs ks ns : List ℕ) {q : ℕ} (e : q ≡ refusal z a
       let f = free z a (pass ps bs ks ns) e h in
       let h₁ = none-fits _ 15 _ (omega arith) (f .later) in
       let h₂ = none-fits _ 16 _ (omega arith) (h₁ .1) in
-      let h₃ = none-fits _ 18 _ (omega arith) (h₂ .1) in
+      let h₃ = none-fits _ 28 _ (omega arith) (h₂ .1) in
+      let h₄ = none-fits _ 18 _ (omega arith) (h₃ .1) in
       let l₁ = or-false-right (not (eqb (length ps) n)) _ (h₁ .0) in
       let l₂ = or-false-right (not (eqb (length bs) n)) _ l₁ in
       record {
         stood = f .stood;
         proper = h₂ .0;
-        left = ltb-false _ _ (h₃ .0);
+        unmerged = h₃ .0;
+        left = ltb-false _ _ (h₄ .0);
         proposals = eqb-true _ _ (not-false _ (or-false-left (not (eqb (length ps) n)) _ (h₁ .0)));
         bars = eqb-true _ _ (not-false _ (or-false-left (not (eqb (length bs) n)) _ l₁));
         kinds = eqb-true _ _ (not-false _ (or-false-left (not (eqb (length ks) n)) _ l₂));
@@ -45,7 +48,7 @@ module _ (z : Sizes) (a ps bs ks ns : List ℕ) {q : ℕ} (e : q ≡ refusal z a
       }
 
   pub few-candidates : q ≡ 0 → length ks ≤ 1024
-  few-candidates h = let c = may-pass h in omega (arith, c .kinds, count-le (needs-in z a) (cell a (head z 1)), c .stood .headed .fits, c .stood .headed .within .chunks)
+  few-candidates h = let c = may-pass h in omega (arith, c .kinds, count-le (waits (read z a)) (cell a (head z 1)), c .stood .headed .fits, c .stood .headed .within .chunks)
 
   -- a refused pass
   pub refused-pass : (q ≡ 0 → ⊥) → PassCalled z a (pass ps bs ks ns) (ks, ns) (refused q) 0 a (ks, ns)

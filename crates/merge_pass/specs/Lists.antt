@@ -10,6 +10,7 @@ use lib.ListN.{getD, length, set, length-append}
 use Rattle.layout.specs.Patch.{patch, is-part, patch-long, patch-in, patch-none, patch-over, patch-append, patch-one, patch-all}
 use Rattle.graphs.specs.Count.{count, count-none, count-yes, count-no}
 use Rattle.merge_state.specs.State.{None, Graph}
+use Rattle.merge_state.specs.Merges.{waits}
 use Rattle.merge_state.specs.Methods.{Passed, merges, candidate, passed}
 use Rattle.merge_pass.specs.Turns.{kind-of, number-of}
 
@@ -43,39 +44,39 @@ module _ (f : Passed → List ℕ) (v : Graph → ℕ → ℕ → ℕ → ℕ) (
 
   -- the proposal and the bar for chunk k
   abbrev p : ℕ → ℕ
-  p k = getD props (count (g .needs) k) None
+  p k = getD props (count (waits g) k) None
 
   abbrev b : ℕ → ℕ
-  b k = getD bars (count (g .needs) k) 0
+  b k = getD bars (count (waits g) k) 0
 
   list-begin : f (so-far 0) ≡ []
   unfolding passed
   list-begin = w .none g
 
-  list-next : (k : ℕ) → f (so-far (k + 1)) ≡ cond (g .needs k) (f (so-far k) ++ (v (so-far k .graph) k (p k) (b k) ∷ [])) (f (so-far k))
+  list-next : (k : ℕ) → f (so-far (k + 1)) ≡ cond (waits g k) (f (so-far k) ++ (v (so-far k .graph) k (p k) (b k) ∷ [])) (f (so-far k))
   unfolding passed
-  list-next k = ap (λ n. f (so-far n)) (add-one k) ∙ go (g .needs k)
+  list-next k = ap (λ n. f (so-far n)) (add-one k) ∙ go (waits g k)
     where
       go : (t : Bool) → f (cond t (candidate (so-far k) k (p k) (b k)) (so-far k)) ≡ cond t (f (so-far k) ++ (v (so-far k .graph) k (p k) (b k) ∷ [])) (f (so-far k))
       go true = w .more (so-far k) k (p k) (b k)
       go false = refl
 
-  pub list-length : (k : ℕ) → length (f (so-far k)) ≡ count (g .needs) k
-  list-length zero = ap length list-begin ∙ sym (count-none (g .needs))
-  list-length (suc k) = subst (λ n. length (f (so-far n)) ≡ count (g .needs) n) (add-one k) (ap length (list-next k) ∙ go (g .needs k) refl (list-length k))
+  pub list-length : (k : ℕ) → length (f (so-far k)) ≡ count (waits g) k
+  list-length zero = ap length list-begin ∙ sym (count-none (waits g))
+  list-length (suc k) = subst (λ n. length (f (so-far n)) ≡ count (waits g) n) (add-one k) (ap length (list-next k) ∙ go (waits g k) refl (list-length k))
     where
-      go : (t : Bool) → g .needs k ≡ t → length (f (so-far k)) ≡ count (g .needs) k → length (cond t (f (so-far k) ++ (v (so-far k .graph) k (p k) (b k) ∷ [])) (f (so-far k))) ≡ count (g .needs) (k + 1)
-      go true q e = omega (arith, length-append (f (so-far k)) (v (so-far k .graph) k (p k) (b k) ∷ []), count-yes (g .needs) k q)
-      go false q e = omega (arith, count-no (g .needs) k q)
+      go : (t : Bool) → waits g k ≡ t → length (f (so-far k)) ≡ count (waits g) k → length (cond t (f (so-far k) ++ (v (so-far k .graph) k (p k) (b k) ∷ [])) (f (so-far k))) ≡ count (waits g) (k + 1)
+      go true q e = omega (arith, length-append (f (so-far k)) (v (so-far k .graph) k (p k) (b k) ∷ []), count-yes (waits g) k q)
+      go false q e = omega (arith, count-no (waits g) k q)
 
   pub list-none : (l : List ℕ) → l ≡ patch 0 (f (so-far 0)) l
   list-none l = sym (ap (λ r. patch 0 r l) list-begin ∙ patch-none 0 l)
 
-  pub list-more : (l m m′ : List ℕ) (k : ℕ) → m ≡ patch 0 (f (so-far k)) l → (g .needs k ≡ true → count (g .needs) k < length l)
-      → m′ ≡ cond (g .needs k) (set m (count (g .needs) k) (v (so-far k .graph) k (p k) (b k))) m → m′ ≡ patch 0 (f (so-far (k + 1))) l
-  list-more l m m′ k e h d = d ∙ go (g .needs k) refl ∙ ap (λ r. patch 0 r l) (sym (list-next k))
+  pub list-more : (l m m′ : List ℕ) (k : ℕ) → m ≡ patch 0 (f (so-far k)) l → (waits g k ≡ true → count (waits g) k < length l)
+      → m′ ≡ cond (waits g k) (set m (count (waits g) k) (v (so-far k .graph) k (p k) (b k))) m → m′ ≡ patch 0 (f (so-far (k + 1))) l
+  list-more l m m′ k e h d = d ∙ go (waits g k) refl ∙ ap (λ r. patch 0 r l) (sym (list-next k))
     where
-      go : (t : Bool) → g .needs k ≡ t → cond t (set m (count (g .needs) k) (v (so-far k .graph) k (p k) (b k))) m ≡ patch 0 (cond t (f (so-far k) ++ (v (so-far k .graph) k (p k) (b k) ∷ [])) (f (so-far k))) l
+      go : (t : Bool) → waits g k ≡ t → cond t (set m (count (waits g) k) (v (so-far k .graph) k (p k) (b k))) m ≡ patch 0 (cond t (f (so-far k) ++ (v (so-far k .graph) k (p k) (b k) ∷ [])) (f (so-far k))) l
       go true q =
           ap₂ (λ x n. set x n (v (so-far k .graph) k (p k) (b k))) e (sym (list-length k)) ∙ patch-next (f (so-far k)) l (v (so-far k .graph) k (p k) (b k)) (omega (arith, list-length k, h q))
       go false q = e
@@ -83,5 +84,5 @@ module _ (f : Passed → List ℕ) (v : Graph → ℕ → ℕ → ℕ → ℕ) (
   pub list-same : (l m : List ℕ) (k : ℕ) → m ≡ patch 0 (f (so-far k)) l → length m ≡ length l
   list-same l m k e = ap length e ∙ patch-long 0 (f (so-far k)) l
 
-  pub list-done : (l m : List ℕ) (k : ℕ) → m ≡ patch 0 (f (so-far k)) l → count (g .needs) k ≡ length l → m ≡ f (so-far k)
+  pub list-done : (l m : List ℕ) (k : ℕ) → m ≡ patch 0 (f (so-far k)) l → count (waits g) k ≡ length l → m ≡ f (so-far k)
   list-done l m k e h = e ∙ patch-all (f (so-far k)) l (list-length k ∙ h)

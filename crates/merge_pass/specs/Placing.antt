@@ -1,17 +1,18 @@
 -- A candidate is placed, and its answers are written: what the code's steps give. Assumes nothing.
-use Prim.Native.Nat.{ℕ, _+_, _<_}
+use Prim.Native.Nat.{ℕ, _+_}
 use native.Mathlib.Omega.{arith}
 use mathlib.Core.Path.{_≡_, refl, sym, ap, _∙_}
 use mathlib.Core.Bool.{Bool, true, false, not}
 use mathlib.Core.List.{List}
 use lib.ListN.{getD, set}
-use borrow.Author.Tests.{eq-eqb, ne-eqb, lt-ltb}
+use borrow.Author.Tests.{eq-eqb, ne-eqb}
 use Rattle.merge_state.specs.declared.Sizes.{Sizes}
 use Rattle.merge_state.specs.State.{None, Graph}
+use Rattle.merge_state.specs.Merges.{waits}
 use Rattle.merge_state.specs.Methods.{merges, warn}
 use Rattle.merge_state.specs.Kept.{default-in}
-use Rattle.merge_area.specs.Layout.{cell, head, need}
-use Rattle.merge_area.specs.Read.{needs-in, read}
+use Rattle.merge_area.specs.Layout.{cell, head}
+use Rattle.merge_area.specs.Read.{read}
 use Rattle.merge_area.specs.Writes.{merge-area, create-area, candidate-area}
 use Rattle.merge_reads.specs.Pass.{CanPlace}
 use Rattle.merge_pass.specs.declared.Placed.{Placed}
@@ -47,29 +48,17 @@ module _ (z : Sizes) (a : List ℕ) (x p b : ℕ) {t : Bool} (e : t ≡ merges (
 
 -- a turn
 module _ {z : Sizes} {a ps bs ks ns : List ℕ} {k j : ℕ} (c : CanTurn z a ps bs ks ns k j) where
-  in-range : k < z .chunks
-  in-range = omega (arith, c .source, c .stood .headed .fits)
+  pub turn-none : waits (read z a) k ≡ false → TurnedIn z a ps bs ks ns k j j a ks ns
+  turn-none f = record { next = rw f (omega arith); area = rw f refl; kinds = rw f refl; numbers = rw f refl }
 
-  needless : cell a (need z k) ≡ 0 → needs-in z a k ≡ false
-  unfolding needs-in
-  needless h = rw (lt-ltb k (z .chunks) in-range, h)
-
-  needed : (cell a (need z k) ≡ 0 → ⊥) → needs-in z a k ≡ true
-  unfolding needs-in
-  needed h = rw (lt-ltb k (z .chunks) in-range, ne-eqb (cell a (need z k)) 0 h)
-
-  pub turn-none : cell a (need z k) ≡ 0 → TurnedIn z a ps bs ks ns k j j a ks ns
-  turn-none h = let f = needless h in record { next = rw f (omega arith); area = rw f refl; kinds = rw f refl; numbers = rw f refl }
-
-  module _ (h : cell a (need z k) ≡ 0 → ⊥) where
+  module _ (f : waits (read z a) k ≡ true) where
     pub can-answer : CanAnswer z a ps bs ks ns k j
-    can-answer = c .answer (needed h)
+    can-answer = c .answer f
 
     pub turn-place : CanPlace z a k (getD ps j 0)
     turn-place = rw (← default-in ps j None (can-answer .proposals)) (can-answer .place)
 
     pub turn-done : {r : Placed} {after : List ℕ} → PlacedIn z a k (getD ps j 0) (getD bs j 0) r after → TurnedIn z a ps bs ks ns k j (j + 1) after (set ks j (r .kind)) (set ns j (r .number))
     turn-done {r} v =
-        let f = needed h in
         let d = default-in ps j None (can-answer .proposals) in
         record { next = rw f refl; area = rw (f, d) (v .area); kinds = rw (f, d) (ap (set ks j) (v .kind)); numbers = rw (f, d) (ap (set ns j) (v .number)) }

@@ -7,10 +7,11 @@ use lib.ListN.{getD, length, set}
 use Rattle.graphs.specs.Count.{ind, count}
 use Rattle.merge_state.specs.declared.Sizes.{Sizes}
 use Rattle.merge_state.specs.State.{None, Graph}
+use Rattle.merge_state.specs.Merges.{waits}
 use Rattle.merge_state.specs.Methods.{merges, passed}
-use Rattle.merge_state.specs.Table.{any-misfit}
+use Rattle.merge_state.specs.Table.{any-misfit, any-gone}
 use Rattle.merge_area.specs.Layout.{cell, head}
-use Rattle.merge_area.specs.Read.{needs-in, read}
+use Rattle.merge_area.specs.Read.{read}
 use Rattle.merge_area.specs.Writes.{candidate-area, pass-area}
 use Rattle.merge_laws.specs.Rows.{Stood}
 use Rattle.merge_reads.specs.Pass.{CanPlace}
@@ -39,23 +40,24 @@ pub record CanAnswer (z : Sizes) (a ps bs ks ns : List ℕ) (k j : ℕ) : Type 0
 pub record CanTurn (z : Sizes) (a ps bs ks ns : List ℕ) (k j : ℕ) : Type 0 where
   pub stood : Stood z a
   pub source : k < cell a (head z 1)
-  pub answer : needs-in z a k ≡ true → CanAnswer z a ps bs ks ns k j
+  pub answer : waits (read z a) k ≡ true → CanAnswer z a ps bs ks ns k j
 
 -- what a turn leaves: area r, answer lists ks′ and ns′, and i candidates so far
 pub record TurnedIn (z : Sizes) (a ps bs ks ns : List ℕ) (k j i : ℕ) (r ks′ ns′ : List ℕ) : Type 0 where
-  pub next : i ≡ j + ind (needs-in z a k)
-  pub area : r ≡ cond (needs-in z a k) (candidate-area z a k (getD ps j None) (getD bs j 0)) a
-  pub kinds : ks′ ≡ cond (needs-in z a k) (set ks j (kind-of (read z a) k (getD ps j None) (getD bs j 0))) ks
-  pub numbers : ns′ ≡ cond (needs-in z a k) (set ns j (number-of (read z a) k (getD ps j None) (getD bs j 0))) ns
+  pub next : i ≡ j + ind (waits (read z a) k)
+  pub area : r ≡ cond (waits (read z a) k) (candidate-area z a k (getD ps j None) (getD bs j 0)) a
+  pub kinds : ks′ ≡ cond (waits (read z a) k) (set ks j (kind-of (read z a) k (getD ps j None) (getD bs j 0))) ks
+  pub numbers : ns′ ≡ cond (waits (read z a) k) (set ns j (number-of (read z a) k (getD ps j None) (getD bs j 0))) ns
 
 pub record CanPass (z : Sizes) (a ps bs ks ns : List ℕ) : Type 0 where
   pub stood : Stood z a
   pub proper : any-misfit (cell a (head z 0)) true ps ≡ false
-  pub left : cell a (head z 0) + cell a (head z 2) + count (needs-in z a) (cell a (head z 1)) ≤ z .chunks
-  pub proposals : length ps ≡ count (needs-in z a) (cell a (head z 1))
-  pub bars : length bs ≡ count (needs-in z a) (cell a (head z 1))
-  pub kinds : length ks ≡ count (needs-in z a) (cell a (head z 1))
-  pub numbers : length ns ≡ count (needs-in z a) (cell a (head z 1))
+  pub unmerged : any-gone (read z a) ps ≡ false
+  pub left : cell a (head z 0) + cell a (head z 2) + count (waits (read z a)) (cell a (head z 1)) ≤ z .chunks
+  pub proposals : length ps ≡ count (waits (read z a)) (cell a (head z 1))
+  pub bars : length bs ≡ count (waits (read z a)) (cell a (head z 1))
+  pub kinds : length ks ≡ count (waits (read z a)) (cell a (head z 1))
+  pub numbers : length ns ≡ count (waits (read z a)) (cell a (head z 1))
 
 -- what the pass leaves
 pub record PassedIn (z : Sizes) (a ps bs r ks ns : List ℕ) : Type 0 where

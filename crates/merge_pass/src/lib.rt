@@ -1,5 +1,4 @@
 // The pass that commits merges: each chunk that needs creation is merged into its proposal, or created.
-use merge_area::places::need_place;
 use merge_state::ChunkIdx;
 use merge_state::NONE;
 use merge_state::Sizes;
@@ -26,8 +25,7 @@ fn may_merge(sizes: Sizes, area: &[u32], x: ChunkIdx, p: u32, b: u32) -> bool
     if b != 0 {
         return false;
     }
-    let made = merge_area::header(sizes, area, 1) as usize;
-    !merge_warning::warn(area, sizes.chunks, made, x.0 as usize, p as usize)
+    !merge_questions::warns(sizes, area, x, ChunkIdx(p))
 }
 
 // Candidate x with proposal p and bar b.
@@ -44,7 +42,7 @@ fn place(sizes: Sizes, area: &mut [u32], x: ChunkIdx, p: u32, b: u32) -> Placed
     Placed { kind: 1, number }
 }
 
-// Chunk k, if it needs creation, as candidate j; and how many candidates there are so far.
+// Chunk k, if it waits for creation, as candidate j; and how many candidates there are so far.
 fn turn(
     sizes: Sizes,
     area: &mut [u32],
@@ -58,8 +56,7 @@ fn turn(
     requires { ⌜ CanTurn sizes (now area) (now proposals) (now bars) (now kinds) (now numbers) k j ⌝ }
     ensures { λ r. ⌜ TurnedIn sizes (now (area .entry)) (now (proposals .entry)) (now (bars .entry)) (now (kinds .entry)) (now (numbers .entry)) k j r (now (area .exit)) (now (kinds .exit)) (now (numbers .exit)) ⌝ }
 {
-    let need = need_place(sizes, k);
-    if area[need] == 0 {
+    if !merge_area::merges::is_waiting(sizes, area, k) {
         return j;
     }
     let placed = place(sizes, area, ChunkIdx(k as u32), proposals[j], bars[j]);
@@ -68,7 +65,7 @@ fn turn(
     j + 1
 }
 
-// Every chunk that needs creation, in rising index.
+// Every chunk that waits for creation, in rising index.
 pub fn commit(
     sizes: Sizes,
     area: &mut [u32],

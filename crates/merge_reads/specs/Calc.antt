@@ -17,14 +17,14 @@ use Rattle.entry_set.specs.LaneLaws.{lanes-same}
 use Rattle.merge_state.specs.declared.Sizes.{Sizes}
 use Rattle.merge_state.specs.State.{None, at}
 use Rattle.merge_state.specs.Methods.{module-on, listed-on, calculated}
-use Rattle.merge_area.specs.Layout.{cell, head, set-place, set-chunk, side, need, key, home, entry-chunk, entry-module}
+use Rattle.merge_area.specs.Layout.{cell, head, set-place, set-chunk, side, need, key, into, home, entry-chunk, entry-module}
 use Rattle.merge_area.specs.Read.{entry, depends-in, home-in, log-in, read}
 use Rattle.merge_state.specs.Pairs.{pairs-length, pairs-at}
 use Rattle.merge_area.specs.Writes.{link, linked, calc-area}
 use Rattle.merge_laws.specs.Can.{CanLink, CanLinked, CanCalc}
 use Rattle.merge_laws.specs.Ordering.{depends-parts}
 use Rattle.merge_laws.specs.Keeps.{Kept, linked-can, linked-all, calc-can, calc-same}
-use Rattle.merge_reads.specs.Fields.{home-at, depends-on, effects-same, needs-same, log-same, sets-same, home-same, keys-same}
+use Rattle.merge_reads.specs.Fields.{home-at, depends-on, effects-same, needs-same, log-same, sets-same, home-same, keys-same, mode-same, into-same}
 
 -- the flag of chunks u and w is set
 abbrev On : Sizes → List ℕ → ℕ → ℕ → Type 0
@@ -286,6 +286,8 @@ module _ (z : Sizes) (starts deps a : List ℕ) (can : CanCalc z a starts deps (
     sets = sets-same z a end (stay (head z 3) (omega arith)) (λ x l. (lanes-same end a (set-place z x) 1 (λ j k. stay (set-place z x + j * 1) (omega arith)), stay (set-chunk z x) (omega arith))) i;
     home = home-same z a end (λ x l. stay (home z x) (omega arith)) i;
     keys = keys-same z a end (λ x l. stay (key z x) (omega arith)) i;
+    mode = mode-same z a end (stay (head z 5) (omega arith)) i;
+    into = into-same z a end (stay (head z 5) (omega arith)) (λ x l. stay (into z x) (omega arith)) i;
   }
     where
       stay : (i : ℕ) → z .chunks * z .chunks ≤ i → cell end i ≡ cell a i

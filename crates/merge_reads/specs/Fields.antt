@@ -13,8 +13,8 @@ use Rattle.entry_set.specs.Lanes.{lanes}
 use Rattle.merge_state.specs.declared.Sizes.{Sizes}
 use Rattle.merge_state.specs.State.{None, put, put-same, put-other, pairs}
 use Rattle.merge_state.specs.State as state
-use Rattle.merge_area.specs.Layout.{cell, head, set-place, set-chunk, side, need, key, home, entry-chunk, entry-module}
-use Rattle.merge_area.specs.Read.{entry, named-set, depends-in, effects-in, needs-in, log-in, sets-in, home-in, keys-in}
+use Rattle.merge_area.specs.Layout.{cell, head, set-place, set-chunk, side, need, key, into, home, entry-chunk, entry-module}
+use Rattle.merge_area.specs.Read.{entry, named-set, depends-in, effects-in, needs-in, log-in, sets-in, home-in, keys-in, mode-in, into-in}
 use Rattle.merge_state.specs.Pairs.{pairs-same, pairs-more}
 
 -- a flag that is written and read
@@ -71,6 +71,18 @@ module _ (z : Sizes) (a b : List ℕ) where
   unfolding keys-in
   keys-same h = fun-ext (λ k. numbered (z .chunks) k (h k))
 
+  pub mode-same : cell b (head z 5) ≡ cell a (head z 5) → mode-in z b ≡ mode-in z a
+  unfolding mode-in
+  mode-same e = ap state.yes e
+
+  pub into-same : cell b (head z 5) ≡ cell a (head z 5) → ((x : ℕ) → x < z .chunks → cell b (into z x) ≡ cell a (into z x)) → into-in z b ≡ into-in z a
+  unfolding into-in
+  into-same e h = fun-ext (λ x. masked (λ t v. cond (mode-in z b && t) v None) (out (mode-in z b)) (z .chunks) x (h x) ∙ ap (λ m. cond (m && ltb x (z .chunks)) (cell a (into z x)) None) (mode-same e))
+    where
+      out : (m : Bool) (i j : ℕ) → cond (m && false) i None ≡ cond (m && false) j None
+      out true i j = refl
+      out false i j = refl
+
   entries-same : ((i : ℕ) → i < cell a (head z 4) → (cell b (entry-chunk z i) ≡ cell a (entry-chunk z i)) × (cell b (entry-module z i) ≡ cell a (entry-module z i)))
       → pairs (entry z b) (cell a (head z 4)) ≡ log-in z a
   entries-same h = pairs-same (entry z b) (entry z a) (cell a (head z 4)) (λ i l. ap₂ (λ u v. (u, v)) (h i l .0) (h i l .1))
@@ -119,3 +131,10 @@ module _ (z : Sizes) (a b : List ℕ) where
   pub keys-put : (k x : ℕ) → k < z .chunks → cell b (key z k) ≡ x → ((j : ℕ) → j < z .chunks → (j ≡ k → ⊥) → cell b (key z j) ≡ cell a (key z j)) → keys-in z b ≡ put (keys-in z a) k x
   unfolding keys-in
   keys-put k x l p h = but k x (rw (lt-ltb k (z .chunks) l) p) (λ j n. numbered (z .chunks) j (λ c. h j c n))
+
+  pub into-put : (x v : ℕ) → mode-in z a ≡ true → cell b (head z 5) ≡ cell a (head z 5) → x < z .chunks → cell b (into z x) ≡ v → ((y : ℕ) → y < z .chunks → (y ≡ x → ⊥) → cell b (into z y) ≡ cell a (into z y))
+      → into-in z b ≡ put (into-in z a) x v
+  unfolding into-in
+  into-put x v m e l p h =
+      let n : mode-in z b ≡ true = mode-same z a b e ∙ m in
+      but x v (rw (n, lt-ltb x (z .chunks) l) p) (λ y q. rw (n, m) (numbered (z .chunks) y (λ c. h y c q)))

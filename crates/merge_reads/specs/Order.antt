@@ -3,25 +3,30 @@ use Prim.Native.Nat.{ℕ, _+_, _-_, _*_, _/_, _%_, _^_, _<_, _≤_}
 use native.Mathlib.Omega.{arith}
 use native.Mathlib.Nat.{add-mul, mul-le-mul, div-add-mod', div-lt-iff-lt-mul, mod-lt}
 use native.Mathlib.Decide.{ℕ-discrete, decLt}
-use mathlib.Core.Path.{_≡_, refl, ap}
+use mathlib.Core.Path.{_≡_, refl, sym, ap, _∙_}
 use mathlib.Core.Logic.{_⊎_, inl, inr, ⊎-elim}
-use mathlib.Core.Bool.{Bool, true, false, not, and-false}
+use mathlib.Core.Bool.{Bool, true, false, not, _&&_, _||_, and-false}
 use mathlib.Core.List.{List}
 use lib.ListN.{getD}
 use lib.Dec.{eqb, leb, ltb}
 use borrow.Author.Tests.{eq-eqb, ne-eqb, lt-leb, lt-ltb, le-ltb}
 use Rattle.graphs.specs.Bools.{or-false, and-both, fails}
 use Rattle.graphs.specs.Count.{count-all-no}
-use Rattle.graphs.specs.Lists.{some-below, some-take}
+use Rattle.graphs.specs.Lists.{some-below, below, some-take}
+use Rattle.graphs.specs.Walk.{cyclic}
+use Rattle.graphs.specs.Walks.{sources-below, acyclic-walk}
 use Rattle.entry_set.specs.Lanes.{lanes}
 use Rattle.merge_state.specs.declared.Sizes.{Sizes}
 use Rattle.merge_state.specs.State.{None, misfit}
 use Rattle.merge_state.specs.Loading.{came-before, twice}
+use Rattle.merge_state.specs.Merges.{merged-into}
+use Rattle.merge_state.specs.Ends.{step-take}
 use Rattle.merge_state.specs.Ordered.{Ordered, never}
-use Rattle.merge_area.specs.Layout.{cell, head, set-place, set-chunk, need, key, home, entry-chunk, entry-module}
-use Rattle.merge_area.specs.Read.{entry, named-set, depends-in, needs-in, home-in, keys-in, read}
+use Rattle.merge_area.specs.Layout.{cell, head, set-place, set-chunk, need, key, into, home, entry-chunk, entry-module}
+use Rattle.merge_area.specs.Read.{entry, named-set, depends-in, needs-in, home-in, keys-in, mode-in, into-in, read}
 use Rattle.merge_state.specs.Pairs.{pairs-length, pairs-at}
-use Rattle.merge_area.specs.Consistent.{faults, head-fault, row-fault, flags-fault, index-faults, out-of-range, sets-fault, inconsistent}
+use Rattle.merge_area.specs.Consistent.{faults, head-fault, row-fault, flags-fault, index-faults, lane-faults, merges-fault, out-of-range, sets-fault, inconsistent}
+use Rattle.merge_area.specs.Merged.{into-at}
 use Rattle.merge_reads.specs.Fields.{depends-on}
 
 -- a number below the top fits, and so does None where it is free
@@ -129,6 +134,32 @@ module _ (z : Sizes) (a : List ℕ) (o : Ordered z (read z a)) where
     part (z .chunks * z .chunks + 32 + 19 * z .chunks) (cell a (head z 0)) 1 false at-need,
   )
 
+  -- a merge of the lane
+  at-into : mode-in z a ≡ true → (x : ℕ) → x < z .chunks → (cell a (into z x) ≡ None) ⊎ ((x < made) × (cell a (into z x) < made))
+  at-into m x b =
+      let e = into-at z a x m b in
+      elim (ℕ-discrete (cell a (into z x)) None) [ yes q ↦ inl q | no q ↦ let r = o .merges .range x (λ k. q (sym e ∙ k)) in inr (r .0, omega (arith, r .1, e)) ]
+
+  lane-right : mode-in z a ≡ true → lane-faults z a ≤ 0
+  unfolding lane-faults
+  lane-right m = omega (
+    arith,
+    part (z .chunks * z .chunks + 32 + 21 * z .chunks) made made true (λ x b. free-fits made (cell a (into z x)) (at-into m x (omega (arith, o .fits)))),
+    faultless a (into z made) (z .chunks - made) 0 true (λ i b.
+        let e : into z made + i ≡ into z (made + i) = omega arith in
+        rw e (free-fits 0 (cell a (into z (made + i))) {P = made < made} (⊎-elim (λ q. inl q) (λ q. absurd (omega (arith, q .0))) (at-into m (made + i) (omega arith))))),
+  )
+
+  merges-right : merges-fault z a ≡ false
+  unfolding merges-fault
+  merges-right = go (mode-in z a) refl
+    where
+      go : (m : Bool) → mode-in z a ≡ m → (m && (ltb 0 (lane-faults z a) || cyclic (merged-into (into-in z a)) (below made))) ≡ false
+      go true m =
+          or-false _ _ (le-ltb 0 (lane-faults z a) (lane-right m))
+          (acyclic-walk (merged-into (into-in z a)) (below made) (sources-below (λ x y q. o .merges .range x (step-take (into-in z a) x y q .0) .0)) .1 (o .merges .no-ring))
+      go false m = refl
+
   -- row 21 doesn't fit
   pub ordered-consistent : inconsistent z a ≡ false
   unfolding inconsistent head-fault sets-fault out-of-range twice came-before
@@ -138,5 +169,6 @@ module _ (z : Sizes) (a : List ℕ) (o : Ordered z (read z a)) where
       (or-false _ _ (le-ltb (z .chunks + made) sets (omega (arith, pairs-length (named-set z a) sets, o .room))) (le-ltb (z .entries) used (omega (arith, pairs-length (entry z a) used, o .used))))))
       (or-false _ _ (clear-flags a (z .chunks) made (o .fits) clear)
       (or-false _ _ (le-ltb 0 (index-faults z a) in-range)
+      (or-false _ _ merges-right
       (or-false _ _ (none-below (out-of-range z a) sets (λ i b. ap not (lt-ltb _ _ (at-set i b .0))))
-      (none-below (came-before (λ i. lanes a (set-place z i) 1)) sets (λ j c. none-below (λ i. eqb (lanes a (set-place z i) 1) (lanes a (set-place z j) 1)) j (λ i b. apart i j b c))))))
+      (none-below (came-before (λ i. lanes a (set-place z i) 1)) sets (λ j c. none-below (λ i. eqb (lanes a (set-place z i) 1) (lanes a (set-place z j) 1)) j (λ i b. apart i j b c)))))))

@@ -11,8 +11,9 @@ use Rattle.graphs.specs.Bools.{and-left}
 use Rattle.graphs.specs.Count.{count, count-yes, count-mono}
 use Rattle.merge_state.specs.declared.Sizes.{Sizes}
 use Rattle.merge_state.specs.State.{None, Graph}
+use Rattle.merge_state.specs.Merges.{waits}
 use Rattle.merge_state.specs.Methods.{Passed, merged, created-chunk, merges, candidate, passed}
-use Rattle.merge_state.specs.Table.{any-misfit}
+use Rattle.merge_state.specs.Table.{any-misfit, any-gone}
 use Rattle.merge_state.specs.Ordered.{Ordered, never}
 use Rattle.merge_state.specs.Kept.{Passing, proposal, passed-kept}
 use Rattle.merge_area.specs.Layout.{room, cell, head}
@@ -95,14 +96,14 @@ module _ {z : Sizes} {a : List ℕ} {x p : ℕ} (c : CanPlace z a x p) where
       go true q = read-merge z a p x (place-merge (proposed (read z a) x p b q)) few
       go false q = read-create z a x place-create few
 
-module _ (z : Sizes) (a : List ℕ) (s : Stood z a) (left : cell a (head z 0) + cell a (head z 2) + count (needs-in z a) (cell a (head z 1)) ≤ z .chunks) where
+module _ (z : Sizes) (a : List ℕ) (s : Stood z a) (left : cell a (head z 0) + cell a (head z 2) + count (waits (read z a)) (cell a (head z 1)) ≤ z .chunks) where
   -- the area so far, before candidate k
-  module _ (r : List ℕ) (R : Passed) (h : Holds z a r (R .graph)) (k : ℕ) (v : Passing z (read z a) k R) (l : k < cell a (head z 1)) (n : needs-in z a k ≡ true) where
+  module _ (r : List ℕ) (R : Passed) (h : Holds z a r (R .graph)) (k : ℕ) (v : Passing z (read z a) k R) (l : k < cell a (head z 1)) (n : waits (read z a) k ≡ true) where
     pub can-place : (p : ℕ) → ((p ≡ None → ⊥) → p < cell a (head z 0)) → CanPlace z r k p
     can-place p f = record {
       stood = stood-again z a r (R .graph) s h (v .ordered);
       source = omega (arith, ap (λ g. g .made) (h .graph), v .made);
-      needs = ap (λ g. g .needs k) (h .graph) ∙ ap (λ g. g k) (v .needs) ∙ n;
+      needs = ap (λ g. g .needs k) (h .graph) ∙ ap (λ g. g k) (v .needs) ∙ and-left (needs-in z a k) _ n;
       target = λ q. omega (arith, f q, ap (λ g. g .initial) (h .graph), v .initial);
       left = omega (
         arith,
@@ -110,8 +111,8 @@ module _ (z : Sizes) (a : List ℕ) (s : Stood z a) (left : cell a (head z 0) + 
         ap (λ g. g .created) (h .graph),
         v .initial,
         v .created,
-        count-yes (needs-in z a) k n,
-        count-mono (needs-in z a) (k + 1) (cell a (head z 1)) (omega arith),
+        count-yes (waits (read z a)) k n,
+        count-mono (waits (read z a)) (k + 1) (cell a (head z 1)) (omega arith),
       );
     }
 
@@ -120,19 +121,19 @@ module _ (z : Sizes) (a : List ℕ) (s : Stood z a) (left : cell a (head z 0) + 
         let c = can-place p f in record { graph = candidate-read c b (R .kinds) (R .numbers) ∙ ap (λ g. candidate (record { graph = g; kinds = R .kinds; numbers = R .numbers }) k p b .graph) (h .graph); same = candidate-length c b ∙ h .same }
 
   -- after the chunks below k
-  pub pass-holds : (props bars : List ℕ) → any-misfit (cell a (head z 0)) true props ≡ false → (k : ℕ) → k ≤ cell a (head z 1)
+  pub pass-holds : (props bars : List ℕ) → any-misfit (cell a (head z 0)) true props ≡ false → any-gone (read z a) props ≡ false → (k : ℕ) → k ≤ cell a (head z 1)
       → Holds z a (pass-area z a props bars k) (passed (read z a) props bars k .graph)
   unfolding pass-area passed
-  pass-holds props bars f zero h = record { graph = refl; same = refl }
-  pass-holds props bars f (suc k) h = go (needs-in z a k) refl (pass-holds props bars f k (omega arith)) (passed-kept left (ordered z a s) props bars f k (omega arith))
+  pass-holds props bars f u zero h = record { graph = refl; same = refl }
+  pass-holds props bars f u (suc k) h = go (waits (read z a) k) refl (pass-holds props bars f u k (omega arith)) (passed-kept (ordered z a s) left props bars f u k (omega arith))
     where
       p : ℕ
-      p = getD props (count (needs-in z a) k) None
+      p = getD props (count (waits (read z a)) k) None
 
       b : ℕ
-      b = getD bars (count (needs-in z a) k) 0
+      b = getD bars (count (waits (read z a)) k) 0
 
-      go : (t : Bool) → needs-in z a k ≡ t → Holds z a (pass-area z a props bars k) (passed (read z a) props bars k .graph) → Passing z (read z a) k (passed (read z a) props bars k)
+      go : (t : Bool) → waits (read z a) k ≡ t → Holds z a (pass-area z a props bars k) (passed (read z a) props bars k .graph) → Passing z (read z a) k (passed (read z a) props bars k)
           → Holds z a (cond t (candidate-area z (pass-area z a props bars k) k p b) (pass-area z a props bars k)) (cond {A = Passed} t (candidate (passed (read z a) props bars k) k p b) (passed (read z a) props bars k) .graph)
-      go true q r v = candidate-holds (pass-area z a props bars k) (passed (read z a) props bars k) r k v (omega arith) q p b (proposal (read z a) props f (count (needs-in z a) k))
+      go true q r v = candidate-holds (pass-area z a props bars k) (passed (read z a) props bars k) r k v (omega arith) q p b (proposal (read z a) props f (count (waits (read z a)) k))
       go false q r v = r

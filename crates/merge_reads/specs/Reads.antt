@@ -17,12 +17,12 @@ use Rattle.merge_state.specs.declared.Sizes.{Sizes}
 use Rattle.merge_state.specs.State.{None, chunk-of, flag}
 use Rattle.merge_state.specs.State as state
 use Rattle.merge_state.specs.Methods.{appended, opened, assigned-to, registered, created-chunk}
-use Rattle.merge_area.specs.Layout.{room, cell, head, set-place, set-chunk, side, need, key, home, entry-chunk, entry-module}
+use Rattle.merge_area.specs.Layout.{room, cell, head, set-place, set-chunk, side, need, key, into, home, entry-chunk, entry-module}
 use Rattle.merge_area.specs.Read.{effects-in, sets-in, read}
 use Rattle.merge_area.specs.Writes.{register-area, append-area, open-area, init-area, create-area}
 use Rattle.merge_laws.specs.Can.{CanAppend, CanOpen, CanAssign, CanCreate}
 use Rattle.merge_laws.specs.Keeps.{open-far, open-length, open-append}
-use Rattle.merge_reads.specs.Fields.{depends-same, effects-same, effects-put, needs-same, needs-put, log-same, log-more, sets-same, sets-more, home-same, home-put, keys-same, keys-put}
+use Rattle.merge_reads.specs.Fields.{depends-same, effects-same, effects-put, needs-same, needs-put, log-same, log-more, sets-same, sets-more, home-same, home-put, keys-same, keys-put, mode-same, into-same}
 
 -- `register_chunk_graph_index`
 module _ (z : Sizes) (a : List ℕ) (k x : ℕ) (long : room z ≤ length a) (kc : k < z .chunks) where
@@ -52,6 +52,8 @@ module _ (z : Sizes) (a : List ℕ) (k x : ℕ) (long : room z ≤ length a) (kc
         (λ u l. (lanes-same b a (set-place z u) 1 (λ j h. register-far (set-place z u + j * 1) (omega arith)), register-far (set-chunk z u) (omega arith))) i;
     home = home-same z a b (λ u l. register-far (home z u) (omega arith)) i;
     keys = keys-put z a b k x kc register-at (λ j l n. register-far (key z j) (omega arith)) i;
+    mode = mode-same z a b (register-far (head z 5) (omega arith)) i;
+    into = into-same z a b (register-far (head z 5) (omega arith)) (λ u l. register-far (into z u) (omega arith)) i;
   }
     where
       b : List ℕ
@@ -92,6 +94,8 @@ module _ (z : Sizes) (a : List ℕ) (x : ℕ) (can : CanCreate z a) where
         (λ u l. (lanes-same b a (set-place z u) 1 (λ j h. create-far (set-place z u + j * 1) (omega arith) (omega arith)), create-far (set-chunk z u) (omega arith) (omega arith))) i;
     home = home-same z a b (λ u l. create-far (home z u) (omega (arith, can .left)) (omega arith)) i;
     keys = keys-put z a b next x (can .left) create-key (λ j l n. create-far (key z j) (omega arith) (omega arith)) i;
+    mode = mode-same z a b (create-far (head z 5) (omega arith) (omega arith)) i;
+    into = into-same z a b (create-far (head z 5) (omega arith) (omega arith)) (λ u l. create-far (into z u) (omega (arith, can .left)) (omega arith)) i;
   }
     where
       b : List ℕ
@@ -187,6 +191,8 @@ module _ (z : Sizes) (a : List ℕ) (x m : ℕ) (effs : List ℕ) (can : CanAppe
     home = home-put z a b m x (can .listed) (append-home z a x m e can)
         (λ u l n. append-far z a x m e can (home z u) (omega arith) (omega arith) (omega arith) (omega arith) (omega (arith, can .chunk))) i;
     keys = keys-same z a b (λ u l. append-far z a x m e can (key z u) (omega arith) (omega arith) (omega arith) (omega arith) (omega (arith, can .chunk))) i;
+    mode = mode-same z a b (low (head z 5) (omega arith) (omega arith)) i;
+    into = into-same z a b (low (head z 5) (omega arith) (omega arith)) (λ u l. append-far z a x m e can (into z u) (omega arith) (omega arith) (omega arith) (omega arith) (omega (arith, can .chunk))) i;
   }
     where
       e : Bool
@@ -277,6 +283,8 @@ module _ (z : Sizes) (a : List ℕ) (v : ℕ) (can : CanOpen z a) where
     sets = sets-more z a b v n (open-count z a v can) (λ x l. (lanes-same b a (set-place z x) 1 (λ j k. word x l j k), chunk x l)) (open-set z a v can h) (open-chunk z a v can) i;
     home = home-same z a b (λ x l. away (home z x) (omega arith) (omega (arith, can .left)) (omega (arith, can .left))) i;
     keys = keys-same z a b (λ x l. away (key z x) (omega arith) (omega (arith, can .left)) (omega (arith, can .left))) i;
+    mode = mode-same z a b (far (head z 5) (omega arith) (omega arith) (omega arith)) i;
+    into = into-same z a b (far (head z 5) (omega arith) (omega arith) (omega arith)) (λ x l. away (into z x) (omega arith) (omega (arith, can .left)) (omega (arith, can .left))) i;
   }
     where
       b : List ℕ

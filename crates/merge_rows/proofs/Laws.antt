@@ -1,24 +1,23 @@
 -- Laws that several proofs of this crate cite. Assumes nothing.
 use Prim.Native.Nat.{ℕ, _+_, _≤_}
 use native.Mathlib.Omega.{arith}
-use native.Mathlib.Decide.{ℕ-discrete}
 use mathlib.Core.Path.{_≡_, sym, ap, ap₂, _∙_}
 use mathlib.Core.Bool.{Bool, true, false, not, _&&_, _||_}
 use mathlib.Core.List.{List, [], _∷_}
 use lib.ListN.{length, getD}
 use lib.Dec.{ltb, leb, eqb}
-use borrow.Author.Tests.{eq-eqb, ne-eqb, le-leb, lt-ltb, ltb-true}
+use borrow.Author.Tests.{eq-eqb, ne-eqb, lt-ltb, ltb-true}
 use Rattle.graphs.specs.Bools.{alike, or-false}
-use Rattle.graphs.specs.Count.{count, count-pos, count-found, count-ext, count-le}
+use Rattle.graphs.specs.Count.{ind, count, count-more, count-pos, count-found, count-le}
 use Rattle.graphs.specs.Lists.{some-give, some-take}
 use Rattle.entry_set.specs.declared.EntrySet.{EntrySet}
 use Rattle.entry_set.specs.Sets.{value, number, Holds, legal}
 use Rattle.merge_state.specs.declared.Sizes.{Sizes}
 use Rattle.merge_state.specs.State.{None, chunk-of, misfit, pairs}
-use Rattle.merge_state.specs.State as state
-use Rattle.merge_state.specs.Table.{any-misfit, falling, bad-starts, over-lists, bad-lists, calc-chunk-dependencies, init-module-assignment, pass, later, first-fitting, other-length, no-module, full}
-use Rattle.merge_area.specs.Layout.{cell, head, need}
-use Rattle.merge_area.specs.Read.{read, named-set, sets-in, needs-in}
+use Rattle.merge_state.specs.Merges.{waits}
+use Rattle.merge_state.specs.Table.{any-misfit, any-gone, falling, bad-starts, over-lists, bad-lists, calc-chunk-dependencies, init-module-assignment, pass, later, first-fitting, other-length, no-module, full}
+use Rattle.merge_area.specs.Layout.{cell, head}
+use Rattle.merge_area.specs.Read.{read, named-set, sets-in}
 use Rattle.merge_area.specs.Within.{Headed}
 use Rattle.merge_area.specs.Calls.{standing, refusal}
 use Rattle.merge_laws.specs.Rows.{late, fits-here, fits-next}
@@ -74,27 +73,14 @@ module _ (z : Sizes) (a : List ℕ) (m : ℕ) (set effs : List ℕ) (q x : ℕ) 
   init-room v {g} w y =
       late z a (init-module-assignment m set effs) q v e h (fits-next _ 16 v _ (or-false _ _ t l) (y ∙ ap₂ (λ b d. first-fitting ((b, 18) ∷ (d, 19) ∷ [])) lacks w))
 
--- a chunk that needs creation is a number from 1 on
-set-flag : (v : ℕ) → misfit 1 false v ≡ state.yes v
-unfolding misfit
-set-flag v = elim (ℕ-discrete v 0) [ yes q ↦ rw q | no q ↦ rw (le-leb 1 v (omega arith), ne-eqb v 0 q) ]
-
-pub needs-counted : (z : Sizes) (a : List ℕ) {n p r : ℕ} → n ≡ cell a (head z 1) → n ≤ z .chunks → p ≡ need z 0 → r ≡ faults a p n 1 false
-    → r ≡ count (needs-in z a) (cell a (head z 1))
-unfolding faults needs-in
-needs-counted z a {n} {p} e b q h =
-    h ∙ count-ext (λ i. misfit 1 false (cell a (p + i))) (needs-in z a) n (λ j l.
-    let k : p + j ≡ need z j = omega (arith, q) in
-    rw k (set-flag (cell a (need z j)) ∙ (rw (lt-ltb j (z .chunks) (omega arith))))) ∙ ap (count (needs-in z a)) e
-
-pub few-candidates : (z : Sizes) (a : List ℕ) {n : ℕ} → Headed z a → n ≡ count (needs-in z a) (cell a (head z 1)) → n ≤ z .chunks
-few-candidates z a h e = omega (arith, e, count-le (needs-in z a) (cell a (head z 1)), h .fits)
+pub few-candidates : (z : Sizes) (a : List ℕ) {n : ℕ} → Headed z a → n ≡ count (waits (read z a)) (cell a (head z 1)) → n ≤ z .chunks
+few-candidates z a h e = omega (arith, e, count-le (waits (read z a)) (cell a (head z 1)), h .fits)
 
 -- the rows of the pass, where n chunks need creation and r says that a list isn't n long
-module _ (z : Sizes) (a props bars kinds numbers : List ℕ) (q n : ℕ) {r : Bool} (e : q ≡ standing z false false a) (h : q ≡ 0) (m : n ≡ count (needs-in z a) (cell a (head z 1)))
+module _ (z : Sizes) (a props bars kinds numbers : List ℕ) (q n : ℕ) {r : Bool} (e : q ≡ standing z false false a) (h : q ≡ 0) (m : n ≡ count (waits (read z a)) (cell a (head z 1)))
     (f : r ≡ (other-length props n || (other-length bars n || (other-length kinds n || other-length numbers n)))) where
   abbrev candidates : ℕ
-  candidates = count (needs-in z a) (cell a (head z 1))
+  candidates = count (waits (read z a)) (cell a (head z 1))
 
   listed : r ≡ (other-length props candidates || (other-length bars candidates || (other-length kinds candidates || other-length numbers candidates)))
   listed = rw (← m) f
@@ -103,15 +89,34 @@ module _ (z : Sizes) (a props bars kinds numbers : List ℕ) (q n : ℕ) {r : Bo
   unfolding over-lists bad-lists later
   pass-lists w = late z a (pass props bars kinds numbers) q 15 e h (fits-here _ 15 _ (sym listed ∙ w))
 
-  pass-rest : (v : ℕ) → r ≡ false → v ≡ first-fitting ((any-misfit (cell a (head z 0)) true props, 16) ∷ (ltb (z .chunks) (cell a (head z 0) + cell a (head z 2) + candidates), 18) ∷ [])
+  pass-rest : (v : ℕ) → r ≡ false
+      → v ≡ first-fitting ((any-misfit (cell a (head z 0)) true props, 16) ∷ (any-gone (read z a) props, 28) ∷ (ltb (z .chunks) (cell a (head z 0) + cell a (head z 2) + candidates), 18) ∷ [])
       → v ≡ refusal z a (pass props bars kinds numbers)
   unfolding over-lists bad-lists later
   pass-rest v w y = late z a (pass props bars kinds numbers) q v e h (fits-next _ 15 v _ (sym listed ∙ w) y)
 
   module _ (i : ℕ) {s : Bool} (w : r ≡ false) (k : i ≡ cell a (head z 0)) (g : s ≡ any-misfit i true props) where
-    pub pass-misfit : s ≡ true → 16 ≡ refusal z a (pass props bars kinds numbers)
-    pass-misfit t = pass-rest 16 w (fits-here _ 16 _ (ap (λ j. any-misfit j true props) (sym k) ∙ sym g ∙ t))
+    misfit-by : {b : Bool} → s ≡ b → any-misfit (cell a (head z 0)) true props ≡ b
+    misfit-by t = ap (λ j. any-misfit j true props) (sym k) ∙ sym g ∙ t
 
-    pub pass-room : (v : ℕ) {l : Bool} → s ≡ false → l ≡ ltb (z .chunks) (cell a (head z 0) + cell a (head z 2) + n) → v ≡ first-fitting ((l, 18) ∷ []) → v ≡ refusal z a (pass props bars kinds numbers)
-    pass-room v t o y =
-        pass-rest v w (fits-next _ 16 v _ (ap (λ j. any-misfit j true props) (sym k) ∙ sym g ∙ t) (y ∙ ap (λ b. first-fitting ((b, 18) ∷ [])) (o ∙ ap (λ j. ltb (z .chunks) (cell a (head z 0) + cell a (head z 2) + j)) m)))
+    pub pass-misfit : s ≡ true → 16 ≡ refusal z a (pass props bars kinds numbers)
+    pass-misfit t = pass-rest 16 w (fits-here _ 16 _ (misfit-by t))
+
+    module _ {o : Bool} (t : s ≡ false) (u : o ≡ any-gone (read z a) props) where
+      pub pass-gone : o ≡ true → 28 ≡ refusal z a (pass props bars kinds numbers)
+      pass-gone y = pass-rest 28 w (fits-next _ 16 28 _ (misfit-by t) (fits-here _ 28 _ (sym u ∙ y)))
+
+      pub pass-room : (v : ℕ) {l : Bool} → o ≡ false → l ≡ ltb (z .chunks) (cell a (head z 0) + cell a (head z 2) + n) → v ≡ first-fitting ((l, 18) ∷ []) → v ≡ refusal z a (pass props bars kinds numbers)
+      pass-room v x p y =
+          pass-rest v w (fits-next _ 16 v _ (misfit-by t)
+          (fits-next _ 28 v _ (sym u ∙ x) (y ∙ ap (λ b. first-fitting ((b, 18) ∷ [])) (p ∙ ap (λ j. ltb (z .chunks) (cell a (head z 0) + cell a (head z 2) + j)) m))))
+
+-- counting chunks that wait
+pub waiting-more : (z : Sizes) (a : List ℕ) (x : ℕ) {n m : ℕ} → n ≡ count (waits (read z a)) x → m ≡ ind (waits (read z a) x) → n + m ≡ count (waits (read z a)) (x + 1)
+waiting-more z a x {n} {m} e q = omega (arith, count-more (waits (read z a)) x, e, q)
+
+pub one-waits : {b r : Bool} → r ≡ b → r ≡ true → 1 ≡ ind b
+one-waits e h = ap ind (sym h ∙ e)
+
+pub none-waits : {b r : Bool} → r ≡ b → r ≡ false → 0 ≡ ind b
+none-waits e h = ap ind (sym h ∙ e)

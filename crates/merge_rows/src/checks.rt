@@ -1,5 +1,4 @@
 // Single tests of the table's rows.
-use merge_area::places::need_place;
 use merge_state::ChunkIdx;
 use merge_state::Sizes;
 ghost use mathlib.Core.Path.{_≡_};
@@ -7,10 +6,11 @@ ghost use mathlib.Core.Bool.{false, not, _||_};
 ghost use Prim.Native.Nat.{_+_, _<_, _≤_};
 ghost use lib.ListN.{length};
 ghost use lib.Dec.{eqb, ltb};
-ghost use Rattle.graphs.specs.Count.{count};
-ghost use Rattle.merge_state.specs.Table.{unmade, full, any-misfit, bad-starts, falling};
+ghost use Rattle.graphs.specs.Count.{ind, count};
+ghost use Rattle.merge_state.specs.Table.{unmade, full, any-misfit, any-gone, bad-starts, falling};
+ghost use Rattle.merge_state.specs.Merges.{waits};
 ghost use Rattle.merge_area.specs.Layout.{cell, head};
-ghost use Rattle.merge_area.specs.Read.{read, needs-in};
+ghost use Rattle.merge_area.specs.Read.{read};
 ghost use Rattle.merge_area.specs.Within.{Headed};
 
 // The chunk isn't made yet.
@@ -36,13 +36,45 @@ pub fn has_misfit(l: &[u32], top: usize, free: bool) -> bool
     0 < merge_area::count_faults(l, 0, l.len(), top, free)
 }
 
-// How many chunks need creation.
+// 1 where chunk x waits for creation, else 0.
+fn count_waiting(sizes: Sizes, area: &[u32], x: usize) -> usize
+    requires { ⌜ Headed sizes (now area) × (x < sizes .chunks) ⌝ }
+    ensures { λ r. ⌜ r ≡ ind (waits (read sizes (now (area .entry))) x) ⌝ }
+{
+    if merge_area::merges::is_waiting(sizes, area, x) {
+        return 1;
+    }
+    0
+}
+
+// How many chunks wait for creation.
 pub fn count_candidates(sizes: Sizes, area: &[u32]) -> usize
     requires { ⌜ Headed sizes (now area) ⌝ }
-    ensures { λ r. ⌜ r ≡ count (needs-in sizes (now (area .entry))) (cell (now (area .entry)) (head sizes 1)) ⌝ }
+    ensures { λ r. ⌜ r ≡ count (waits (read sizes (now (area .entry)))) (cell (now (area .entry)) (head sizes 1)) ⌝ }
 {
     let made = merge_area::header(sizes, area, 1) as usize;
-    merge_area::count_faults(area, need_place(sizes, 0), made, 1, false)
+    let mut n = 0;
+    let mut x = 0;
+    while x < made {
+        n += count_waiting(sizes, area, x);
+        x += 1;
+    }
+    n
+}
+
+// Some chunk of the list was merged away.
+pub fn some_gone(sizes: Sizes, area: &[u32], l: &[u32]) -> bool
+    requires { ⌜ Headed sizes (now area) ⌝ }
+    ensures { λ r. ⌜ r ≡ any-gone (read sizes (now (area .entry))) (now (l .entry)) ⌝ }
+{
+    let mut i = 0;
+    while i < l.len() {
+        if merge_area::merges::is_gone(sizes, area, l[i] as usize) {
+            return true;
+        }
+        i += 1;
+    }
+    false
 }
 
 // One of four lengths isn't n.

@@ -123,6 +123,12 @@ pub fn pair_row(sizes: Sizes, area: &[u32], one: ChunkIdx, other: ChunkIdx) -> u
     if one.0 == other.0 {
         return 20;
     }
+    if merge_area::merges::is_gone(sizes, area, one.0 as usize) {
+        return 28;
+    }
+    if merge_area::merges::is_gone(sizes, area, other.0 as usize) {
+        return 28;
+    }
     0
 }
 
@@ -165,6 +171,9 @@ pub fn pass_row(
     let initial = merge_area::header(sizes, area, 0) as usize;
     if crate::checks::has_misfit(proposals, initial, true) {
         return 16;
+    }
+    if crate::checks::some_gone(sizes, area, proposals) {
+        return 28;
     }
     if crate::checks::lacks_numbers(sizes, area, n) {
         return 18;

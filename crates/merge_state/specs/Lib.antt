@@ -1,4 +1,5 @@
 pub mod State
+pub mod Merges
 pub mod Methods
 pub mod Table
 pub mod Loading
@@ -8,3 +9,5 @@ pub mod Ordered
 pub mod Pairs
 pub mod Kept
 pub mod LoadKept
+pub mod Counted
+pub mod Ends

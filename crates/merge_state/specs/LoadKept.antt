@@ -15,7 +15,10 @@ use Rattle.graphs.specs.Lists.{some-below, some-none}
 use Rattle.entry_set.specs.Sets.{value, width, legal}
 use Rattle.merge_state.specs.declared.Sizes.{Sizes}
 use Rattle.merge_state.specs.State.{None, Graph, at}
+use Rattle.graphs.specs.Walk.{Walk, one, more}
+use Rattle.merge_state.specs.Merges.{merged-into}
 use Rattle.merge_state.specs.Methods.{appended}
+use Rattle.merge_state.specs.Ends.{step-take}
 use Rattle.merge_state.specs.Table.{first-fitting, falling, bad-starts, any-misfit}
 use Rattle.merge_state.specs.Loading.{Lent, lister, set-at, lent-pair, lent-pairs, loaded, came-before, twice, over-load, bad-load, later-load, load}
 use Rattle.merge_state.specs.Ordered.{Ordered, one-longer, appended-kept}
@@ -118,7 +121,12 @@ module _ (z : Sizes) (n : Lent) (small : z .chunks ≤ 1024) (ok : Allowed z n) 
         room = omega (arith, long, ok .few-pairs);
         logged = λ i h. absurd (omega arith);
         used = omega arith;
+        merges = record { range = λ x h. absurd (h refl); no-ring = λ x w. no-merge w; off = λ h x. refl };
       }
+    where
+      no-merge : {x y : ℕ} → Walk (merged-into (λ x. None)) x y → ⊥
+      no-merge (one {x} {y} h) = step-take (λ x. None) x y h .0 refl
+      no-merge (more {x} {y} h w) = step-take (λ x. None) x y h .0 refl
 
   pub listed-in : (k : ℕ) → k < length (n .modules) → lister (n .starts) (n .initial) k < n .initial
   listed-in k h = lister-in (n .starts) (n .initial) k (length (n .modules)) (ok .end) (ok .begin) h

@@ -8,12 +8,12 @@ use Rattle.graphs.specs.Count.{count}
 use Rattle.graphs.specs.Lists.{some-below}
 use Rattle.entry_set.specs.Sets.{value, legal, width}
 use Rattle.merge_state.specs.declared.Sizes.{Sizes}
-use Rattle.merge_state.specs.State.{None, Graph, pairs}
+use Rattle.merge_state.specs.State.{None, Graph, yes, pairs}
 use Rattle.merge_state.specs.Methods.{appended}
 use Rattle.merge_state.specs.Table.{bad-starts, other-length, any-misfit}
 
 -- What `new` is lent: how many chunks are initial, their modules by starts, the sets of the pairs one after the other, the pairs' chunks,
--- and the modules' side effects
+-- the modules' side effects, and the mode ((vii) of document 02: "chosen at loading by a nonzero number")
 pub record Lent : Type 0 where
   pub initial : ℕ
   pub starts : List ℕ
@@ -21,6 +21,7 @@ pub record Lent : Type 0 where
   pub flat : List ℕ
   pub chunks : List ℕ
   pub effects : List ℕ
+  pub mode : ℕ
 
 -- The chunk with which entry k of the module list is listed: how many chunks' lists end at or before k
 unfoldable pub lister : List ℕ → ℕ → ℕ → ℕ
@@ -49,6 +50,8 @@ loaded z n zero = record {
   sets = lent-pairs z n;
   home = λ m. None;
   keys = λ k. cond (ltb k (n .initial)) k None;
+  mode = yes (n .mode);
+  into = λ x. None;
 }
 loaded z n (suc k) = appended (n .effects) (loaded z n k) (lister (n .starts) (n .initial) k) (getD (n .modules) k 0)
 

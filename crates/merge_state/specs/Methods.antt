@@ -1,4 +1,4 @@
--- What each method does to the merge graph, and the pass. Sentences quoted are document 01's. Assumes nothing.
+-- What each method does to the merge graph, and the pass. Sentences quoted are document 01's, (vii) is document 02's. Assumes nothing.
 use Prim.Native.Nat.{ℕ, zero, suc, _+_}
 use mathlib.Core.Bool.{Bool, true, false, not, cond, _&&_, _||_}
 use mathlib.Core.List.{List, [], _∷_, _++_}
@@ -8,7 +8,9 @@ use Rattle.graphs.specs.Count.{count}
 use Rattle.graphs.specs.Lists.{some-below, below}
 use Rattle.graphs.specs.Walk.{via}
 use Rattle.graph_walks.specs.Closed.{closed}
+use Rattle.graph_walks.specs.Counted.{without}
 use Rattle.merge_state.specs.State.{None, Graph, put, chunk-of, flag, at}
+use Rattle.merge_state.specs.Merges.{end, counts, waits}
 
 -- Module m is listed with chunk x: "appends to the named chunk and or-s its side effects"; "assigned where it was put last".
 unfoldable pub appended : List ℕ → Graph → ℕ → ℕ → Graph
@@ -23,6 +25,8 @@ appended effs g x m = record {
   effects = put (g .effects) x (g .effects x || flag effs m);
   log = g .log ++ ((x, m) ∷ []);
   home = put (g .home) m x;
+  mode = g .mode;
+  into = g .into;
 }
 
 -- "or makes a chunk that needs creation": number `made`, named with set v, with no module, dependency or side effect yet
@@ -38,6 +42,8 @@ opened g v = record {
   effects = put (g .effects) (g .made) false;
   needs = put (g .needs) (g .made) true;
   sets = g .sets ++ ((v, g .made) ∷ []);
+  mode = g .mode;
+  into = g .into;
 }
 
 -- `init_module_assignment`: "appends to the chunk of that set, or makes a chunk that needs creation"
@@ -57,6 +63,8 @@ registered g k x = record {
   sets = g .sets;
   home = g .home;
   keys = put (g .keys) k x;
+  mode = g .mode;
+  into = g .into;
 }
 
 -- a dependency of module m lies in chunk y
@@ -80,25 +88,29 @@ calculated g starts deps = record {
   home = g .home;
   keys = g .keys;
   depends = λ x y. g .depends x y || ((not (eqb y None) && not (eqb x y)) && listed-on g starts deps x y);
+  mode = g .mode;
+  into = g .into;
 }
 
--- "`is_reachable` needs one step or more"
+-- "`is_reachable` needs one step or more"; (vii): "follows the counted dependencies too, each of its two chunks standing for the end of its merges"
 unfoldable pub reachable : Graph → ℕ → ℕ → Bool
-reachable g x y = via (g .depends) (below (g .made)) x y
+reachable g x y = cond (g .mode) (via (counts g) (below (g .made)) (end g x) (end g y)) (via (g .depends) (below (g .made)) x y)
 
 -- `would_create_circular_dependency`: "from the union of source's and target's dependencies, closed under dependency, yes if the target is
 -- in it or a member depends on the source", for dependencies d of the chunks below n
 unfoldable pub warns : (ℕ → ℕ → Bool) → ℕ → ℕ → ℕ → Bool
 warns d n s t = closed d n s t t || some-below (λ x. closed d n s t x && d x s) n
 
-abbrev pub warn : Graph → ℕ → ℕ → Bool
-warn g s t = warns (g .depends) (g .made) s t
+-- (vii): "The warning is then yes exactly when the fused chunk lies on a cycle with another; a direct dependency alone no longer warns."
+unfoldable pub warn : Graph → ℕ → ℕ → Bool
+warn g s t = cond (g .mode) (warns (without (counts g) s t) (g .made) s t) (warns (g .depends) (g .made) s t)
 
 -- "target gets the union without itself, source's set empties"
 unfoldable pub absorbed : (ℕ → ℕ → Bool) → ℕ → ℕ → ℕ → ℕ → Bool
 absorbed d t s = put (put d t (λ y. (d t y || d s y) && not (eqb y t))) s (λ y. false)
 
--- `merge_chunk_dependencies`: the same, and "side effects are or-ed". "Others still name the source, also the target if it did."
+-- `merge_chunk_dependencies`: the same, and "side effects are or-ed". "Others still name the source, also the target if it did." In the mode the
+-- merge is recorded.
 unfoldable pub merged : Graph → ℕ → ℕ → Graph
 merged g t s = record {
   initial = g .initial;
@@ -111,6 +123,8 @@ merged g t s = record {
   keys = g .keys;
   depends = absorbed (g .depends) t s;
   effects = put (g .effects) t (g .effects t || g .effects s);
+  mode = g .mode;
+  into = cond (g .mode) (put (g .into) s t) (g .into);
 }
 
 -- "created with number initial + created so far, and registered"
@@ -126,6 +140,8 @@ created-chunk g x = record {
   home = g .home;
   created = g .created + 1;
   keys = put (g .keys) (g .initial + g .created) x;
+  mode = g .mode;
+  into = g .into;
 }
 
 -- The pass, as far as it has come: the graph, and the two answer lists
@@ -151,4 +167,4 @@ unfoldable pub passed : Graph → List ℕ → List ℕ → ℕ → Passed
 passed g props bars zero = record { graph = g; kinds = []; numbers = [] }
 passed g props bars (suc k) =
     let r = passed g props bars k in
-    cond (g .needs k) (candidate r k (getD props (count (g .needs) k) None) (getD bars (count (g .needs) k) 0)) r
+    cond (waits g k) (candidate r k (getD props (count (waits g) k) None) (getD bars (count (waits g) k) 0)) r

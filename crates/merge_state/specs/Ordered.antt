@@ -16,9 +16,11 @@ use Rattle.merge_state.specs.declared.Sizes.{Sizes}
 use Rattle.merge_state.specs.State.{None, Graph, put, put-same, put-other, chunk-of, at}
 use Rattle.merge_state.specs.Methods.{appended, opened, assigned-to, registered, module-on, listed-on, calculated, absorbed, merged, created-chunk}
 use Rattle.merge_state.specs.Warning.{Sound}
+use Rattle.merge_state.specs.Ends.{Merges, merges-grown, merges-more}
 use Rattle.merge_state.specs.Absorbed.{absorbed-source, absorbed-target, absorbed-other}
 
--- "A merge area: every index in range, no self-dependency, sets distinct, no initial chunk needing creation, used entries within L."
+-- "A merge area: every index in range, no self-dependency, sets distinct, no initial chunk needing creation, used entries within L." And (vii) of
+-- document 02: "an area whose merges run in a ring is inconsistent"
 pub record Ordered (z : Sizes) (g : Graph) : Type 0 where
   pub small : z .chunks ≤ 1024
   pub begun : g .initial ≤ g .made
@@ -33,6 +35,7 @@ pub record Ordered (z : Sizes) (g : Graph) : Type 0 where
   pub room : length (g .sets) ≤ z .chunks + g .made
   pub logged : (i : ℕ) → i < length (g .log) → (at (g .log) i .0 < g .made) × (at (g .log) i .1 < z .modules)
   pub used : length (g .log) ≤ z .entries
+  pub merges : Merges (g .mode) (g .into) (g .made)
 
 pub never : (b : Bool) → b ≡ true → b ≡ false → ⊥
 never b p q = true≢false (sym p ∙ q)
@@ -99,6 +102,7 @@ module _ {z : Sizes} {g : Graph} (o : Ordered z g) where
         homes = put-range (o .homes) b a;
         logged = each-more (g .log) (x, k) (λ e. (e .0 < g .made) × (e .1 < z .modules)) (o .logged) (a, b);
         used = omega (arith, one-longer (g .log) (x, k));
+        merges = o .merges;
       }
 
   grown : {A : Type 0} {f : ℕ} {n : ℕ} → (f ≡ None) ⊎ (A × (f < n)) → (f ≡ None) ⊎ (A × (f < n + 1))
@@ -120,6 +124,7 @@ module _ {z : Sizes} {g : Graph} (o : Ordered z g) where
         room = omega (arith, one-longer (g .sets) (v, g .made), o .room);
         logged = λ i h. (omega (arith, o .logged i h .0), o .logged i h .1);
         used = o .used;
+        merges = merges-grown (o .merges);
       }
     where
       apart : (i j : ℕ) → i < j → j < length (g .sets ++ ((v, g .made) ∷ [])) → at (g .sets ++ ((v, g .made) ∷ [])) i .0 ≡ at (g .sets ++ ((v, g .made) ∷ [])) j .0 → ⊥
@@ -145,6 +150,7 @@ module _ {z : Sizes} {g : Graph} (o : Ordered z g) where
         room = o .room;
         logged = o .logged;
         used = o .used;
+        merges = o .merges;
         sound = record { self = o .sound .self; from = o .sound .from; to = o .sound .to };
         keyed = put-range (o .keyed) a b;
       }
@@ -163,13 +169,14 @@ module _ {z : Sizes} {g : Graph} (o : Ordered z g) where
         room = o .room;
         logged = o .logged;
         used = o .used;
+        merges = o .merges;
         sound = record { self = o .sound .self; from = o .sound .from; to = o .sound .to };
         keyed = put-range (o .keyed) a b;
       }
 
-  pub merged-kept : (t s : ℕ) → t < g .made → Ordered z (merged g t s)
+  pub merged-kept : (t s : ℕ) → t < g .made → s < g .made → (s ≡ t → ⊥) → g .into t ≡ None → g .into s ≡ None → Ordered z (merged g t s)
   unfolding merged
-  merged-kept t s a =
+  merged-kept t s a b apart free-t free-s =
       record {
         small = o .small;
         begun = o .begun;
@@ -182,6 +189,7 @@ module _ {z : Sizes} {g : Graph} (o : Ordered z g) where
         room = o .room;
         logged = o .logged;
         used = o .used;
+        merges = merges-more (g .mode) s t (o .merges) apart b a free-s free-t;
         sound = record {
           self = λ x. fails _ (λ h. ⊎-elim (λ k. k .1 (k .0)) (λ k. never _ k (o .sound .self x)) (cases x x h));
           from = λ x y h. ⊎-elim (λ k. rw (k .0) a) (λ k. o .sound .from x y k) (cases x y h);
@@ -218,6 +226,7 @@ module _ {z : Sizes} {g : Graph} (o : Ordered z g) where
         room = o .room;
         logged = o .logged;
         used = o .used;
+        merges = o .merges;
         sound = record {
           self = λ x. fails _ (λ h. ⊎-elim (λ k. never _ k (o .sound .self x)) (λ k. k .1 refl) (cases x x h));
           from = λ x y h. ⊎-elim (λ k. o .sound .from x y k) (λ k. k .2) (cases x y h);

@@ -30,6 +30,10 @@ pub record Graph : Type 0 where
   pub home : ℕ → ℕ
   -- the chunk registered for a key, or None
   pub keys : ℕ → ℕ
+  -- merged chunks stand for their target (document 02, (vii): "a mode, chosen at loading by a nonzero number")
+  pub mode : Bool
+  -- in the mode, the chunk that a chunk was merged into, or None
+  pub into : ℕ → ℕ
 
 -- f, but v at i
 unfoldable pub put : {A : Type 0} → (ℕ → A) → ℕ → A → ℕ → A

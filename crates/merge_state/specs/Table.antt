@@ -1,4 +1,5 @@
--- The calls of a merge list, the rows that each can be refused by, and what it answers and leaves. Sentences quoted are document 01's. Assumes nothing.
+-- The calls of a merge list, the rows that each can be refused by, and what it answers and leaves. Sentences quoted are document 01's, (vii) is
+-- document 02's. Assumes nothing.
 use Prim.Native.Nat.{ℕ, zero, suc, _+_}
 use mathlib.Core.Bool.{Bool, true, false, not, cond, _&&_, _||_}
 use mathlib.Core.List.{List, [], _∷_}
@@ -9,6 +10,7 @@ use Rattle.graphs.specs.Lists.{some-below}
 use Rattle.entry_set.specs.Sets.{value, legal}
 use Rattle.merge_state.specs.declared.Sizes.{Sizes}
 use Rattle.merge_state.specs.State.{None, Graph, chunk-of, misfit}
+use Rattle.merge_state.specs.Merges.{gone, waits}
 use Rattle.merge_state.specs.Methods.{appended, assigned-to, registered, calculated, reachable, warn, merged, passed}
 
 -- What a call answers
@@ -88,7 +90,11 @@ bad-lists z (is-reachable x y) = false
 bad-lists z (merge-chunk-dependencies t s) = false
 bad-lists z (pass props bars kinds numbers) = false
 
--- The rows after 21: "the pass's own four lists by 15, then 16, 20, 18, 19"; in a proposal "chunk not initial"
+-- (vii): "a pass's proposed chunk, has already been merged away"; None is none's
+abbrev pub any-gone : Graph → List ℕ → Bool
+any-gone g l = some-below (λ i. gone g (getD l i 0)) (length l)
+
+-- The rows after 21: "the pass's own four lists by 15, then 16, 20, 18, 19"; in a proposal "chunk not initial". (vii): 28 "right after 20"
 unfoldable pub later : Sizes → Graph → Call → List (Bool × ℕ)
 later z g (init-module-assignment m set effs) =
     (no-module z m || not (legal (z .bits) set), 16) ∷ (eqb (chunk-of (value set) (g .sets)) None && leb (z .chunks) (g .made), 18) ∷ (full z g, 19) ∷ []
@@ -96,12 +102,13 @@ later z g (add-module-to-chunk m x effs) = (no-module z m || unmade g x, 16) ∷
 later z g (register-chunk-graph-index k x) = (leb (z .chunks) k || unmade g x, 16) ∷ []
 later z g (to-temp-idx k) = []
 later z g (calc-chunk-dependencies starts deps) = (any-misfit (z .modules) false deps, 16) ∷ []
-later z g (would-create-circular-dependency s t) = (unmade g s || unmade g t, 16) ∷ (eqb s t, 20) ∷ []
+later z g (would-create-circular-dependency s t) = (unmade g s || unmade g t, 16) ∷ (eqb s t, 20) ∷ (gone g s || gone g t, 28) ∷ []
 later z g (is-reachable x y) = (unmade g x || unmade g y, 16) ∷ []
-later z g (merge-chunk-dependencies t s) = (unmade g t || unmade g s, 16) ∷ (eqb t s, 20) ∷ []
+later z g (merge-chunk-dependencies t s) = (unmade g t || unmade g s, 16) ∷ (eqb t s, 20) ∷ (gone g t || gone g s, 28) ∷ []
 later z g (pass props bars kinds numbers) =
-    let n = count (g .needs) (g .made) in
-    (other-length props n || (other-length bars n || (other-length kinds n || other-length numbers n)), 15) ∷ (any-misfit (g .initial) true props, 16) ∷ (ltb (z .chunks) (g .initial + g .created + n), 18) ∷ []
+    let n = count (waits g) (g .made) in
+    (other-length props n || (other-length bars n || (other-length kinds n || other-length numbers n)), 15) ∷ (any-misfit (g .initial) true props, 16) ∷ (any-gone g props, 28)
+    ∷ (ltb (z .chunks) (g .initial + g .created + n), 18) ∷ []
 
 -- What a call that isn't refused answers, and the graph that it leaves
 unfoldable pub acted : Sizes → Graph → Call → Answer × Graph

@@ -1,4 +1,4 @@
--- `warning-exactly`: what the warning says of the fused graph (demand 2). Assumes nothing.
+-- `warning-exactly`: what the warning says of the fused graph (demand 2), where merged chunks don't stand for their target. Assumes nothing.
 use Prim.Native.Nat.{ℕ, _<_}
 use native.Mathlib.Decide.{ℕ-discrete}
 use mathlib.Core.Path.{_≡_, refl, sym, ap, _∙_}
@@ -13,7 +13,7 @@ use Rattle.graphs.specs.Walks.{join}
 use Rattle.merge_state.specs.State.{Graph}
 use Rattle.graph_walks.specs.Closed.{closed}
 use Rattle.graph_walks.specs.ClosedLaws.{closed-first, closed-next, closed-all}
-use Rattle.merge_state.specs.Methods.{warns, warn}
+use Rattle.merge_state.specs.Methods.{warns}
 
 -- The fused graph: the source's place is taken by the target. An edge between two different nodes, neither of them the source, where a
 -- chunk of the first depends on a chunk of the second; the target's chunks are target and source, any other's is itself.
@@ -34,18 +34,18 @@ pub record Looped (g : Graph) (s t : ℕ) : Type 0 where
   pub back : Walk (fused (g .depends) s t) other t
 
 module _ (d : ℕ → ℕ → Bool) (s t x y : ℕ) where
-  fuse : (x ≡ y → ⊥) → (x ≡ s → ⊥) → (y ≡ s → ⊥) → (d x y || ((eqb x t && d s y) || (eqb y t && d x s))) ≡ true → fused d s t x y ≡ true
+  pub fuse : (x ≡ y → ⊥) → (x ≡ s → ⊥) → (y ≡ s → ⊥) → (d x y || ((eqb x t && d s y) || (eqb y t && d x s))) ≡ true → fused d s t x y ≡ true
   unfolding fused
   fuse a b c h = and-both _ _ (and-both _ _ (ap not (ne-eqb x y a)) (and-both _ _ (ap not (ne-eqb x s b)) (ap not (ne-eqb y s c)))) h
 
-  fuse-ends : fused d s t x y ≡ true → (x ≡ y → ⊥) × (x ≡ s → ⊥) × (y ≡ s → ⊥)
+  pub fuse-ends : fused d s t x y ≡ true → (x ≡ y → ⊥) × (x ≡ s → ⊥) × (y ≡ s → ⊥)
   unfolding fused
   fuse-ends h =
       let k = and-left (not (eqb x y) && (not (eqb x s) && not (eqb y s))) _ h in
       let l = and-right (not (eqb x y)) _ k in
       (eqb-false x y (not-true _ (and-left (not (eqb x y)) _ k)), eqb-false x s (not-true _ (and-left (not (eqb x s)) _ l)), eqb-false y s (not-true _ (and-right (not (eqb x s)) _ l)))
 
-  fuse-cases : fused d s t x y ≡ true → (d x y ≡ true) ⊎ (((x ≡ t) × (d s y ≡ true)) ⊎ ((y ≡ t) × (d x s ≡ true)))
+  pub fuse-cases : fused d s t x y ≡ true → (d x y ≡ true) ⊎ (((x ≡ t) × (d s y ≡ true)) ⊎ ((y ≡ t) × (d x s ≡ true)))
   unfolding fused
   fuse-cases h =
       ⊎-elim (λ a. inl a)
@@ -114,7 +114,7 @@ module _ (g : Graph) (v : Sound g) (s t : ℕ) (differ : s ≡ t → ⊥) where
         ]
       ]
 
-  warned : warn g s t ≡ true → Bad
+  warned : warns (g .depends) (g .made) s t ≡ true → Bad
   unfolding warns Met Bad In
   warned h = ⊎-elim at-target at-member (or-cases (In t) _ h)
     where
@@ -132,16 +132,16 @@ module _ (g : Graph) (v : Sound g) (s t : ℕ) (differ : s ≡ t → ⊥) where
           n)
           (in-all Met met-first met-next x (and-left (In x) _ (r .2)))
 
-  target-in : In t ≡ true → warn g s t ≡ true
+  target-in : In t ≡ true → warns (g .depends) (g .made) s t ≡ true
   unfolding warns In
   target-in h = or-left _ _ h
 
-  member-on : (x : ℕ) → In x ≡ true → g .depends x s ≡ true → warn g s t ≡ true
+  member-on : (x : ℕ) → In x ≡ true → g .depends x s ≡ true → warns (g .depends) (g .made) s t ≡ true
   unfolding warns In
   member-on x h e = or-right (In t) _ (some-give (λ x. In x && g .depends x s) (g .made) x (v .from x s e) (and-both _ _ h e))
 
   -- a member of the closed union that isn't the target, with a walk of the fused graph to the target
-  homing : {x y : ℕ} → In x ≡ true → (x ≡ t → ⊥) → y ≡ t → Walk (fused (g .depends) s t) x y → warn g s t ≡ true
+  homing : {x y : ℕ} → In x ≡ true → (x ≡ t → ⊥) → y ≡ t → Walk (fused (g .depends) s t) x y → warns (g .depends) (g .made) s t ≡ true
   homing c n q (one {x} {y} h) =
       ⊎-elim (λ a. target-in (next-in x t c (rw q at a))) (λ k. ⊎-elim (λ p. absurd (n (p .0))) (λ p. member-on x c (p .1)) k) (fuse-cases (g .depends) s t x y h)
   homing c n q (more {x} {y = z} h w) = elim (ℕ-discrete z t) [
@@ -149,7 +149,7 @@ module _ (g : Graph) (v : Sound g) (s t : ℕ) (differ : s ≡ t → ⊥) where
     | no p ↦ homing (next-in x z c (⊎-elim (λ a. a) (λ k. ⊎-elim (λ l. absurd (n (l .0))) (λ l. absurd (p (l .0))) k) (fuse-cases (g .depends) s t x z h))) p q w
   ]
 
-  leaving : {x y : ℕ} → x ≡ t → y ≡ t → Walk (fused (g .depends) s t) x y → warn g s t ≡ true
+  leaving : {x y : ℕ} → x ≡ t → y ≡ t → Walk (fused (g .depends) s t) x y → warns (g .depends) (g .made) s t ≡ true
   unfolding First
   leaving p q (one {x} {y} h) = absurd (fuse-ends (g .depends) s t x y h .0 (p ∙ sym q))
   leaving p q (more {x} {y = z} h w) =
@@ -157,6 +157,6 @@ module _ (g : Graph) (v : Sound g) (s t : ℕ) (differ : s ≡ t → ⊥) where
       (λ i. fuse-ends (g .depends) s t x z h .0 (p ∙ sym i)) q w
 
   -- "the merge warning is yes exactly when the source depends directly on the target or the two fused lie on a cycle with another chunk"
-  pub warning-exactly : (warn g s t ≡ true) ↔ ((g .depends s t ≡ true) ⊎ Looped g s t)
+  pub warning-exactly : (warns (g .depends) (g .made) s t ≡ true) ↔ ((g .depends s t ≡ true) ⊎ Looped g s t)
   unfolding Bad First
   warning-exactly = (warned, λ b. ⊎-elim (λ e. target-in (first-in t (inl e))) (λ (l : Looped g s t). leaving refl refl (join (l .out) (l .back))) b)

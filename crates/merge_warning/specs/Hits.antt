@@ -14,7 +14,7 @@ use Rattle.graphs.specs.Tab.{tab-at}
 use Rattle.graphs.specs.Walk.{Walk, one, more, via}
 use Rattle.graphs.specs.Walks.{sources-below, sound, complete}
 use Rattle.graph_walks.specs.Closed.{flagEdge, closed}
-use Rattle.graph_walks.specs.ClosedLaws.{flag-from, flag-to, flag-is}
+use Rattle.graph_walks.specs.ClosedLaws.{flag-is}
 use Rattle.graph_walks.specs.Marks.{marking}
 use Rattle.merge_state.specs.State.{yes}
 use Rattle.merge_state.specs.Methods.{warns}
@@ -51,43 +51,43 @@ module _ (p : ℕ → Bool) (old marks : List ℕ) (n : ℕ) (clear : (x : ℕ) 
   pub marked-not : (x : ℕ) → x < n → getD marks x 0 ≡ 0 → false ≡ p x
   marked-not x h q = sym (sym (marked-yes x h) ∙ ap not (eq-eqb (getD marks x 0) 0 q))
 
--- the warning from the marks of the closed union
-module _ (l : List ℕ) (c n s t : ℕ) (old marks : List ℕ) (tn : t < n) (clear : (x : ℕ) → x < n → getD old x 0 ≡ 0) (long : n ≤ length old)
-    (e : marks ≡ marking (closed (flagEdge l c n) n s t) 1 old) where
-  pub warns-target : (getD marks t 0 ≡ 0 → ⊥) → true ≡ warns (flagEdge l c n) n s t
+-- the warning from the marks of the closed union, and from the members that hit tells
+module _ (d : ℕ → ℕ → Bool) (n s t : ℕ) (old marks : List ℕ) (tn : t < n) (clear : (x : ℕ) → x < n → getD old x 0 ≡ 0) (long : n ≤ length old) (e : marks ≡ marking (closed d n s t) 1 old) where
+  pub warns-target : (getD marks t 0 ≡ 0 → ⊥) → true ≡ warns d n s t
   unfolding warns
-  warns-target q = rw (← marked-is (closed (flagEdge l c n) n s t) old marks n clear long e t tn q)
+  warns-target q = rw (← marked-is (closed d n s t) old marks n clear long e t tn q)
 
-  pub warns-member : {r : Bool} → getD marks t 0 ≡ 0 → r ≡ some-below (hit-at l c n s marks) n → r ≡ warns (flagEdge l c n) n s t
-  unfolding warns hit-at
+  pub warns-member : {r : Bool} → getD marks t 0 ≡ 0 → r ≡ some-below (λ x. yes (getD marks x 0) && d x s) n → r ≡ warns d n s t
+  unfolding warns
   warns-member q k =
-      k ∙ some-alike (hit-at l c n s marks) (λ x. closed (flagEdge l c n) n s t x && flagEdge l c n x s) n (λ x h. ap (λ b. b && flagEdge l c n x s) (marked-yes (closed (flagEdge l c n) n s t) old marks n clear long e x h))
-      ∙ ap (λ b. b || some-below (λ x. closed (flagEdge l c n) n s t x && flagEdge l c n x s) n) (marked-not (closed (flagEdge l c n) n s t) old marks n clear long e t tn q)
+      k ∙ some-alike (λ x. yes (getD marks x 0) && d x s) (λ x. closed d n s t x && d x s) n (λ x h. ap (λ b. b && d x s) (marked-yes (closed d n s t) old marks n clear long e x h))
+      ∙ ap (λ b. b || some-below (λ x. closed d n s t x && d x s) n) (marked-not (closed d n s t) old marks n clear long e t tn q)
 
--- what one chunk's dependencies close to is what it reaches in one step or more
-pub closed-reach : (l : List ℕ) (c n x y : ℕ) → closed (flagEdge l c n) n x x y ≡ via (flagEdge l c n) (below n) x y
-unfolding closed
-closed-reach l c n x y = alike _ _ there back
-  where
-    d : ℕ → ℕ → Bool
-    d = flagEdge l c n
+pub hits-are : (l : List ℕ) (c n s : ℕ) (marks : List ℕ) → some-below (hit-at l c n s marks) n ≡ some-below (λ x. yes (getD marks x 0) && flagEdge l c n x s) n
+unfolding hit-at
+hits-are l c n s marks = refl
 
-    there : some-below (λ w. (flagEdge l c n x w || flagEdge l c n x w) && (eqb w y || via (flagEdge l c n) (below n) w y)) n ≡ true → via (flagEdge l c n) (below n) x y ≡ true
-    there h =
-        let r = some-take (λ w. (flagEdge l c n x w || flagEdge l c n x w) && (eqb w y || via (flagEdge l c n) (below n) w y)) n h in
-        let w = r .0 in
-        let first : flagEdge l c n x w ≡ true = ⊎-elim (λ a. a) (λ a. a) (or-cases (flagEdge l c n x w) _ (and-left (flagEdge l c n x w || flagEdge l c n x w) _ (r .2))) in
-        let rest = and-right (flagEdge l c n x w || flagEdge l c n x w) _ (r .2) in
-        let walk : Walk (flagEdge l c n) x y = ⊎-elim (λ q. one (rw (eqb-true w y q) at first)) (λ q. more first (sound (flagEdge l c n) (below n) w y q)) (or-cases (eqb w y) _ rest) in
-        complete (flagEdge l c n) (below n) (sources-below (λ u v. flag-from l c n u v)) x y walk
+-- what one node's edges close to is what it reaches in one step or more
+module _ (d : ℕ → ℕ → Bool) (n : ℕ) (from : (x y : ℕ) → d x y ≡ true → x < n) (to : (x y : ℕ) → d x y ≡ true → y < n) (x y : ℕ) where
+  pub closed-reach : closed d n x x y ≡ via d (below n) x y
+  unfolding closed
+  closed-reach = alike _ _ there back
+    where
+      there : some-below (λ w. (d x w || d x w) && (eqb w y || via d (below n) w y)) n ≡ true → via d (below n) x y ≡ true
+      there h =
+          let r = some-take (λ w. (d x w || d x w) && (eqb w y || via d (below n) w y)) n h in
+          let w = r .0 in
+          let first : d x w ≡ true = ⊎-elim (λ a. a) (λ a. a) (or-cases (d x w) _ (and-left (d x w || d x w) _ (r .2))) in
+          let rest = and-right (d x w || d x w) _ (r .2) in
+          let walk : Walk d x y = ⊎-elim (λ q. one (rw (eqb-true w y q) at first)) (λ q. more first (sound d (below n) w y q)) (or-cases (eqb w y) _ rest) in
+          complete d (below n) (sources-below from) x y walk
 
-    from : Walk (flagEdge l c n) x y → some-below (λ w. (flagEdge l c n x w || flagEdge l c n x w) && (eqb w y || via (flagEdge l c n) (below n) w y)) n ≡ true
-    from (one h) = some-give _ n y (flag-to l c n x y h) (and-both _ _ (or-left _ _ h) (or-left _ _ (eq-eqb y y refl)))
-    from (more {y = w} h p) =
-        some-give _ n w (flag-to l c n x w h) (and-both _ _ (or-left _ _ h) (or-right (eqb w y) _ (complete (flagEdge l c n) (below n) (sources-below (λ u v. flag-from l c n u v)) w y p)))
+      onward : Walk d x y → some-below (λ w. (d x w || d x w) && (eqb w y || via d (below n) w y)) n ≡ true
+      onward (one h) = some-give _ n y (to x y h) (and-both _ _ (or-left _ _ h) (or-left _ _ (eq-eqb y y refl)))
+      onward (more {y = w} h p) = some-give _ n w (to x w h) (and-both _ _ (or-left _ _ h) (or-right (eqb w y) _ (complete d (below n) (sources-below from) w y p)))
 
-    back : via (flagEdge l c n) (below n) x y ≡ true → some-below (λ w. (flagEdge l c n x w || flagEdge l c n x w) && (eqb w y || via (flagEdge l c n) (below n) w y)) n ≡ true
-    back h = from (sound (flagEdge l c n) (below n) x y h)
+      back : via d (below n) x y ≡ true → some-below (λ w. (d x w || d x w) && (eqb w y || via d (below n) w y)) n ≡ true
+      back h = onward (sound d (below n) x y h)
 
 -- a hit, by the two numbers
 module _ (l : List ℕ) (c n s : ℕ) (marks : List ℕ) (x : ℕ) where

@@ -1,1 +1,2 @@
 pub mod Hits
+pub mod EndHits

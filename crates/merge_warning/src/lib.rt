@@ -1,4 +1,6 @@
 // The two questions over the dependency flags: would a merge close a cycle, and does one chunk reach another.
+pub mod counted; // counted.rt: where merged chunks stand for the end of their merges
+
 ghost use mathlib.Core.Path.{_≡_};
 ghost use Prim.Native.Nat.{_+_, _*_, _<_, _≤_};
 ghost use lib.ListN.{length};

@@ -26,7 +26,7 @@ fn sizes(c: u64, m: u64, l: u64, e: u64) -> Sizes
     }
 }
 
-// Loads each initial chunk's modules, and pairs of a set and its chunk.
+// Loads each initial chunk's modules, and pairs of a set and its chunk; where mode isn't 0, merged chunks stand for their target.
 #[no_mangle]
 pub extern "C" fn chunk_optimization_graph_new(
     c: u64,
@@ -34,6 +34,7 @@ pub extern "C" fn chunk_optimization_graph_new(
     l: u64,
     e: u64,
     initial: u64,
+    mode: u32,
     starts: &[u32],
     modules: &[u32],
     sets: &[u64],
@@ -41,8 +42,8 @@ pub extern "C" fn chunk_optimization_graph_new(
     effects: &[u32],
     area: &mut [u32],
 ) -> Reply
-    ensures { λ r. ⌜ r ≡ merge-reply (load-step (sized c m l e) (lent initial (now (starts .entry)) (now (modules .entry)) (now (sets .entry)) (now (chunks .entry)) (now (effects .entry))) (now (area .entry)) .0) ⌝ }
-    ensures { λ _. ⌜ now (area .exit) ≡ load-step (sized c m l e) (lent initial (now (starts .entry)) (now (modules .entry)) (now (sets .entry)) (now (chunks .entry)) (now (effects .entry))) (now (area .entry)) .1 ⌝ }
+    ensures { λ r. ⌜ r ≡ merge-reply (load-step (sized c m l e) (lent initial (now (starts .entry)) (now (modules .entry)) (now (sets .entry)) (now (chunks .entry)) (now (effects .entry)) mode) (now (area .entry)) .0) ⌝ }
+    ensures { λ _. ⌜ now (area .exit) ≡ load-step (sized c m l e) (lent initial (now (starts .entry)) (now (modules .entry)) (now (sets .entry)) (now (chunks .entry)) (now (effects .entry)) mode) (now (area .entry)) .1 ⌝ }
 {
     of_done(chunk_optimizer::new(
         sizes(c, m, l, e),
@@ -52,6 +53,7 @@ pub extern "C" fn chunk_optimization_graph_new(
         sets,
         chunks,
         effects,
+        mode,
         area,
     ))
 }

@@ -2,7 +2,7 @@
 use crate::library::Library;
 use crate::limits;
 use crate::merges_made_up;
-use crate::merges_model::Size;
+use crate::merges_model::{NONE, Size};
 use crate::moves_cases::{Damage, MoveCall, MoveCase};
 use crate::moves_made_up::{self, Shape};
 use crate::run::{Case, Counts, Disagreement, Random, run};
@@ -138,6 +138,25 @@ impl Runner<'_> {
         Ok(())
     }
 
+    /// Merged chunks that stand for their target: against the model alone.
+    fn standing_merges(&mut self, random: &mut Random) -> Found {
+        for round in 0..self.amount.times(10_000) {
+            let (c, m, l) = (1 + random.below(8), random.below(8), random.below(14));
+            let (e, calls) = (random.below(5), 1 + random.index(25));
+            let shape = merge_shape(random, Size { c, m, l, e }, calls);
+            let shape = merges_made_up::Shape { mode: random.pick(&[1, 2, NONE]), ..shape };
+            self.run(&merges_made_up::random_case(random, shape, if round % 2 == 0 { 0 } else { 25 }))?;
+            self.run(&merges_made_up::crafted_case(random, shape, 10))?;
+        }
+        for _ in 0..self.amount.times(15) {
+            let (c, m, l) = (8 + random.below(40), 8 + random.below(60), 20 + random.below(300));
+            let shape = merges_made_up::Shape { mode: 1, ..merge_shape(random, Size { c, m, l, e: 65 }, 200) };
+            self.run(&merges_made_up::random_case(random, shape, 4))?;
+            self.run(&merges_made_up::crafted_case(random, shape, 4))?;
+        }
+        Ok(())
+    }
+
     fn long_merges(&mut self, random: &mut Random) -> Found {
         for _ in 0..self.amount.times(30) {
             let (c, m, l) = (8 + random.below(40), 8 + random.below(60), 20 + random.below(300));
@@ -152,6 +171,7 @@ impl Runner<'_> {
         let mut random = Random(self.amount.seed ^ 0x6d65_7267);
         self.small_merges(&mut random)?;
         self.long_merges(&mut random)?;
+        self.standing_merges(&mut Random(self.amount.seed ^ 0x7374_616e))?;
         for _ in 0..self.amount.times(1) {
             for (c, m, l, e) in MERGE_SIZES {
                 let shape = merge_shape(&mut random, Size { c, m, l, e }, 12);
@@ -208,7 +228,7 @@ const MERGE_SIZES: [(u64, u64, u64, u64); 7] = [
 fn merge_shape(random: &mut Random, size: Size, calls: usize) -> merges_made_up::Shape {
     let initial = random.below(size.c + 1).min(size.c / 2 + 1);
     let pairs = random.below(size.c + 1).min(2 * size.c / 3 + 1);
-    merges_made_up::Shape { size, initial, pairs, calls }
+    merges_made_up::Shape { size, initial, mode: 0, pairs, calls }
 }
 
 /// The merge graph's inputs alone.

@@ -57,12 +57,14 @@ impl MergeLayout {
     pub const CREATED: usize = 2;
     pub const SETS: usize = 3;
     pub const ENTRIES: usize = 4;
+    pub const MODE: usize = 5;
     /// Words of each set of the table of 2C.
     pub const WORDS: usize = 8;
     /// Chunk lanes: 0 to 15 the words of the sets, set by set, 16 and 17 their chunks, then these.
     pub const SIDE_EFFECTS: usize = 18;
     pub const NEEDS_CREATION: usize = 19;
     pub const KEY: usize = 20;
+    pub const MERGED_INTO: usize = 21;
     /// Module lane.
     pub const MODULE_CHUNK: usize = 0;
     /// Entry lanes.

@@ -43,6 +43,8 @@ impl EdgeReply {
 #[derive(Clone, Debug, Default, PartialEq, Eq)]
 pub struct MergeLoad {
     pub initial: u64,
+    /// Not 0: merged chunks stand for their target.
+    pub mode: u32,
     pub module_starts: Vec<u32>,
     pub modules: Vec<u32>,
     pub sets: Vec<u64>,
@@ -152,6 +154,7 @@ mod ours {
                 chunk_optimization_graph_new,
                 size,
                 load.initial,
+                load.mode,
                 load.module_starts.as_ptr(),
                 load.module_starts.len(),
                 load.modules.as_ptr(),

@@ -1,4 +1,5 @@
 //! Cases exactly at the limits of rows 1 and 14, and one past each: the same in every run.
+use crate::layout::MergeLayout;
 use crate::library::{Library, MergeLoad};
 use crate::merges_calls::{self, MergeCall};
 use crate::merges_cases::{self, FITTED, MergeCase};
@@ -144,6 +145,7 @@ const LARGEST: Size = Size { c: 1024, m: 4096, l: 8192, e: 256 };
 fn merge_load(initial: u32, entries: u32, pairs: u32) -> MergeLoad {
     MergeLoad {
         initial: initial.into(),
+        mode: 0,
         module_starts: (0..=initial).map(|place| if place == initial { entries } else { 8 * place }).collect(),
         modules: (0..entries).map(|entry| entry % 4096).collect(),
         sets: sets(pairs.into()),
@@ -215,6 +217,35 @@ fn merges_past(load: &MergeLoad) -> Vec<(Size, MergeLoad)> {
     ]
 }
 
+/// 1,024 chunks, of which each of the first 1,000 was merged into the next: the longest way to an end, and then a ring.
+fn merged_chain() -> MergeCase {
+    let load = MergeLoad { mode: 1, module_starts: vec![0; 1025], ..merge_load(1024, 0, 0) };
+    let mut state = merges_calls::new(LARGEST, &load, usize::MAX).expect("a load that no row refuses");
+    (0..1000).for_each(|chunk| state.merged_into[chunk] = Some(chunk as u32 + 1));
+    // 1,001 on the chain's first, its last on 1,002; 1,003 on its middle.
+    for (from, to) in [(1001, 0), (1000, 1002), (1003, 500), (1002, 1004)] {
+        state.dependencies[from].insert(to);
+    }
+    let mut calls = vec![
+        MergeCall::IsReachable { from: 1001, to: 1004 },
+        MergeCall::IsReachable { from: 0, to: 1002 },
+        MergeCall::IsReachable { from: 1003, to: 999 },
+        MergeCall::IsReachable { from: 0, to: 1000 },
+        MergeCall::Warning { source: 1001, target: 1002 },
+        MergeCall::Warning { source: 1001, target: 1000 },
+        MergeCall::Warning { source: 1004, target: 1001 },
+        MergeCall::Merge { target: 1005, source: 1000 },
+        MergeCall::IsReachable { from: 1001, to: 1005 },
+        MergeCall::Merge { target: 0, source: 1005 },
+    ];
+    let closing = (LARGEST.layout().chunk_lane(MergeLayout::MERGED_INTO, 1005), 0);
+    let ring = (calls[0].clone(), merges_cases::Damage { cell: Some(closing), ..merges_cases::Damage::default() });
+    calls.push(MergeCall::Warning { source: 1004, target: 1005 });
+    let mut case = MergeCase { crafted: Some(state), ..merge_case(LARGEST, load, calls) };
+    case.calls.push(ring);
+    case
+}
+
 /// C, M, L and E, initial chunks, named sets and module dependencies at their limits and past them; 1,024 chunks made.
 pub fn merges(library: Option<&dyn Library>, counts: &mut Counts) -> Result<(), Disagreement> {
     let mut check = |case: &MergeCase, row: u64| {
@@ -238,5 +269,6 @@ pub fn merges(library: Option<&dyn Library>, counts: &mut Counts) -> Result<(), 
     check(&merge_case(LARGEST, merge_load(1024, 8192, 1025), vec![]), 14)?;
     check(&merge_case(LARGEST, merge_load(1023, 8193, 1024), vec![]), 19)?;
     check(&merge_case(Size { c: 1, ..LARGEST }, merge_load(0, 0, 0), vec![]), 0)?;
-    check(&merge_case(Size { c: 0, ..LARGEST }, merge_load(0, 0, 0), vec![]), 14)
+    check(&merge_case(Size { c: 0, ..LARGEST }, merge_load(0, 0, 0), vec![]), 14)?;
+    check(&merged_chain(), 0)
 }

@@ -1,4 +1,4 @@
-//! The merge graph's calls by document 01: refusals in their order, answers, the state afterwards.
+//! The merge graph's calls by documents 01 and 02 (vii): refusals in their order, answers, the state afterwards.
 use std::collections::BTreeSet;
 
 use crate::library::{MergeLoad, Reply};
@@ -74,6 +74,8 @@ pub fn new(size: Size, load: &MergeLoad, area: usize) -> Result<MergeState, u64>
         entries: vec![],
         module_chunk: vec![None; size.m as usize],
         registered: (0..size.c).map(|key| (key < load.initial).then_some(key as u32)).collect(),
+        mode: load.mode != 0,
+        merged_into: vec![],
     };
     for place in 0..load.initial as usize {
         let chunk = state.new_chunk(false);
@@ -160,10 +162,11 @@ impl MergeState {
         self.entries.len() as u64 >= size.l
     }
 
-    /// Rows 16 and 20.
+    /// Rows 16, 20 and 28.
     fn two_chunks(&self, source: u32, target: u32) -> Result<(), u64> {
         fits(self.no_chunk(source) || self.no_chunk(target), 16)?;
-        fits(source == target, 20)
+        fits(source == target, 20)?;
+        fits(self.is_gone(source) || self.is_gone(target), 28)
     }
 
     fn init_module(&mut self, size: Size, module: u32, bits: &[u64], side_effects: &[u32]) -> Result<(), u64> {
@@ -205,12 +208,13 @@ impl MergeState {
         }
     }
 
-    /// The pass's candidates, after rows 15, 16 and 18; `lengths` are those of the bars and the two answer lists.
+    /// The pass's candidates, after rows 15, 16, 28 and 18; `lengths` are those of the bars and the two answer lists.
     fn pass_candidates(&self, size: Size, proposals: &[u32], lengths: [usize; 3]) -> Result<Vec<u32>, u64> {
         let candidates = self.candidates();
         let count = candidates.len();
         fits(proposals.len() != count || lengths != [count; 3], 15)?;
         fits(proposals.iter().any(|&chunk| chunk != NONE && chunk >= self.initial), 16)?;
+        fits(proposals.iter().any(|&chunk| self.is_gone(chunk)), 28)?;
         let room = u64::from(self.initial) + u64::from(self.created) + count as u64;
         fits(room > size.c, 18)?;
         Ok(candidates)

@@ -222,6 +222,10 @@ impl Case for MergeCase {
             }
         }
         let Ok(state) = loaded else { return Ok(()) };
+        if state.mode {
+            // The original has no such mode.
+            return self.check_calls(&mut Running { library, original: None, state, area }, counts);
+        }
         let original = original_of(size, &self.load);
         if let Some(original) = &original {
             same("original's state at loading against the model", &original.view(), &state.view())?;

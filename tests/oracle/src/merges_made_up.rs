@@ -12,6 +12,8 @@ use crate::sets::{Set, width};
 pub struct Shape {
     pub size: Size,
     pub initial: u64,
+    /// Not 0: merged chunks stand for their target.
+    pub mode: u32,
     pub pairs: u64,
     pub calls: usize,
 }
@@ -147,10 +149,13 @@ fn damaged_cell(random: &mut Random, size: Size, state: &MergeState, extra: usiz
     let cell = match random.below(12) {
         0 => at.dependency(chunk, random.index(at.c)),
         1 => at.dependency(chunk, chunk),
-        2..4 => at.header(random.index(5)),
+        2 => at.header(random.index(5)),
+        3 => at.header(if state.mode { random.index(6) } else { random.index(5) }),
         4 => at.set_word(random.index(9), random.index(2 * at.c)),
         5 if !state.sets.is_empty() => at.set_word(random.index(9), random.index(state.sets.len())),
         6 => at.chunk_lane(MergeLayout::NEEDS_CREATION, chunk),
+        // Where merged chunks stand for their target, a ring or a merge out of range.
+        7 if state.mode => at.chunk_lane(MergeLayout::MERGED_INTO, chunk),
         7 => at.chunk_lane(MergeLayout::KEY, chunk),
         8 if at.m > 0 => at.module_lane(MergeLayout::MODULE_CHUNK, random.index(at.m)),
         9 if at.l > 0 => at.entry_lane(random.index(2), random.index(at.l)),
@@ -174,6 +179,7 @@ pub fn random_load(random: &mut Random, shape: Shape) -> MergeLoad {
     }
     MergeLoad {
         initial: shape.initial,
+        mode: shape.mode,
         module_starts,
         modules,
         set_chunks: sets.iter().map(|_| random.below(shape.initial) as u32).collect(),
@@ -219,6 +225,25 @@ fn add_calls(random: &mut Random, case: &mut MergeCase, mut state: MergeState, s
     }
 }
 
+/// Merges of made chunks without a ring: each is into one that comes later in a made-up order.
+fn random_merges(random: &mut Random, made: u64) -> Vec<Option<u32>> {
+    let share = random.pick(&[0, 20, 60, 95]);
+    let mut order: Vec<u32> = (0..made as u32).collect();
+    for place in (1..order.len()).rev() {
+        order.swap(place, random.index(place + 1));
+    }
+    let mut merged_into = vec![None; made as usize];
+    for (place, &chunk) in order.iter().enumerate() {
+        let later = &order[place + 1..];
+        if !later.is_empty() && random.chance(share) {
+            // Often the very next, so that chains are long.
+            merged_into[chunk as usize] =
+                Some(if random.chance(50) { later[0] } else { later[random.index(later.len())] });
+        }
+    }
+    merged_into
+}
+
 /// A case that starts from a made-up consistent area: nothing in it need come of a loading.
 pub fn crafted_case(random: &mut Random, shape: Shape, damage: u64) -> MergeCase {
     let mut case = random_case(random, Shape { calls: 0, ..shape }, 0);
@@ -247,6 +272,8 @@ pub fn crafted_case(random: &mut Random, shape: Shape, damage: u64) -> MergeCase
         entries: (0..entries).map(|_| (random.below(made) as u32, random.below(size.m) as u32)).collect(),
         module_chunk: (0..size.m).map(|_| maybe(random)).collect(),
         registered: (0..size.c).map(|_| maybe(random)).collect(),
+        mode: case.load.mode != 0,
+        merged_into: if shape.mode == 0 { vec![None; made as usize] } else { random_merges(random, made) },
     };
     case.crafted = Some(state.clone());
     add_calls(random, &mut case, state, shape, damage);
@@ -303,9 +330,10 @@ fn damage_loading(random: &mut Random, case: &mut MergeCase, size: Size) {
 }
 
 /// Two initial chunks, named by the sets of one bit.
-fn small_load() -> MergeLoad {
+fn small_load(mode: u32) -> MergeLoad {
     MergeLoad {
         initial: 2,
+        mode,
         module_starts: vec![0, 1, 2],
         modules: vec![0, 1],
         sets: vec![1, 2],
@@ -359,8 +387,8 @@ fn small_merge(graph: u32, number: u32) -> [MergeCall; 3] {
 /// Two initial chunks, two that need creation, every dependency among the four: all warnings and walks, a pass.
 pub fn every_small_graph(each: &mut dyn FnMut(MergeCase)) {
     let size = Size { c: 6, m: 4, l: 4, e: 2 };
-    for graph in 0..1_u32 << 12 {
-        let load = small_load();
+    for graph in 0..1_u32 << 13 {
+        let load = small_load(graph >> 12);
         let calls = small_calls(graph, &load.side_effects);
         for number in 0..3 {
             let calls = calls.iter().cloned().chain(small_merge(graph, number));

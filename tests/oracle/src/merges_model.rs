@@ -1,4 +1,4 @@
-//! The merge graph by document 01, worked out plainly: what an area holds.
+//! The merge graph by documents 01 and 02 (vii), worked out plainly: what an area holds.
 use std::collections::BTreeSet;
 
 use crate::layout::MergeLayout;
@@ -43,6 +43,10 @@ pub struct MergeState {
     pub module_chunk: Vec<Option<u32>>,
     /// By key below C.
     pub registered: Vec<Option<u32>>,
+    /// Merged chunks stand for their target.
+    pub mode: bool,
+    /// By made chunk: the one that it was merged into. In the mode only.
+    pub merged_into: Vec<Option<u32>>,
 }
 
 /// By made chunk, unless a flag says that a chunk depends on itself, or one not yet made depends or is depended on.
@@ -62,6 +66,28 @@ fn decode_dependencies(at: MergeLayout, area: &[u32], made: usize) -> Option<Vec
     Some(dependencies)
 }
 
+/// What each chunk was merged into, unless a merge is out of range, of a chunk not yet made, or one of a ring.
+fn decode_merges(at: MergeLayout, area: &[u32], made: usize) -> Option<Vec<Option<u32>>> {
+    let into = |chunk: usize| area[at.chunk_lane(MergeLayout::MERGED_INTO, chunk)];
+    if (0..at.c).any(|chunk| into(chunk) != NONE && (chunk >= made || into(chunk) as usize >= made)) {
+        return None;
+    }
+    let merged_into: Vec<Option<u32>> =
+        (0..made).map(|chunk| Some(into(chunk)).filter(|&chunk| chunk != NONE)).collect();
+    for chunk in 0..made {
+        let mut merges = 0;
+        let mut at = chunk;
+        while let Some(next) = merged_into[at] {
+            at = next as usize;
+            merges += 1;
+            if merges > made {
+                return None;
+            }
+        }
+    }
+    Some(merged_into)
+}
+
 /// A named set and its chunk.
 fn decode_set(at: MergeLayout, area: &[u32], set: usize) -> (Set, u32) {
     let halves = std::array::from_fn(|word| area[at.set_word(word, set)]);
@@ -74,7 +100,7 @@ impl MergeState {
     }
 
     pub fn candidates(&self) -> Vec<u32> {
-        (0..self.made()).filter(|&chunk| self.needs_creation[chunk as usize]).collect()
+        (0..self.made()).filter(|&chunk| self.needs_creation[chunk as usize] && !self.is_gone(chunk)).collect()
     }
 
     pub fn view(&self) -> MergeView {
@@ -103,15 +129,44 @@ impl MergeState {
         self.dependencies.push(BTreeSet::new());
         self.side_effects.push(false);
         self.needs_creation.push(needs_creation);
+        self.merged_into.push(None);
         self.made() - 1
     }
 
+    /// Was merged away, in the mode.
+    pub fn is_gone(&self, chunk: u32) -> bool {
+        self.merged_into.get(chunk as usize).copied().flatten().is_some()
+    }
+
+    /// "the chunk at the end of its merges"
+    fn end(&self, mut chunk: u32) -> u32 {
+        while let Some(next) = self.merged_into[chunk as usize] {
+            chunk = next;
+        }
+        chunk
+    }
+
+    /// "a stored dependency on a merged chunk, or of one, counts as on or of the chunk at the end of its merges, and dependencies
+    /// on oneself are dropped"; with `name` naming the ends.
+    fn counted(&self, name: impl Fn(u32) -> u32) -> Vec<BTreeSet<u32>> {
+        let mut counted = vec![BTreeSet::new(); self.made() as usize];
+        for (from, members) in (0..).zip(&self.dependencies) {
+            for &to in members {
+                let (from, to) = (name(self.end(from)), name(self.end(to)));
+                if from != to {
+                    counted[from as usize].insert(to);
+                }
+            }
+        }
+        counted
+    }
+
     /// Chunks in `from`, and all that they lead to.
-    fn closed(&self, from: &BTreeSet<u32>) -> BTreeSet<u32> {
+    fn closed(dependencies: &[BTreeSet<u32>], from: &BTreeSet<u32>) -> BTreeSet<u32> {
         let mut members = from.clone();
         loop {
             let more: BTreeSet<u32> =
-                members.iter().flat_map(|&chunk| self.dependencies[chunk as usize].iter().copied()).collect();
+                members.iter().flat_map(|&chunk| dependencies[chunk as usize].iter().copied()).collect();
             if more.is_subset(&members) {
                 return members;
             }
@@ -120,17 +175,29 @@ impl MergeState {
     }
 
     pub fn warning(&self, source: u32, target: u32) -> bool {
+        if self.mode {
+            // "yes exactly when the fused chunk lies on a cycle with another"
+            let fused = self.counted(|chunk| if chunk == source { target } else { chunk });
+            return Self::closed(&fused, &fused[target as usize]).contains(&target);
+        }
         let union = &self.dependencies[source as usize] | &self.dependencies[target as usize];
-        let members = self.closed(&union);
+        let members = Self::closed(&self.dependencies, &union);
         members.contains(&target) || members.iter().any(|&chunk| self.dependencies[chunk as usize].contains(&source))
     }
 
     pub fn is_reachable(&self, from: u32, to: u32) -> bool {
-        self.closed(&self.dependencies[from as usize]).contains(&to)
+        if self.mode {
+            let counted = self.counted(|chunk| chunk);
+            return Self::closed(&counted, &counted[self.end(from) as usize]).contains(&self.end(to));
+        }
+        Self::closed(&self.dependencies, &self.dependencies[from as usize]).contains(&to)
     }
 
     pub fn merge(&mut self, target: u32, source: u32) {
         let from = std::mem::take(&mut self.dependencies[source as usize]);
+        if self.mode {
+            self.merged_into[source as usize] = Some(target);
+        }
         let (target, source) = (target as usize, source as usize);
         self.dependencies[target].extend(from);
         self.dependencies[target].remove(&(target as u32));
@@ -150,6 +217,7 @@ impl MergeState {
         let maybe = |chunk: u32| (chunk != NONE).then_some(chunk);
         let lane = |lane, count: usize| (0..count).map(move |chunk| area[at.chunk_lane(lane, chunk)]);
         let entry = |lane, entry| area[at.entry_lane(lane, entry)];
+        let mode = header(MergeLayout::MODE) != 0;
         let state = Self {
             initial,
             created: header(MergeLayout::CREATED),
@@ -164,6 +232,8 @@ impl MergeState {
                 .map(|module| maybe(area[at.module_lane(MergeLayout::MODULE_CHUNK, module)]))
                 .collect(),
             registered: lane(MergeLayout::KEY, at.c).map(maybe).collect(),
+            mode,
+            merged_into: if mode { decode_merges(at, area, made)? } else { vec![None; made] },
         };
         state.is_sound(size).then_some(state)
     }
@@ -193,6 +263,13 @@ impl MergeState {
         area[at.header(MergeLayout::CREATED)] = self.created;
         area[at.header(MergeLayout::SETS)] = self.sets.len() as u32;
         area[at.header(MergeLayout::ENTRIES)] = self.entries.len() as u32;
+        area[at.header(MergeLayout::MODE)] = self.mode.into();
+        if self.mode {
+            for chunk in 0..at.c {
+                area[at.chunk_lane(MergeLayout::MERGED_INTO, chunk)] =
+                    self.merged_into.get(chunk).copied().flatten().unwrap_or(NONE);
+            }
+        }
         for (place, &(set, chunk)) in self.sets.iter().enumerate() {
             for (word, half) in set.halves().into_iter().enumerate() {
                 area[at.set_word(word, place)] = half;
@@ -222,7 +299,10 @@ impl MergeState {
         let mut field = vec![false; before];
         let mut used = |cell: usize| field[cell] = true;
         (0..at.c * at.c).for_each(&mut used);
-        (0..5).for_each(|number| used(at.header(number)));
+        (0..6).for_each(|number| used(at.header(number)));
+        if self.mode || loading {
+            (0..at.c).for_each(|chunk| used(at.chunk_lane(MergeLayout::MERGED_INTO, chunk)));
+        }
         for place in 0..self.sets.len() {
             (0..9).for_each(|word| used(at.set_word(word, place)));
         }

@@ -224,6 +224,7 @@ fn missed_loop() -> MergeCase {
     let side_effects = vec![0; 4];
     let load = MergeLoad {
         initial: 2,
+        mode: 0,
         module_starts: vec![0, 1, 2],
         modules: vec![0, 1],
         sets: vec![],
@@ -323,8 +324,13 @@ fn at_limits(random: &mut Random) -> Vec<Vec<u64>> {
         lines.push(record_moves(&moves_case(random, moves_made_up::Shape { a, d, e, n, calls: 12 })));
     }
     for (c, m, l, e) in [(1, 0, 0, 0), (1, 1, 1, 1), (40, 30, 60, 64), (40, 30, 60, 65), (20, 30, 40, 256)] {
-        let shape =
-            merges_made_up::Shape { size: Size { c, m, l, e }, initial: c.div_ceil(3), pairs: c / 4, calls: 30 };
+        let shape = merges_made_up::Shape {
+            size: Size { c, m, l, e },
+            initial: c.div_ceil(3),
+            mode: 0,
+            pairs: c / 4,
+            calls: 30,
+        };
         lines.push(record_merges(&merges_case(random, shape)));
     }
     lines
@@ -344,7 +350,7 @@ pub fn sample(count: usize, seed: u64) -> Vec<Vec<u64>> {
         } else {
             let (c, m, l, e) = (2 + random.below(7), 1 + random.below(7), 2 + random.below(14), random.below(5));
             let (initial, pairs, calls) = (random.below(c), random.below(c), 4 + random.index(16));
-            let shape = merges_made_up::Shape { size: Size { c, m, l, e }, initial, pairs, calls };
+            let shape = merges_made_up::Shape { size: Size { c, m, l, e }, initial, mode: 0, pairs, calls };
             lines.push(record_merges(&merges_case(&mut random, shape)));
         }
     }

@@ -187,7 +187,7 @@ fn read_merge_load(reader: &mut Reader, size: Size) -> MergeLoad {
     let pairs = reader.one();
     let (sets, set_chunks) = (reader.list(pairs * width(size.e)), reader.smalls(pairs));
     let side_effects = reader.smalls(size.m);
-    MergeLoad { initial, module_starts, modules, sets, set_chunks, side_effects }
+    MergeLoad { initial, mode: 0, module_starts, modules, sets, set_chunks, side_effects }
 }
 
 fn replay_merges(library: &dyn Library, reader: &mut Reader) -> Result<(), String> {

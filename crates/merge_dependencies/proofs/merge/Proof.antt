@@ -1,75 +1,26 @@
 -- `merge_dependencies::merge` meets its contract. Assumes nothing.
-use Rattle.merge_area.specs.Writes.{merge-area}
+use Rattle.merge_area.specs.Writes.{record-area, merge-area}
+use mathlib.Core.Path.{ap, _∙_}
 use borrow.Author.Needs.{needs}
 use Rattle.merge_dependencies.proofs.merge.Statement.{statement}
 use Rattle.merge_dependencies.proofs.merge.Tie as tie
 
-cast-side-place : tie.Need-cast-side-place
-cast-side-place c = search needs
+-- src/lib.rt:205:5
+absorb-requires : tie.Need-absorb-requires
+absorb-requires c κs = search needs
 
-side-place-requires : tie.Need-side-place-requires
-side-place-requires c κs = search needs
+-- src/lib.rt:206:5
+record-merge-requires : tie.Need-record-merge-requires
+record-merge-requires c κs = search needs
 
-cast-side-place-2 : tie.Need-cast-side-place-2
-cast-side-place-2 c = search needs
-
-side-place-requires-2 : tie.Need-side-place-requires-2
-side-place-requires-2 c κs = search needs
-
-mul-or-flag : tie.Need-mul-or-flag
-mul-or-flag c = search needs
-
-slice-read-or-flag : tie.Need-slice-read-or-flag
-slice-read-or-flag c = search needs
-
-mul-or-flag-2 : tie.Need-mul-or-flag-2
-mul-or-flag-2 c = search needs
-
-slice-read-or-flag-2 : tie.Need-slice-read-or-flag-2
-slice-read-or-flag-2 c = search needs
-
-or-flag-requires : tie.Need-or-flag-requires
-or-flag-requires c κs = search needs
-
-cast-merge-rows : tie.Need-cast-merge-rows
-cast-merge-rows c = search needs
-
-cast-merge-rows-2 : tie.Need-cast-merge-rows-2
-cast-merge-rows-2 c = search needs
-
-merge-rows-requires : tie.Need-merge-rows-requires
-merge-rows-requires c κs = search needs
-
-mul-area : tie.Need-mul-area
-mul-area c = search needs
-
-slice-write-area : tie.Need-slice-write-area
-slice-write-area c = search needs
-
+-- src/lib.rt:201:1
 same-length : tie.Need-same-length
 same-length c = search needs
 
+-- src/lib.rt:201:1
 returns : tie.Need-returns
 unfolding merge-area
-returns c = rw (c .before .before .merge-rows .ensures, c .before .before .before .before .before .before .or-flag .ensures, c .before .before .before .before .before .before .before .before .before .before .before .side-place .ensures, c .before .before .before .before .before .before .before .before .before .side-place2 .ensures)
+returns c = c .before .before .record-merge .ensures ∙ ap (λ l. record-area (c .before .before .before .before .before .before .before .before .before .args .sizes) l (c .before .before .before .before .before .before .before .before .before .args .target .0) (c .before .before .before .before .before .before .before .before .before .args .source .0)) (c .before .before .before .before .before .before .absorb .ensures)
 
 pub merge-spec : {M : Type 1} → statement M
-merge-spec =
-    tie.close
-    (tie.spec
-    cast-side-place
-    side-place-requires
-    cast-side-place-2
-    side-place-requires-2
-    mul-or-flag
-    slice-read-or-flag
-    mul-or-flag-2
-    slice-read-or-flag-2
-    or-flag-requires
-    cast-merge-rows
-    cast-merge-rows-2
-    merge-rows-requires
-    mul-area
-    slice-write-area
-    same-length
-    returns)
+merge-spec = tie.close (tie.spec absorb-requires record-merge-requires same-length returns)

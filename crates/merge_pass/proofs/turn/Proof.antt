@@ -1,76 +1,92 @@
 -- `merge_pass::turn` meets its contract. Assumes nothing.
-use native.Mathlib.Omega.{arith}
 use Rattle.merge_pass.specs.Placing.{can-answer, turn-none, turn-place, turn-done}
+use borrow.Author.Tests.{not-true, not-false}
+use mathlib.Core.Path.{sym, _∙_}
+use native.Mathlib.Omega.{arith}
 use borrow.Author.Needs.{needs}
 use Rattle.merge_pass.proofs.turn.Statement.{statement}
 use Rattle.merge_pass.proofs.turn.Tie as tie
 
-need-place-requires : tie.Need-need-place-requires
-need-place-requires c κs = search needs
+-- src/lib.rt:59:9
+is-waiting-requires : tie.Need-is-waiting-requires
+is-waiting-requires c κs = search needs
 
-mul-if1 : tie.Need-mul-if1
-mul-if1 c = search needs
-
-slice-read-if1 : tie.Need-slice-read-if1
-slice-read-if1 c = search needs
-
-returns : tie.Need-returns
-returns c = turn-none (c .before .before .before .before .before .before .before .before .pre) (rw (c .before .before .need-place .ensures) at (c .if1 .taken))
-
-cast-t13 : tie.Need-cast-t13
-cast-t13 c = search needs
-
-mul-place : tie.Need-mul-place
-mul-place c = omega (arith, can-answer (c .before .before .before .before .before .before .before .before .before .pre) (rw (c .before .before .before .need-place .ensures) at (c .before .if1 .left)) .proposals)
-
-shared-slice-read-place : tie.Need-shared-slice-read-place
-shared-slice-read-place c = omega (arith, can-answer (c .before .before .before .before .before .before .before .before .before .before .pre) (rw (c .before .before .before .before .need-place .ensures) at (c .before .before .if1 .left)) .proposals)
-
-mul-place-2 : tie.Need-mul-place-2
-mul-place-2 c = omega (arith, can-answer (c .before .before .before .before .before .before .before .before .before .before .pre) (rw (c .before .before .before .before .need-place .ensures) at (c .before .before .if1 .left)) .bars)
-
-shared-slice-read-place-2 : tie.Need-shared-slice-read-place-2
-shared-slice-read-place-2 c = omega (arith, can-answer (c .before .before .before .before .before .before .before .before .before .before .before .pre) (rw (c .before .before .before .before .before .need-place .ensures) at (c .before .before .before .if1 .left)) .bars)
-
-place-requires : tie.Need-place-requires
-place-requires c κs = turn-place (c .before .before .before .before .before .before .before .before .before .before .before .pre) (rw (c .before .before .before .before .before .need-place .ensures) at (c .before .before .before .if1 .left))
-
-mul-kinds : tie.Need-mul-kinds
-mul-kinds c = omega (arith, can-answer (c .before .before .before .before .before .before .before .before .before .before .before .before .before .before .pre) (rw (c .before .before .before .before .before .before .before .before .need-place .ensures) at (c .before .before .before .before .before .before .if1 .left)) .kinds)
-
-slice-write-kinds : tie.Need-slice-write-kinds
-slice-write-kinds c = omega (arith, can-answer (c .before .before .before .before .before .before .before .before .before .before .before .before .before .before .pre) (rw (c .before .before .before .before .before .before .before .before .need-place .ensures) at (c .before .before .before .before .before .before .if1 .left)) .kinds)
-
-mul-numbers : tie.Need-mul-numbers
-mul-numbers c = omega (arith, can-answer (c .before .before .before .before .before .before .before .before .before .before .before .before .before .before .pre) (rw (c .before .before .before .before .before .before .before .before .need-place .ensures) at (c .before .before .before .before .before .before .if1 .left)) .numbers)
-
-slice-write-numbers : tie.Need-slice-write-numbers
-slice-write-numbers c = omega (arith, can-answer (c .before .before .before .before .before .before .before .before .before .before .before .before .before .before .pre) (rw (c .before .before .before .before .before .before .before .before .need-place .ensures) at (c .before .before .before .before .before .before .if1 .left)) .numbers)
-
-add-result : tie.Need-add-result
-add-result c = omega (arith, can-answer (c .before .before .before .before .before .before .before .before .before .before .before .before .before .before .pre) (rw (c .before .before .before .before .before .before .before .before .need-place .ensures) at (c .before .before .before .before .before .before .if1 .left)) .proposals)
-
+-- src/lib.rt:60:9
 same-length : tie.Need-same-length
 same-length c = search needs
 
+-- src/lib.rt:60:9
+returns : tie.Need-returns
+returns c = turn-none (c .before .before .before .before .before .before .before .before .pre) (sym (c .before .is-waiting .ensures) ∙ not-true _ (c .if1 .taken))
+
+-- src/lib.rt:62:46
+cast-t16 : tie.Need-cast-t16
+cast-t16 c = search needs
+
+-- src/lib.rt:62:57
+mul-place : tie.Need-mul-place
+mul-place c = omega (arith, can-answer (c .before .before .before .before .before .before .before .before .before .pre) (sym (c .before .before .is-waiting .ensures) ∙ not-false _ (c .before .if1 .left)) .proposals)
+
+-- src/lib.rt:62:57
+shared-slice-read-place : tie.Need-shared-slice-read-place
+shared-slice-read-place c = omega (arith, can-answer (c .before .before .before .before .before .before .before .before .before .before .pre) (sym (c .before .before .before .is-waiting .ensures) ∙ not-false _ (c .before .before .if1 .left)) .proposals)
+
+-- src/lib.rt:62:71
+mul-place-2 : tie.Need-mul-place-2
+mul-place-2 c = omega (arith, can-answer (c .before .before .before .before .before .before .before .before .before .before .pre) (sym (c .before .before .before .is-waiting .ensures) ∙ not-false _ (c .before .before .if1 .left)) .bars)
+
+-- src/lib.rt:62:71
+shared-slice-read-place-2 : tie.Need-shared-slice-read-place-2
+shared-slice-read-place-2 c = omega (arith, can-answer (c .before .before .before .before .before .before .before .before .before .before .before .pre) (sym (c .before .before .before .before .is-waiting .ensures) ∙ not-false _ (c .before .before .before .if1 .left)) .bars)
+
+-- src/lib.rt:62:9
+place-requires : tie.Need-place-requires
+place-requires c κs = turn-place (c .before .before .before .before .before .before .before .before .before .before .before .pre) (sym (c .before .before .before .before .is-waiting .ensures) ∙ not-false _ (c .before .before .before .if1 .left))
+
+-- src/lib.rt:63:5
+mul-kinds : tie.Need-mul-kinds
+mul-kinds c = omega (arith, can-answer (c .before .before .before .before .before .before .before .before .before .before .before .before .before .before .pre) (sym (c .before .before .before .before .before .before .before .is-waiting .ensures) ∙ not-false _ (c .before .before .before .before .before .before .if1 .left)) .kinds)
+
+-- src/lib.rt:63:5
+slice-write-kinds : tie.Need-slice-write-kinds
+slice-write-kinds c = omega (arith, can-answer (c .before .before .before .before .before .before .before .before .before .before .before .before .before .before .pre) (sym (c .before .before .before .before .before .before .before .is-waiting .ensures) ∙ not-false _ (c .before .before .before .before .before .before .if1 .left)) .kinds)
+
+-- src/lib.rt:64:5
+mul-numbers : tie.Need-mul-numbers
+mul-numbers c = omega (arith, can-answer (c .before .before .before .before .before .before .before .before .before .before .before .before .before .before .pre) (sym (c .before .before .before .before .before .before .before .is-waiting .ensures) ∙ not-false _ (c .before .before .before .before .before .before .if1 .left)) .numbers)
+
+-- src/lib.rt:64:5
+slice-write-numbers : tie.Need-slice-write-numbers
+slice-write-numbers c = omega (arith, can-answer (c .before .before .before .before .before .before .before .before .before .before .before .before .before .before .pre) (sym (c .before .before .before .before .before .before .before .is-waiting .ensures) ∙ not-false _ (c .before .before .before .before .before .before .if1 .left)) .numbers)
+
+-- src/lib.rt:65:5
+add-result : tie.Need-add-result
+add-result c = omega (arith, can-answer (c .before .before .before .before .before .before .before .before .before .before .before .before .before .before .pre) (sym (c .before .before .before .before .before .before .before .is-waiting .ensures) ∙ not-false _ (c .before .before .before .before .before .before .if1 .left)) .proposals)
+
+-- src/lib.rt:46:1
 same-length-2 : tie.Need-same-length-2
 same-length-2 c = search needs
 
+-- src/lib.rt:46:1
 same-length-3 : tie.Need-same-length-3
 same-length-3 c = search needs
 
+-- src/lib.rt:46:1
+same-length-4 : tie.Need-same-length-4
+same-length-4 c = search needs
+
+-- src/lib.rt:46:1
 returns-2 : tie.Need-returns-2
-returns-2 c = turn-done (c .before .before .before .before .before .before .before .before .before .before .before .before .before .before .pre) (rw (c .before .before .before .before .before .before .before .before .need-place .ensures) at (c .before .before .before .before .before .before .if1 .left)) (c .before .before .place .ensures)
+returns-2 c = turn-done (c .before .before .before .before .before .before .before .before .before .before .before .before .before .before .pre) (sym (c .before .before .before .before .before .before .before .is-waiting .ensures) ∙ not-false _ (c .before .before .before .before .before .before .if1 .left)) (c .before .before .place .ensures)
 
 pub turn-spec : {M : Type 1} → statement M
 turn-spec =
     tie.close
     (tie.spec
-    need-place-requires
-    mul-if1
-    slice-read-if1
+    is-waiting-requires
+    same-length
     returns
-    cast-t13
+    cast-t16
     mul-place
     shared-slice-read-place
     mul-place-2
@@ -81,7 +97,7 @@ turn-spec =
     mul-numbers
     slice-write-numbers
     add-result
-    same-length
     same-length-2
     same-length-3
+    same-length-4
     returns-2)

@@ -1,3 +1,4 @@
+use Rattle.graph_walks.specs.ClosedLaws.{flag-from, flag-to}
 use native.Mathlib.Omega.{arith}
 use Rattle.merge_warning.specs.Hits.{marked-yes, closed-reach}
 use Rattle.graphs.specs.Tab.{zeros}
@@ -28,7 +29,7 @@ array-read-result c = search needs
 
 -- src/lib.rt:52:1
 returns : tie.Need-returns
-returns c = marked-yes _ _ _ _ (λ x h. zeros 1024 x) (omega (arith, c .before .before .before .before .before .before .pre .narrow, c .before .before .before .before .before .before .pre .few)) (c .before .before .closure .ensures) _ (c .before .before .before .before .before .before .pre .second) ∙ closed-reach _ _ _ _ _
+returns c = marked-yes _ _ _ _ (λ x h. zeros 1024 x) (omega (arith, c .before .before .before .before .before .before .pre .narrow, c .before .before .before .before .before .before .pre .few)) (c .before .before .closure .ensures) _ (c .before .before .before .before .before .before .pre .second) ∙ closed-reach _ _ (flag-from _ _ _) (flag-to _ _ _) _ _
 
 pub reaches-spec : {M : Type 1} → statement M
 reaches-spec =

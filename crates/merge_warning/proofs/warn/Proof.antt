@@ -1,5 +1,6 @@
-use Rattle.merge_warning.specs.Hits.{warns-target, warns-member}
+use Rattle.merge_warning.specs.Hits.{warns-target, warns-member, hits-are}
 use Rattle.graphs.specs.Tab.{zeros}
+use mathlib.Core.Path.{_∙_}
 use native.Mathlib.Omega.{arith}
 use borrow.Author.Needs.{needs}
 use Rattle.merge_warning.proofs.warn.Statement.{statement}
@@ -27,7 +28,7 @@ array-read-if1 c = search needs
 
 -- src/lib.rt:46:9
 returns : tie.Need-returns
-returns c = warns-target _ _ _ _ _ _ _ (c .before .before .before .before .before .before .before .pre .second) (λ x h. zeros 1024 x) (omega (arith, c .before .before .before .before .before .before .before .pre .narrow, c .before .before .before .before .before .before .before .pre .few)) (c .before .before .before .closure .ensures) (c .if1 .taken)
+returns c = warns-target _ _ _ _ _ _ (c .before .before .before .before .before .before .before .pre .second) (λ x h. zeros 1024 x) (omega (arith, c .before .before .before .before .before .before .before .pre .narrow, c .before .before .before .before .before .before .before .pre .few)) (c .before .before .before .closure .ensures) (c .if1 .taken)
 
 -- src/lib.rt:48:35
 slice-aggregate-some-hit : tie.Need-slice-aggregate-some-hit
@@ -39,7 +40,7 @@ some-hit-requires c κs = search needs
 
 -- src/lib.rt:38:1
 returns-2 : tie.Need-returns-2
-returns-2 c = warns-member _ _ _ _ _ _ _ (c .before .before .before .before .before .before .before .before .before .pre .second) (λ x h. zeros 1024 x) (omega (arith, c .before .before .before .before .before .before .before .before .before .pre .narrow, c .before .before .before .before .before .before .before .before .before .pre .few)) (c .before .before .before .before .before .closure .ensures) (c .before .before .if1 .left) (c .some-hit .ensures)
+returns-2 c = warns-member _ _ _ _ _ _ (c .before .before .before .before .before .before .before .before .before .pre .second) (λ x h. zeros 1024 x) (omega (arith, c .before .before .before .before .before .before .before .before .before .pre .narrow, c .before .before .before .before .before .before .before .before .before .pre .few)) (c .before .before .before .before .before .closure .ensures) (c .before .before .if1 .left) (c .some-hit .ensures ∙ hits-are _ _ _ _ _)
 
 pub warn-spec : {M : Type 1} → statement M
 warn-spec =

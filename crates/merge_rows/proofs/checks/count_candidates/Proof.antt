@@ -1,26 +1,70 @@
 -- `merge_rows::checks::count_candidates` meets its contract. Assumes nothing.
-use native.Mathlib.Omega.{arith}
-use Rattle.merge_rows.proofs.Laws.{needs-counted}
+use Rattle.merge_rows.proofs.Laws.{waiting-more}
+use Rattle.merge_area.specs.Read.{read}
+use Rattle.merge_area.specs.Layout.{cell, head}
+use Rattle.merge_state.specs.Merges.{waits}
+use Rattle.graphs.specs.Count.{count, count-none, count-le}
 use borrow.Author.Needs.{needs}
+use mathlib.Core.Path.{_≡_, sym, ap, _∙_}
+use Prim.Native.Nat.{_+_, _-_, _≤_}
+use native.Mathlib.Omega.{arith}
 use Rattle.merge_rows.proofs.checks.count_candidates.Statement.{statement}
 use Rattle.merge_rows.proofs.checks.count_candidates.Tie as tie
 
-header-requires : tie.Need-header-requires
+abbrev Inv-loop : tie.InvT-loop
+Inv-loop sizes area made n₀ x₀ n x = (x ≤ made) × (n ≡ count (waits (read sizes area)) x)
+
+abbrev μ-loop : tie.MeasureT-loop
+μ-loop sizes area made n₀ x₀ n x = made - x
+
+-- src/checks.rt:55:16
+header-requires : tie.Need-header-requires Inv-loop μ-loop
 header-requires c κs = search needs
 
-cast-made : tie.Need-cast-made
-cast-made c = search needs
+-- src/checks.rt:55:16
+cast-made : tie.Need-cast-made Inv-loop μ-loop
+cast-made c = omega (arith, c .header .ensures, c .before .before .pre .fits, c .before .before .pre .within .chunks)
 
-need-place-requires : tie.Need-need-place-requires
-need-place-requires c κs = search needs
+-- src/checks.rt:58:5
+loop-holds : tie.Need-loop-holds Inv-loop μ-loop
+loop-holds c = (omega arith, sym (count-none _))
 
-count-faults-requires : tie.Need-count-faults-requires
-count-faults-requires c κs = search needs
+-- src/checks.rt:59:14
+count-waiting-requires : tie.Need-count-waiting-requires Inv-loop μ-loop
+count-waiting-requires c κs = (c .before .before .before .before .pre, omega (arith, c .loop-test .taken, c .before .before .header .ensures, c .before .before .before .before .pre .fits))
 
-returns : tie.Need-returns
-returns c = needs-counted _ _ (c .before .before .header .ensures) (omega (arith, c .before .before .header .ensures, c .before .before .before .before .pre .fits)) (c .before .need-place .ensures) (c .count-faults .ensures .value)
+-- src/checks.rt:59:9
+add-n : tie.Need-add-n Inv-loop μ-loop
+add-n c = omega (arith, waiting-more _ _ _ (c .before .before .loop .inv .1) (c .count-waiting .ensures), count-le (waits (read (c .before .before .before .before .before .args .sizes) (c .before .before .before .before .before .args .area .now))) (c .before .before .loop .x + 1), c .before .before .before .header .ensures, c .before .before .before .before .before .pre .fits, c .before .before .before .before .before .pre .within .chunks)
+
+-- src/checks.rt:60:9
+add-x : tie.Need-add-x Inv-loop μ-loop
+add-x c = omega arith
+
+-- src/checks.rt:58:5
+loop-less : tie.Need-loop-less Inv-loop μ-loop
+loop-less c = omega arith
+
+-- src/checks.rt:58:5
+loop-again : tie.Need-loop-again Inv-loop μ-loop
+loop-again c = (omega arith, waiting-more _ _ _ (c .before .before .loop .inv .1) (c .count-waiting .ensures))
+
+-- src/checks.rt:51:1
+returns : tie.Need-returns Inv-loop μ-loop
+returns c = let e : c .before .loop .x ≡ cell (c .before .before .before .before .args .area .now) (head (c .before .before .before .before .args .sizes) 1) = omega (arith, c .before .before .header .ensures) in c .before .loop .inv .1 ∙ ap (count (waits (read (c .before .before .before .before .args .sizes) (c .before .before .before .before .args .area .now)))) e
 
 pub count-candidates-spec : {M : Type 1} → statement M
 count-candidates-spec =
     tie.close
-    (tie.spec header-requires cast-made need-place-requires count-faults-requires returns)
+    (tie.spec
+    Inv-loop
+    μ-loop
+    header-requires
+    cast-made
+    loop-holds
+    count-waiting-requires
+    add-n
+    add-x
+    loop-less
+    loop-again
+    returns)
