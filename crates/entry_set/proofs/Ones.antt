@@ -14,7 +14,7 @@ use Rattle.entry_set.specs.JoinedLaws.{wider, turned, joined-below}
 use Rattle.entry_set.specs.Sets.{value, numbers, number, singleBit}
 use Rattle.entry_set.specs.SingleLaws.{single-power, single-none}
 
-ones-zero : ones 0 ≡ 0
+pub ones-zero : ones 0 ≡ 0
 unfolding ones onesIn
 ones-zero = refl
 

@@ -7,39 +7,30 @@ use borrow.Author.Needs.{needs}
 use Rattle.chunk_optimizer.proofs.add_module_to_chunk.Statement.{statement}
 use Rattle.chunk_optimizer.proofs.add_module_to_chunk.Tie as tie
 
--- src/lib.rt:64:9
 add-row-requires : tie.Need-add-row-requires
 add-row-requires c κs = search needs
 
--- src/lib.rt:66:9
 same-length : tie.Need-same-length
 same-length c = search needs
 
--- src/lib.rt:66:9
 returns : tie.Need-returns
 returns c = refused-called _ _ _ (c .before .add-row .ensures) (c .if1 .taken) refl refl
 
--- src/lib.rt:68:13
 cast-at : tie.Need-cast-at
 cast-at c = search needs
 
--- src/lib.rt:69:58
 mul-append : tie.Need-mul-append
 mul-append c = search needs
 
--- src/lib.rt:69:58
 shared-slice-read-append : tie.Need-shared-slice-read-append
 shared-slice-read-append c = may-add _ _ _ _ _ (c .before .before .before .before .add-row .ensures) (c .before .before .before .if1 .left) .1
 
--- src/lib.rt:69:5
 append-requires : tie.Need-append-requires
 append-requires c κs = may-add _ _ _ _ _ (c .before .before .before .before .add-row .ensures) (c .before .before .before .if1 .left) .0
 
--- src/lib.rt:55:1
 same-length-2 : tie.Need-same-length-2
 same-length-2 c = search needs
 
--- src/lib.rt:55:1
 returns-2 : tie.Need-returns-2
 unfolding acted write
 returns-2 c = acted-called _ _ _ (c .before .before .before .before .before .before .before .add-row .ensures) (c .before .before .before .before .before .before .if1 .left) refl (c .before .before .append .ensures)

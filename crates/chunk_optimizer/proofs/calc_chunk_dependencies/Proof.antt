@@ -8,35 +8,27 @@ use borrow.Author.Needs.{needs}
 use Rattle.chunk_optimizer.proofs.calc_chunk_dependencies.Statement.{statement}
 use Rattle.chunk_optimizer.proofs.calc_chunk_dependencies.Tie as tie
 
--- src/lib.rt:109:9
 calc-row-requires : tie.Need-calc-row-requires
 calc-row-requires c κs = search needs
 
--- src/lib.rt:111:9
 same-length : tie.Need-same-length
 same-length c = search needs
 
--- src/lib.rt:111:9
 returns : tie.Need-returns
 returns c = refused-called _ _ _ (c .before .calc-row .ensures) (c .if1 .taken) refl refl
 
--- src/lib.rt:113:16
 header-requires : tie.Need-header-requires
 header-requires c κs = let m = may-calc _ _ _ _ (c .before .before .calc-row .ensures) (c .before .if1 .left) .1 in (m .within, m .long, omega arith)
 
--- src/lib.rt:113:16
 cast-used : tie.Need-cast-used
 cast-used c = search needs
 
--- src/lib.rt:114:5
 calculate-requires : tie.Need-calculate-requires
 calculate-requires c κs = rw (c .before .header .ensures) (may-calc _ _ _ _ (c .before .before .before .before .calc-row .ensures) (c .before .before .before .if1 .left) .0)
 
--- src/lib.rt:106:1
 same-length-2 : tie.Need-same-length-2
 same-length-2 c = search needs
 
--- src/lib.rt:106:1
 returns-2 : tie.Need-returns-2
 unfolding acted write
 returns-2 c = acted-called _ _ _ (c .before .before .before .before .before .before .before .calc-row .ensures) (c .before .before .before .before .before .before .if1 .left) refl (rw (c .before .before .before .before .header .ensures) at (c .before .before .calculate .ensures))

@@ -7,47 +7,36 @@ use borrow.Author.Needs.{needs}
 use Rattle.chunk_optimizer.proofs.init_module_assignment.Statement.{statement}
 use Rattle.chunk_optimizer.proofs.init_module_assignment.Tie as tie
 
--- src/lib.rt:43:9
 init-row-requires : tie.Need-init-row-requires
 init-row-requires c κs = search needs
 
--- src/lib.rt:45:9
 same-length : tie.Need-same-length
 same-length c = search needs
 
--- src/lib.rt:45:9
 returns : tie.Need-returns
 returns c = refused-called _ _ _ (c .before .init-row .ensures) (c .if1 .taken) refl refl
 
--- src/lib.rt:47:9
 find-chunk-requires : tie.Need-find-chunk-requires
 find-chunk-requires c κs = let m = may-init _ _ _ _ _ (c .before .before .init-row .ensures) (c .before .if1 .left) in (m .3, m .2)
 
--- src/lib.rt:48:13
 cast-at : tie.Need-cast-at
 cast-at c = search needs
 
--- src/lib.rt:49:9
 from-list-requires : tie.Need-from-list-requires
 from-list-requires c κs = may-init _ _ _ _ _ (c .before .before .before .before .init-row .ensures) (c .before .before .before .if1 .left) .2
 
--- src/lib.rt:50:54
 mul-assign : tie.Need-mul-assign
 mul-assign c = search needs
 
--- src/lib.rt:50:54
 shared-slice-read-assign : tie.Need-shared-slice-read-assign
 shared-slice-read-assign c = may-init _ _ _ _ _ (c .before .before .before .before .before .before .before .init-row .ensures) (c .before .before .before .before .before .before .if1 .left) .1
 
--- src/lib.rt:50:5
 assign-requires : tie.Need-assign-requires
 assign-requires c κs = rw (c .before .before .before .before .find-chunk .ensures) (may-init _ _ _ _ _ (c .before .before .before .before .before .before .before .init-row .ensures) (c .before .before .before .before .before .before .if1 .left) .0)
 
--- src/lib.rt:34:1
 same-length-2 : tie.Need-same-length-2
 same-length-2 c = search needs
 
--- src/lib.rt:34:1
 returns-2 : tie.Need-returns-2
 unfolding acted write
 returns-2 c = acted-called _ _ _ (c .before .before .before .before .before .before .before .before .before .before .init-row .ensures) (c .before .before .before .before .before .before .before .before .before .if1 .left) refl (rw (c .before .before .before .before .before .from-list .ensures .value, c .before .before .before .before .before .before .before .find-chunk .ensures) at (c .before .before .assign .ensures))

@@ -7,27 +7,21 @@ use borrow.Author.Needs.{needs}
 use Rattle.chunk_optimizer.proofs.merge_chunk_dependencies.Statement.{statement}
 use Rattle.chunk_optimizer.proofs.merge_chunk_dependencies.Tie as tie
 
--- src/lib.rt:146:9
 pair-row-requires : tie.Need-pair-row-requires
 pair-row-requires c κs = search needs
 
--- src/lib.rt:148:9
 same-length : tie.Need-same-length
 same-length c = search needs
 
--- src/lib.rt:148:9
 returns : tie.Need-returns
 returns c = refused-called _ _ _ (pair-merge _ _ _ _ (c .before .pair-row .ensures)) (c .if1 .taken) refl refl
 
--- src/lib.rt:150:5
 merge-requires : tie.Need-merge-requires
 merge-requires c κs = let m = may-merge _ _ _ _ (pair-merge _ _ _ _ (c .before .before .pair-row .ensures)) (c .before .if1 .left) in search needs
 
--- src/lib.rt:143:1
 same-length-2 : tie.Need-same-length-2
 same-length-2 c = search needs
 
--- src/lib.rt:143:1
 returns-2 : tie.Need-returns-2
 unfolding acted write
 returns-2 c = acted-called _ _ _ (pair-merge _ _ _ _ (c .before .before .before .before .before .pair-row .ensures)) (c .before .before .before .before .if1 .left) refl (c .before .before .merge .ensures)

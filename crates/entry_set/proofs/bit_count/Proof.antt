@@ -1,32 +1,44 @@
--- `bit_count` meets its contract: the ones of a set are those of its four numbers. Assumes nothing.
-use mathlib.Core.Path.{sym}
+-- `bit_count` meets its contract: where the other numbers are 0, the ones of a set are those of the first. Assumes nothing.
 use native.Mathlib.Omega.{arith}
-use Rattle.entry_set.specs.Sets.{numbers}
+use mathlib.Core.Path.{ap}
+use lib.Count.{ones}
 use Rattle.entry_set.proofs.Compare.{known}
-use Rattle.entry_set.proofs.Ones.{ones-four, ones-at}
+use Rattle.entry_set.proofs.Ones.{ones-zero, ones-four}
+use borrow.Author.Needs.{needs}
 use Rattle.entry_set.proofs.bit_count.Statement.{statement}
 use Rattle.entry_set.proofs.bit_count.Tie as tie
 
-add-result : tie.Need-add-result
-add-result c =
-    let s = c .before .before .args .s in
-    let most = ones-at (numbers s) (known s (c .struct-known2 .given)) in
-    omega (arith, most 0, most 1)
-
-add-result-2 : tie.Need-add-result-2
-add-result-2 c =
-    let s = c .before .before .before .args .s in
-    let most = ones-at (numbers s) (known s (c .struct-known3 .given)) in
-    omega (arith, most 0, most 1, most 2)
-
-add-result-3 : tie.Need-add-result-3
-add-result-3 c =
-    let s = c .before .before .before .before .args .s in
-    let most = ones-at (numbers s) (known s (c .struct-known4 .given)) in
-    omega (arith, most 0, most 1, most 2, most 3)
+count-four-requires : tie.Need-count-four-requires
+count-four-requires c κs = search needs
 
 returns : tie.Need-returns
-returns c = let s = c .before .before .before .before .args .s in sym (ones-four s (known s (c .struct-known4 .given)))
+returns c = search needs
+
+count-four-requires-2 : tie.Need-count-four-requires-2
+count-four-requires-2 c κs = search needs
+
+returns-2 : tie.Need-returns-2
+returns-2 c = search needs
+
+count-four-requires-3 : tie.Need-count-four-requires-3
+count-four-requires-3 c κs = search needs
+
+returns-3 : tie.Need-returns-3
+returns-3 c = search needs
+
+returns-4 : tie.Need-returns-4
+returns-4 c =
+    let s = c .before .before .before .before .before .before .before .args .s in
+    omega (arith, ones-four s (known s (c .struct-known4 .given)), ap ones (c .before .before .before .before .before .if1 .left), ap ones (c .before .before .before .if2 .left), ap ones (c .before .if3 .left), ones-zero)
 
 pub bit-count-spec : {M : Type 1} → statement M
-bit-count-spec = tie.close (tie.spec add-result add-result-2 add-result-3 returns)
+bit-count-spec =
+    tie.close
+    (tie.spec
+    count-four-requires
+    returns
+    count-four-requires-2
+    returns-2
+    count-four-requires-3
+    returns-3
+    returns-4)

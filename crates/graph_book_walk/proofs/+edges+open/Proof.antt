@@ -45,7 +45,6 @@ edges-Inv-loop starts list colour₀ x m i₀ colour i = Going starts list (leng
 abbrev edges-μ-loop : edges-lts.MeasureT-loop
 edges-μ-loop starts list colour₀ x m i₀ colour i = m - i
 
--- src/lib.rt:27:9
 edges-degree-requires : (t : ℕ) → edges-lts.Need-degree-requires (
   degree-reads.Asked,
   degree-reads.Learnt,
@@ -56,7 +55,6 @@ edges-degree-requires : (t : ℕ) → edges-lts.Need-degree-requires (
 ) (edges-at t) edges.Post edges-Inv-loop edges-μ-loop
 edges-degree-requires t c κs = row-of (c .before .before .before .pre .1 .graph) _ (c .before .before .before .pre .1 .node)
 
--- src/lib.rt:29:5
 edges-loop-holds : (t : ℕ) → edges-lts.Need-loop-holds (
   degree-reads.Asked,
   degree-reads.Learnt,
@@ -67,7 +65,6 @@ edges-loop-holds : (t : ℕ) → edges-lts.Need-loop-holds (
 ) (edges-at t) edges.Post edges-Inv-loop edges-μ-loop
 edges-loop-holds t c = (going-none (c .before .before .before .before .pre .1), c .degree .ensures)
 
--- src/lib.rt:30:17
 edges-neighbour-requires : (t : ℕ) → edges-lts.Need-neighbour-requires (
   degree-reads.Asked,
   degree-reads.Learnt,
@@ -78,7 +75,6 @@ edges-neighbour-requires : (t : ℕ) → edges-lts.Need-neighbour-requires (
 ) (edges-at t) edges.Post edges-Inv-loop edges-μ-loop
 edges-neighbour-requires t c κs = place-of (c .before .before .before .before .before .before .pre .1 .graph) _ _ (c .before .before .before .before .before .before .pre .1 .node) (omega (arith, c .before .loop .inv .1))
 
--- src/lib.rt:30:17
 edges-cast-y : (t : ℕ) → edges-lts.Need-cast-y (
   degree-reads.Asked,
   degree-reads.Learnt,
@@ -89,7 +85,6 @@ edges-cast-y : (t : ℕ) → edges-lts.Need-cast-y (
 ) (edges-at t) edges.Post edges-Inv-loop edges-μ-loop
 edges-cast-y t c = omega arith
 
--- src/lib.rt:31:9
 edges-add-i : (t : ℕ) → edges-lts.Need-add-i (
   degree-reads.Asked,
   degree-reads.Learnt,
@@ -100,7 +95,6 @@ edges-add-i : (t : ℕ) → edges-lts.Need-add-i (
 ) (edges-at t) edges.Post edges-Inv-loop edges-μ-loop
 edges-add-i t c = omega arith
 
--- src/lib.rt:32:17
 edges-mul-c : (t : ℕ) → edges-lts.Need-mul-c (
   degree-reads.Asked,
   degree-reads.Learnt,
@@ -111,7 +105,6 @@ edges-mul-c : (t : ℕ) → edges-lts.Need-mul-c (
 ) (edges-at t) edges.Post edges-Inv-loop edges-μ-loop
 edges-mul-c t c = omega (arith, next-node (c .before .before .loop .inv .0) (omega (arith, c .before .before .loop .inv .1)) (c .neighbour .ensures))
 
--- src/lib.rt:32:17
 edges-slice-read-c : (t : ℕ) → edges-lts.Need-slice-read-c (
   degree-reads.Asked,
   degree-reads.Learnt,
@@ -122,7 +115,6 @@ edges-slice-read-c : (t : ℕ) → edges-lts.Need-slice-read-c (
 ) (edges-at t) edges.Post edges-Inv-loop edges-μ-loop
 edges-slice-read-c t c = omega (arith, c .before .before .before .loop .inv .0 .long, next-node (c .before .before .before .loop .inv .0) (omega (arith, c .before .before .before .loop .inv .1)) (c .before .neighbour .ensures))
 
--- src/lib.rt:35:13
 edges-same-length : (t : ℕ) → edges-lts.Need-same-length (
   degree-reads.Asked,
   degree-reads.Learnt,
@@ -133,7 +125,6 @@ edges-same-length : (t : ℕ) → edges-lts.Need-same-length (
 ) (edges-at t) edges.Post edges-Inv-loop edges-μ-loop
 edges-same-length t c = c .before .before .before .before .loop .inv .0 .long
 
--- src/lib.rt:35:13
 edges-returns : (t : ℕ) → edges-lts.Need-returns (
   degree-reads.Asked,
   degree-reads.Learnt,
@@ -144,7 +135,6 @@ edges-returns : (t : ℕ) → edges-lts.Need-returns (
 ) (edges-at t) edges.Post edges-Inv-loop edges-μ-loop
 edges-returns t c = going-gray (c .before .before .before .before .loop .inv .0) (omega (arith, c .before .before .before .before .loop .inv .1)) (c .before .before .neighbour .ensures) (c .if1 .taken)
 
--- src/lib.rt:29:5
 edges-loop-less : (t : ℕ) → edges-lts.Need-loop-less (
   degree-reads.Asked,
   degree-reads.Learnt,
@@ -155,7 +145,6 @@ edges-loop-less : (t : ℕ) → edges-lts.Need-loop-less (
 ) (edges-at t) edges.Post edges-Inv-loop edges-μ-loop
 edges-loop-less t c = omega arith
 
--- src/lib.rt:29:5
 edges-loop-again : (t : ℕ) → edges-lts.Need-loop-again (
   degree-reads.Asked,
   degree-reads.Learnt,
@@ -166,7 +155,6 @@ edges-loop-again : (t : ℕ) → edges-lts.Need-loop-again (
 ) (edges-at t) edges.Post edges-Inv-loop edges-μ-loop
 edges-loop-again t c = (going-black (c .before .before .before .before .before .loop .inv .0) (omega (arith, c .before .before .before .before .before .loop .inv .1)) (c .before .before .before .neighbour .ensures) (c .if2 .taken) (c .before .if1 .left), c .before .before .before .before .before .loop .inv .1)
 
--- src/lib.rt:42:12
 edges-open-requires : (t : ℕ) → edges-lts.Need-open-requires (
   degree-reads.Asked,
   degree-reads.Learnt,
@@ -182,7 +170,6 @@ edges-open-requires t c κs =
       subst (λ (j : ℕ). CanOpen (c .before .before .before .before .before .before .before .before .before .before .before .args .starts .now) (c .before .before .before .before .before .before .before .before .before .before .before .args .list .now) j (c .before .before .before .before .before .before .loop .colour) (c .before .before .before .before .neighbour .result)) (sym (v .0 .long)) (going-can (v .0) b (c .before .before .before .before .neighbour .ensures) (c .before .if2 .left)),
     )
 
--- src/lib.rt:43:13
 edges-same-length-2 : (t : ℕ) → edges-lts.Need-same-length-2 (
   degree-reads.Asked,
   degree-reads.Learnt,
@@ -193,7 +180,6 @@ edges-same-length-2 : (t : ℕ) → edges-lts.Need-same-length-2 (
 ) (edges-at t) edges.Post edges-Inv-loop edges-μ-loop
 edges-same-length-2 t c = c .before .before .before .«open» .kept .1 .1 .0 ∙ c .before .before .before .before .before .before .before .before .before .before .loop .inv .0 .long
 
--- src/lib.rt:43:13
 edges-returns-2 : (t : ℕ) → edges-lts.Need-returns-2 (
   degree-reads.Asked,
   degree-reads.Learnt,
@@ -206,7 +192,6 @@ edges-returns-2 t c =
     let v = c .before .before .before .before .before .before .before .before .before .before .loop .inv in
     going-met (v .0) (omega (arith, v .1)) (c .before .before .before .before .before .before .before .before .neighbour .ensures) (c .before .before .before .before .before .if2 .left) (c .if3 .taken) (subst (λ (j : ℕ). Opened (c .before .before .before .before .before .before .before .before .before .before .before .before .before .before .before .args .starts .now) (c .before .before .before .before .before .before .before .before .before .before .before .before .before .before .before .args .list .now) j (c .before .before .before .before .before .before .before .before .before .before .loop .colour) (c .before .before .before .before .before .before .before .before .neighbour .result) (c .before .before .before .«open» .last .1 .1 .0) (c .before .before .before .«open» .result)) (v .0 .long) (c .before .before .before .«open» .ensures))
 
--- src/lib.rt:29:5
 edges-loop-less-2 : (t : ℕ) → edges-lts.Need-loop-less-2 (
   degree-reads.Asked,
   degree-reads.Learnt,
@@ -217,7 +202,6 @@ edges-loop-less-2 : (t : ℕ) → edges-lts.Need-loop-less-2 (
 ) (edges-at t) edges.Post edges-Inv-loop edges-μ-loop
 edges-loop-less-2 t c = omega arith
 
--- src/lib.rt:29:5
 edges-loop-again-2 : (t : ℕ) → edges-lts.Need-loop-again-2 (
   degree-reads.Asked,
   degree-reads.Learnt,
@@ -230,7 +214,6 @@ edges-loop-again-2 t c =
     let v = c .before .before .before .before .before .before .before .before .before .before .loop .inv in
     (going-more (v .0) (omega (arith, v .1)) (c .before .before .before .before .before .before .before .before .neighbour .ensures) (c .before .before .before .before .before .if2 .left) (c .if3 .left) (c .before .before .before .«open» .kept .1 .1 .0) (subst (λ (j : ℕ). Opened (c .before .before .before .before .before .before .before .before .before .before .before .before .before .before .before .args .starts .now) (c .before .before .before .before .before .before .before .before .before .before .before .before .before .before .before .args .list .now) j (c .before .before .before .before .before .before .before .before .before .before .loop .colour) (c .before .before .before .before .before .before .before .before .neighbour .result) (c .before .before .before .«open» .last .1 .1 .0) (c .before .before .before .«open» .result)) (v .0 .long) (c .before .before .before .«open» .ensures)), v .1)
 
--- src/lib.rt:23:1
 edges-same-length-3 : (t : ℕ) → edges-lts.Need-same-length-3 (
   degree-reads.Asked,
   degree-reads.Learnt,
@@ -241,7 +224,6 @@ edges-same-length-3 : (t : ℕ) → edges-lts.Need-same-length-3 (
 ) (edges-at t) edges.Post edges-Inv-loop edges-μ-loop
 edges-same-length-3 t c = c .before .loop .inv .0 .long
 
--- src/lib.rt:23:1
 edges-returns-3 : (t : ℕ) → edges-lts.Need-returns-3 (
   degree-reads.Asked,
   degree-reads.Learnt,
@@ -252,17 +234,14 @@ edges-returns-3 : (t : ℕ) → edges-lts.Need-returns-3 (
 ) (edges-at t) edges.Post edges-Inv-loop edges-μ-loop
 edges-returns-3 t c = going-done (c .before .loop .inv .0) (omega (arith, c .before .loop .inv .1))
 
--- src/lib.rt:16:5
 open-mul-colour :
     (t : ℕ) → open-lts.Need-mul-colour (edges-below t, edges.Post) (open-at t) open.Post
 open-mul-colour t c = omega (arith, c .before .before .before .pre .1 .node)
 
--- src/lib.rt:16:5
 open-slice-write-colour :
     (t : ℕ) → open-lts.Need-slice-write-colour (edges-below t, edges.Post) (open-at t) open.Post
 open-slice-write-colour t c = c .before .before .before .pre .1 .node
 
--- src/lib.rt:17:9
 open-edges-requires :
     (t : ℕ) → open-lts.Need-edges-requires (edges-below t, edges.Post) (open-at t) open.Post
 open-edges-requires t c κs = (
@@ -270,24 +249,20 @@ open-edges-requires t c κs = (
   rw length-set (open-go (c .before .before .before .before .pre .1)),
 )
 
--- src/lib.rt:18:5
 open-mul-colour-2 :
     (t : ℕ) → open-lts.Need-mul-colour-2 (edges-below t, edges.Post) (open-at t) open.Post
 open-mul-colour-2 t c = omega (arith, c .before .before .before .before .before .before .before .pre .1 .node)
 
--- src/lib.rt:18:5
 open-slice-write-colour-2 : (t : ℕ) → open-lts.Need-slice-write-colour-2 (
   edges-below t,
   edges.Post,
 ) (open-at t) open.Post
 open-slice-write-colour-2 t c = omega (arith, c .before .before .before .before .before .before .before .pre .1 .node, c .before .before .edges .kept .1 .1 .0, length-set (c .before .before .before .before .before .before .before .args .colour .now) (c .before .before .before .before .before .before .before .args .x) 1)
 
--- src/lib.rt:12:1
 open-same-length :
     (t : ℕ) → open-lts.Need-same-length (edges-below t, edges.Post) (open-at t) open.Post
 open-same-length t c = length-set (c .before .before .edges .last .1 .1 .0) (c .before .before .before .before .before .before .before .args .x) 2 ∙ c .before .before .edges .kept .1 .1 .0 ∙ length-set (c .before .before .before .before .before .before .before .args .colour .now) (c .before .before .before .before .before .before .before .args .x) 1
 
--- src/lib.rt:12:1
 open-returns : (t : ℕ) → open-lts.Need-returns (edges-below t, edges.Post) (open-at t) open.Post
 open-returns t c =
     let q = length-set (c .before .before .before .before .before .before .before .args .colour .now) (c .before .before .before .before .before .before .before .args .x) 1 in

@@ -18,59 +18,45 @@ Inv-loop starts list colour₀ n x₀ colour x = Round starts list n x colour
 abbrev μ-loop : tie.MeasureT-loop
 μ-loop starts list colour₀ n x₀ colour x = n - x
 
--- src/lib.rt:55:5
 clear-requires : tie.Need-clear-requires Inv-loop μ-loop
 clear-requires c κs = omega arith
 
--- src/lib.rt:57:5
 loop-holds : tie.Need-loop-holds Inv-loop μ-loop
 loop-holds c = round-first (c .before .before .before .before .before .before .before .pre) (c .before .before .clear .kept .0) (cleared _ _ (c .before .before .clear .ensures))
 
--- src/lib.rt:59:9
 add-x : tie.Need-add-x Inv-loop μ-loop
 add-x c = omega arith
 
--- src/lib.rt:60:12
 mul-if1 : tie.Need-mul-if1 Inv-loop μ-loop
 mul-if1 c = omega (arith, c .before .loop .inv .long)
 
--- src/lib.rt:60:12
 slice-read-if1 : tie.Need-slice-read-if1 Inv-loop μ-loop
 slice-read-if1 c = omega (arith, c .before .before .loop .inv .long)
 
--- src/lib.rt:57:5
 loop-less : tie.Need-loop-less Inv-loop μ-loop
 loop-less c = omega arith
 
--- src/lib.rt:57:5
 loop-again : tie.Need-loop-again Inv-loop μ-loop
 loop-again c = round-skip (c .before .before .before .loop .inv) (c .before .before .loop-test .taken) (c .if1 .taken)
 
--- src/lib.rt:63:12
 open-requires : tie.Need-open-requires Inv-loop μ-loop
 open-requires c κs = subst (λ (j : ℕ). CanOpen (c .before .before .before .before .before .before .before .before .before .before .before .before .args .starts .now) (c .before .before .before .before .before .before .before .before .before .before .before .before .args .list .now) j (c .before .before .before .before .loop .colour) (c .before .before .before .before .loop .x)) (sym (c .before .before .before .before .loop .inv .long)) (round-can (c .before .before .before .before .loop .inv) (c .before .before .before .loop-test .taken) (c .before .if1 .left))
 
--- src/lib.rt:64:13
 same-length : tie.Need-same-length Inv-loop μ-loop
 same-length c = c .before .before .before .«open» .kept .1 .1 .0 ∙ c .before .before .before .before .before .before .before .before .loop .inv .long
 
--- src/lib.rt:64:13
 returns : tie.Need-returns Inv-loop μ-loop
 returns c = sym ((subst (λ (j : ℕ). Opened (c .before .before .before .before .before .before .before .before .before .before .before .before .before .before .before .before .args .starts .now) (c .before .before .before .before .before .before .before .before .before .before .before .before .before .before .before .before .args .list .now) j (c .before .before .before .before .before .before .before .before .loop .colour) (c .before .before .before .before .before .before .before .before .loop .x) (c .before .before .before .«open» .last .1 .1 .0) (c .before .before .before .«open» .result)) (c .before .before .before .before .before .before .before .before .loop .inv .long) (c .before .before .before .«open» .ensures)) .closes (c .if2 .taken))
 
--- src/lib.rt:57:5
 loop-less-2 : tie.Need-loop-less-2 Inv-loop μ-loop
 loop-less-2 c = omega arith
 
--- src/lib.rt:57:5
 loop-again-2 : tie.Need-loop-again-2 Inv-loop μ-loop
 loop-again-2 c = round-more (c .before .before .before .before .before .before .before .before .loop .inv) (c .before .before .before .before .before .before .before .loop-test .taken) (c .if2 .left) (c .before .before .before .«open» .kept .1 .1 .0) (subst (λ (j : ℕ). Opened (c .before .before .before .before .before .before .before .before .before .before .before .before .before .before .before .before .args .starts .now) (c .before .before .before .before .before .before .before .before .before .before .before .before .before .before .before .before .args .list .now) j (c .before .before .before .before .before .before .before .before .loop .colour) (c .before .before .before .before .before .before .before .before .loop .x) (c .before .before .before .«open» .last .1 .1 .0) (c .before .before .before .«open» .result)) (c .before .before .before .before .before .before .before .before .loop .inv .long) (c .before .before .before .«open» .ensures))
 
--- src/lib.rt:50:1
 same-length-2 : tie.Need-same-length-2 Inv-loop μ-loop
 same-length-2 c = c .before .loop .inv .long
 
--- src/lib.rt:50:1
 returns-2 : tie.Need-returns-2 Inv-loop μ-loop
 returns-2 c = sym (round-done (c .before .loop .inv) (c .loop-test .left))
 

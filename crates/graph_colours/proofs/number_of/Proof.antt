@@ -8,35 +8,27 @@ use Rattle.graph_colours.proofs.number_of.Tie as tie
 use Rattle.graph_colours.proofs.number_of.Reads as reads
 use Rattle.graph_colours.proofs.number_of.Lts as lts
 
--- src/lib.rt:51:25
 enum-told : tie.Need-enum-told
 enum-told c = search needs
 
--- src/lib.rt:52:24
 enum-told-2 : tie.Need-enum-told-2
 enum-told-2 c = search needs
 
--- src/lib.rt:53:25
 enum-told-3 : tie.Need-enum-told-3
 enum-told-3 c = search needs
 
--- src/lib.rt:53:25
 cast-result : tie.Need-cast-result
 cast-result c = search needs
 
--- src/lib.rt:53:25
 add-result : tie.Need-add-result
 add-result c = search needs
 
--- src/lib.rt:46:1
 returns : tie.Need-returns
 returns c = search needs
 
--- src/lib.rt:46:1
 returns-2 : tie.Need-returns-2
 returns-2 c = search needs
 
--- src/lib.rt:46:1
 returns-3 : tie.Need-returns-3
 returns-3 c = sym (ap (λ (k : State). number-of k (c .before .before .args .fin)) (c .enum-told3 .given .1))
 

@@ -8,15 +8,12 @@ use Rattle.graph_colours.proofs.state_of.Tie as tie
 use Rattle.graph_colours.proofs.state_of.Reads as reads
 use Rattle.graph_colours.proofs.state_of.Lts as lts
 
--- src/lib.rt:21:1
 returns : tie.Need-returns
 returns c = search needs
 
--- src/lib.rt:21:1
 returns-2 : tie.Need-returns-2
 returns-2 c = search needs
 
--- src/lib.rt:21:1
 returns-3 : tie.Need-returns-3
 returns-3 c = sym (state-black (c .before .args .c) (omega arith))
 

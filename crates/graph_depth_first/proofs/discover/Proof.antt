@@ -13,67 +13,51 @@ use Rattle.graph_colours.proofs.next_state.Reads as next-state-reads
 use Rattle.graph_colours.proofs.number_of.Reads as number-of-reads
 use Rattle.graph_colours.proofs.state_of.Reads as state-of-reads
 
--- src/lib.rt:70:22
 mul-state-of : tie.Need-mul-state-of
 mul-state-of c = search needs
 
--- src/lib.rt:70:22
 slice-read-state-of : tie.Need-slice-read-state-of
 slice-read-state-of c = search needs
 
--- src/lib.rt:70:9
 state-of-requires : tie.Need-state-of-requires
 state-of-requires c κs = search needs
 
--- src/lib.rt:71:27
 next-state-requires : tie.Need-next-state-requires
 next-state-requires c κs = search needs
 
--- src/lib.rt:71:17
 number-of-requires : tie.Need-number-of-requires
 number-of-requires c κs = search needs
 
--- src/lib.rt:71:5
 mul-colour : tie.Need-mul-colour
 mul-colour c = search needs
 
--- src/lib.rt:71:5
 slice-write-colour : tie.Need-slice-write-colour
 slice-write-colour c = search needs
 
--- src/lib.rt:72:5
 mul-stack : tie.Need-mul-stack
 mul-stack c = search needs
 
--- src/lib.rt:72:5
 slice-write-stack : tie.Need-slice-write-stack
 slice-write-stack c = search needs
 
--- src/lib.rt:73:14
 cast-low : tie.Need-cast-low
 cast-low c = search needs
 
--- src/lib.rt:73:5
 mul-low : tie.Need-mul-low
 mul-low c = search needs
 
--- src/lib.rt:73:5
 slice-write-low : tie.Need-slice-write-low
 slice-write-low c = search needs
 
--- src/lib.rt:65:1
 same-length : tie.Need-same-length
 same-length c = search needs
 
--- src/lib.rt:65:1
 same-length-2 : tie.Need-same-length-2
 same-length-2 c = search needs
 
--- src/lib.rt:65:1
 same-length-3 : tie.Need-same-length-3
 same-length-3 c = search needs
 
--- src/lib.rt:65:1
 returns : tie.Need-returns
 returns c = record { turned = ap (λ (k : ℕ). set (c .before .before .before .before .before .before .before .args .colour .now) (c .before .before .before .before .before .before .before .args .y) k) (c .number-of .ensures ∙ ap (λ (k : State). number-of k (c .before .before .before .before .before .before .before .args .fin)) (c .before .next-state .ensures ∙ ap next-state (c .before .before .state-of .ensures ∙ ap state-of (c .before .before .before .before .before .before .before .pre .white)))); pushed = refl; noted = refl }
 

@@ -13,55 +13,42 @@ use Rattle.graph_colours.proofs.next_state.Reads as next-state-reads
 use Rattle.graph_colours.proofs.number_of.Reads as number-of-reads
 use Rattle.graph_colours.proofs.state_of.Reads as state-of-reads
 
--- src/lib.rt:81:22
 mul-state-of : tie.Need-mul-state-of
 mul-state-of c = search needs
 
--- src/lib.rt:81:22
 slice-read-state-of : tie.Need-slice-read-state-of
 slice-read-state-of c = search needs
 
--- src/lib.rt:81:9
 state-of-requires : tie.Need-state-of-requires
 state-of-requires c κs = search needs
 
--- src/lib.rt:82:27
 next-state-requires : tie.Need-next-state-requires
 next-state-requires c κs = search needs
 
--- src/lib.rt:82:17
 number-of-requires : tie.Need-number-of-requires
 number-of-requires c κs = search needs
 
--- src/lib.rt:82:5
 mul-colour : tie.Need-mul-colour
 mul-colour c = search needs
 
--- src/lib.rt:82:5
 slice-write-colour : tie.Need-slice-write-colour
 slice-write-colour c = search needs
 
--- src/lib.rt:83:18
 cast-order : tie.Need-cast-order
 cast-order c = search needs
 
--- src/lib.rt:83:5
 mul-order : tie.Need-mul-order
 mul-order c = search needs
 
--- src/lib.rt:83:5
 slice-write-order : tie.Need-slice-write-order
 slice-write-order c = search needs
 
--- src/lib.rt:77:1
 same-length : tie.Need-same-length
 same-length c = search needs
 
--- src/lib.rt:77:1
 same-length-2 : tie.Need-same-length-2
 same-length-2 c = search needs
 
--- src/lib.rt:77:1
 returns : tie.Need-returns
 returns c = record { turned = ap (λ (k : ℕ). set (c .before .before .before .before .before .before .args .colour .now) (c .before .before .before .before .before .before .args .t) k) (c .number-of .ensures ∙ ap (λ (k : State). number-of k (c .before .before .before .before .before .before .args .fin)) (c .before .next-state .ensures ∙ ap next-state (c .before .before .state-of .ensures ∙ ap state-of (c .before .before .before .before .before .before .pre .gray)))); listed = refl }
 

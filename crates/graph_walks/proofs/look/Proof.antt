@@ -5,47 +5,36 @@ use borrow.Author.Needs.{needs}
 use Rattle.graph_walks.proofs.look.Statement.{statement}
 use Rattle.graph_walks.proofs.look.Tie as tie
 
--- src/lib.rt:17:16
 mul-if1 : tie.Need-mul-if1
 mul-if1 c = search needs
 
--- src/lib.rt:17:16
 slice-read-if1 : tie.Need-slice-read-if1
 slice-read-if1 c = search needs
 
--- src/lib.rt:18:9
 returns : tie.Need-returns
 returns c = record { old = λ h. (refl, refl, refl); new = λ h. absurd (omega (arith, c .if1 .taken)) }
 
--- src/lib.rt:20:5
 mul-marks : tie.Need-mul-marks
 mul-marks c = search needs
 
--- src/lib.rt:20:5
 slice-write-marks : tie.Need-slice-write-marks
 slice-write-marks c = search needs
 
--- src/lib.rt:21:5
 mul-stack : tie.Need-mul-stack
 mul-stack c = omega (arith, c .before .before .pre .room (omega (arith, c .if1 .left)))
 
--- src/lib.rt:21:5
 slice-write-stack : tie.Need-slice-write-stack
 slice-write-stack c = omega (arith, c .before .before .pre .room (omega (arith, c .if1 .left)))
 
--- src/lib.rt:22:5
 add-result : tie.Need-add-result
 add-result c = omega (arith, c .before .before .pre .room (omega (arith, c .if1 .left)))
 
--- src/lib.rt:12:1
 same-length : tie.Need-same-length
 same-length c = search needs
 
--- src/lib.rt:12:1
 same-length-2 : tie.Need-same-length-2
 same-length-2 c = search needs
 
--- src/lib.rt:12:1
 returns-2 : tie.Need-returns-2
 returns-2 c = record { old = λ h. absurd (omega (arith, c .if1 .left)); new = λ h. (refl, refl, refl) }
 

@@ -16,43 +16,33 @@ Inv-loop l at n top free bad₀ i₀ bad i = (i ≤ n) × (bad ≡ count (λ j. 
 abbrev μ-loop : tie.MeasureT-loop
 μ-loop l at n top free bad₀ i₀ bad i = n - i
 
--- src/lib.rt:71:5
 loop-holds : tie.Need-loop-holds Inv-loop μ-loop
 loop-holds c = (omega arith, sym (count-none _))
 
--- src/lib.rt:72:28
 add-count-misfit : tie.Need-add-count-misfit Inv-loop μ-loop
 add-count-misfit c = omega arith
 
--- src/lib.rt:72:26
 mul-count-misfit : tie.Need-mul-count-misfit Inv-loop μ-loop
 mul-count-misfit c = omega arith
 
--- src/lib.rt:72:26
 shared-slice-read-count-misfit : tie.Need-shared-slice-read-count-misfit Inv-loop μ-loop
 shared-slice-read-count-misfit c = omega arith
 
--- src/lib.rt:72:16
 count-misfit-requires : tie.Need-count-misfit-requires Inv-loop μ-loop
 count-misfit-requires c κs = search needs
 
--- src/lib.rt:72:9
 add-bad : tie.Need-add-bad Inv-loop μ-loop
 add-bad c = omega (arith, counted-le _ _ (c .before .before .before .loop .inv .1) (c .count-misfit .ensures))
 
--- src/lib.rt:73:9
 add-i : tie.Need-add-i Inv-loop μ-loop
 add-i c = omega arith
 
--- src/lib.rt:71:5
 loop-less : tie.Need-loop-less Inv-loop μ-loop
 loop-less c = omega arith
 
--- src/lib.rt:71:5
 loop-again : tie.Need-loop-again Inv-loop μ-loop
 loop-again c = (omega arith, counted _ _ (c .before .before .before .loop .inv .1) (c .count-misfit .ensures))
 
--- src/lib.rt:65:1
 returns : tie.Need-returns Inv-loop μ-loop
 unfolding faults
 returns c = let e : c .before .loop .i ≡ c .before .before .before .args .n = omega arith in let v = c .before .loop .inv .1 ∙ ap (count (λ j. misfit (c .before .before .before .args .top) (c .before .before .before .args .free) (getD (c .before .before .before .args .l .now) (c .before .before .before .args .at + j) 0))) e in record { value = v; few = omega (arith, v, count-le (λ j. misfit (c .before .before .before .args .top) (c .before .before .before .args .free) (getD (c .before .before .before .args .l .now) (c .before .before .before .args .at + j) 0)) (c .before .before .before .args .n)) }

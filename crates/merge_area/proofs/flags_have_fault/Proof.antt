@@ -16,48 +16,37 @@ Inv-loop area c n x₀ x = (x ≤ n) × (some-below (row-fault area c n) x ≡ f
 abbrev μ-loop : tie.MeasureT-loop
 μ-loop area c n x₀ x = n - x
 
--- src/lib.rt:94:5
 loop-holds : tie.Need-loop-holds Inv-loop μ-loop
 loop-holds c = (omega arith, some-zero _)
 
--- src/lib.rt:95:12
 row-has-fault-requires : tie.Need-row-has-fault-requires Inv-loop μ-loop
 row-has-fault-requires c κs = (c .loop-test .taken, c .before .before .before .pre .0, c .before .before .before .pre .1, c .before .before .before .pre .2)
 
--- src/lib.rt:96:13
 returns : tie.Need-returns Inv-loop μ-loop
 unfolding flags-fault
 returns c = sym (or-left _ _ (sym (some-found _ _ _ (c .before .before .loop-test .taken) (sym (c .before .row-has-fault .ensures) ∙ c .if1 .taken))))
 
--- src/lib.rt:98:9
 add-x : tie.Need-add-x Inv-loop μ-loop
 add-x c = omega arith
 
--- src/lib.rt:94:5
 loop-less : tie.Need-loop-less Inv-loop μ-loop
 loop-less c = omega arith
 
--- src/lib.rt:94:5
 loop-again : tie.Need-loop-again Inv-loop μ-loop
 loop-again c = (omega arith, none-more _ _ (c .before .before .before .loop .inv .1) (sym (c .before .row-has-fault .ensures) ∙ c .if1 .left))
 
--- src/lib.rt:100:28
 mul-count-faults : tie.Need-mul-count-faults Inv-loop μ-loop
 mul-count-faults c = omega (arith, rows-rest (c .before .before .before .args .c) (c .before .before .before .args .n) (omega arith))
 
--- src/lib.rt:100:36
 sub-count-faults : tie.Need-sub-count-faults Inv-loop μ-loop
 sub-count-faults c = omega arith
 
--- src/lib.rt:100:35
 mul-count-faults-2 : tie.Need-mul-count-faults-2 Inv-loop μ-loop
 mul-count-faults-2 c = omega (arith, rows-rest (c .before .before .before .args .c) (c .before .before .before .args .n) (omega arith))
 
--- src/lib.rt:100:9
 count-faults-requires : tie.Need-count-faults-requires Inv-loop μ-loop
 count-faults-requires c κs = omega (arith, rows-rest (c .before .before .before .args .c) (c .before .before .before .args .n) (omega arith))
 
--- src/lib.rt:89:1
 returns-2 : tie.Need-returns-2 Inv-loop μ-loop
 returns-2 c = flags-last _ _ _ _ (c .before .before .loop .inv .1) (omega arith) (c .count-faults .ensures .value)
 

@@ -4,55 +4,42 @@ use borrow.Author.Needs.{needs}
 use Rattle.merge_area.proofs.head_has_fault.Statement.{statement}
 use Rattle.merge_area.proofs.head_has_fault.Tie as tie
 
--- src/lib.rt:108:16
 header-requires : tie.Need-header-requires
 header-requires c κs = search needs
 
--- src/lib.rt:108:16
 cast-made : tie.Need-cast-made
 cast-made c = search needs
 
--- src/lib.rt:109:15
 header-requires-2 : tie.Need-header-requires-2
 header-requires-2 c κs = search needs
 
--- src/lib.rt:109:15
 cast-if1 : tie.Need-cast-if1
 cast-if1 c = search needs
 
--- src/lib.rt:110:9
 returns : tie.Need-returns
 returns c = head-first _ _ (omega (arith, c .if1 .taken, c .before .before .header .ensures, c .before .header2 .ensures))
 
--- src/lib.rt:113:9
 returns-2 : tie.Need-returns-2
 returns-2 c = head-second _ _ (omega (arith, c .before .before .if1 .left, c .before .before .before .before .header .ensures, c .before .before .before .header2 .ensures)) (omega (arith, c .if2 .taken, c .before .before .before .before .header .ensures))
 
--- src/lib.rt:115:8
 add-if3 : tie.Need-add-if3
 add-if3 c = search needs
 
--- src/lib.rt:115:30
 header-requires-3 : tie.Need-header-requires-3
 header-requires-3 c κs = search needs
 
--- src/lib.rt:115:30
 cast-if3 : tie.Need-cast-if3
 cast-if3 c = search needs
 
--- src/lib.rt:116:9
 returns-3 : tie.Need-returns-3
 returns-3 c = head-third _ _ (omega (arith, c .before .before .before .before .before .if1 .left, c .before .before .before .before .before .before .before .header .ensures, c .before .before .before .before .before .before .header2 .ensures)) (omega (arith, c .before .before .before .if2 .left, c .before .before .before .before .before .before .before .header .ensures)) (omega (arith, c .if3 .taken, c .before .before .before .before .before .before .before .header .ensures, c .before .header3 .ensures))
 
--- src/lib.rt:118:21
 header-requires-4 : tie.Need-header-requires-4
 header-requires-4 c κs = search needs
 
--- src/lib.rt:118:21
 cast-result : tie.Need-cast-result
 cast-result c = search needs
 
--- src/lib.rt:104:1
 returns-4 : tie.Need-returns-4
 returns-4 c = head-last _ _ (omega (arith, c .before .before .before .before .before .before .before .if1 .left, c .before .before .before .before .before .before .before .before .before .header .ensures, c .before .before .before .before .before .before .before .before .header2 .ensures)) (omega (arith, c .before .before .before .before .before .if2 .left, c .before .before .before .before .before .before .before .before .before .header .ensures)) (omega (arith, c .before .before .if3 .left, c .before .before .before .before .before .before .before .before .before .header .ensures, c .before .before .before .header3 .ensures)) (c .before .header4 .ensures)
 

@@ -7,67 +7,51 @@ use borrow.Author.Needs.{needs}
 use Rattle.merge_area.proofs.is_inconsistent.Statement.{statement}
 use Rattle.merge_area.proofs.is_inconsistent.Tie as tie
 
--- src/lib.rt:229:8
 head-has-fault-requires : tie.Need-head-has-fault-requires
 head-has-fault-requires c κs = search needs
 
--- src/lib.rt:230:9
 returns : tie.Need-returns
 returns c = odd-head _ _ (sym (c .before .head-has-fault .ensures) ∙ c .if1 .taken)
 
--- src/lib.rt:232:45
 header-requires : tie.Need-header-requires
 header-requires c κs = search needs
 
--- src/lib.rt:232:45
 cast-flags-have-fault : tie.Need-cast-flags-have-fault
 cast-flags-have-fault c = search needs
 
--- src/lib.rt:232:8
 flags-have-fault-requires : tie.Need-flags-have-fault-requires
 flags-have-fault-requires c κs = (omega (arith, c .header .ensures, headed (c .before .before .before .before .pre .0) (c .before .before .before .before .pre .1) (sym (c .before .before .head-has-fault .ensures) ∙ c .before .if1 .left) .fits), c .before .before .before .before .pre .0 .chunks, omega (arith, c .before .before .before .before .pre .1))
 
--- src/lib.rt:233:9
 returns-2 : tie.Need-returns-2
 returns-2 c = odd-flags _ _ (sym (c .before .before .before .before .head-has-fault .ensures) ∙ c .before .before .before .if1 .left) (c .before .before .header .ensures) (c .before .flags-have-fault .ensures) (c .if2 .taken)
 
--- src/lib.rt:235:12
 count-index-faults-requires : tie.Need-count-index-faults-requires
 count-index-faults-requires c κs = headed (c .before .before .before .before .before .before .pre .0) (c .before .before .before .before .before .before .pre .1) (sym (c .before .before .before .before .head-has-fault .ensures) ∙ c .before .before .before .if1 .left)
 
--- src/lib.rt:236:9
 returns-3 : tie.Need-returns-3
 returns-3 c = odd-index _ _ (sym (c .before .before .before .before .before .before .head-has-fault .ensures) ∙ c .before .before .before .before .before .if1 .left) (flags-now (c .before .before .before .before .before .before .before .before .args .sizes) _ (c .before .before .before .before .header .ensures) (c .before .before .before .flags-have-fault .ensures) (c .before .before .if2 .left)) (omega (arith, c .before .count-index-faults .ensures, c .if3 .taken))
 
--- src/lib.rt:238:8
 merges-have-fault-requires : tie.Need-merges-have-fault-requires
 merges-have-fault-requires c κs = headed (c .before .before .before .before .before .before .before .before .pre .0) (c .before .before .before .before .before .before .before .before .pre .1) (sym (c .before .before .before .before .before .before .head-has-fault .ensures) ∙ c .before .before .before .before .before .if1 .left)
 
--- src/lib.rt:239:9
 returns-4 : tie.Need-returns-4
 returns-4 c = odd-merges _ _ (sym (c .before .before .before .before .before .before .before .before .head-has-fault .ensures) ∙ c .before .before .before .before .before .before .before .if1 .left) (flags-now (c .before .before .before .before .before .before .before .before .before .before .args .sizes) _ (c .before .before .before .before .before .before .header .ensures) (c .before .before .before .before .before .flags-have-fault .ensures) (c .before .before .before .before .if2 .left)) (omega (arith, c .before .before .before .count-index-faults .ensures, c .before .before .if3 .left)) (sym (c .before .merges-have-fault .ensures) ∙ c .if4 .taken)
 
--- src/lib.rt:241:16
 header-requires-2 : tie.Need-header-requires-2
 header-requires-2 c κs = search needs
 
--- src/lib.rt:241:16
 cast-sets : tie.Need-cast-sets
 cast-sets c = search needs
 
--- src/lib.rt:242:8
 sets-out-of-range-requires : tie.Need-sets-out-of-range-requires
 sets-out-of-range-requires c κs = let h = headed (c .before .before .before .before .before .before .before .before .before .before .before .pre .0) (c .before .before .before .before .before .before .before .before .before .before .before .pre .1) (sym (c .before .before .before .before .before .before .before .before .before .head-has-fault .ensures) ∙ c .before .before .before .before .before .before .before .before .if1 .left) in record { within = c .before .before .before .before .before .before .before .before .before .before .before .pre .0; long = c .before .before .before .before .before .before .before .before .before .before .before .pre .1; few = omega (arith, h .named, h .fits, c .header2 .ensures) }
 
--- src/lib.rt:243:9
 returns-5 : tie.Need-returns-5
 returns-5 c = odd-range _ _ (sym (c .before .before .before .before .before .before .before .before .before .before .before .head-has-fault .ensures) ∙ c .before .before .before .before .before .before .before .before .before .before .if1 .left) (flags-now (c .before .before .before .before .before .before .before .before .before .before .before .before .before .args .sizes) _ (c .before .before .before .before .before .before .before .before .before .header .ensures) (c .before .before .before .before .before .before .before .before .flags-have-fault .ensures) (c .before .before .before .before .before .before .before .if2 .left)) (omega (arith, c .before .before .before .before .before .before .count-index-faults .ensures, c .before .before .before .before .before .if3 .left)) (sym (c .before .before .before .before .merges-have-fault .ensures) ∙ c .before .before .before .if4 .left) (c .before .before .header2 .ensures) (c .before .sets-out-of-range .ensures) (c .if5 .taken)
 
--- src/lib.rt:245:5
 sets-repeat-requires : tie.Need-sets-repeat-requires
 sets-repeat-requires c κs = let h = headed (c .before .before .before .before .before .before .before .before .before .before .before .before .before .pre .0) (c .before .before .before .before .before .before .before .before .before .before .before .before .before .pre .1) (sym (c .before .before .before .before .before .before .before .before .before .before .before .head-has-fault .ensures) ∙ c .before .before .before .before .before .before .before .before .before .before .if1 .left) in record { within = c .before .before .before .before .before .before .before .before .before .before .before .before .before .pre .0; long = c .before .before .before .before .before .before .before .before .before .before .before .before .before .pre .1; few = omega (arith, h .named, h .fits, c .before .before .header2 .ensures) }
 
--- src/lib.rt:225:1
 returns-6 : tie.Need-returns-6
 returns-6 c = odd-twice _ _ (sym (c .before .before .before .before .before .before .before .before .before .before .before .before .head-has-fault .ensures) ∙ c .before .before .before .before .before .before .before .before .before .before .before .if1 .left) (flags-now (c .before .before .before .before .before .before .before .before .before .before .before .before .before .before .args .sizes) _ (c .before .before .before .before .before .before .before .before .before .before .header .ensures) (c .before .before .before .before .before .before .before .before .before .flags-have-fault .ensures) (c .before .before .before .before .before .before .before .before .if2 .left)) (omega (arith, c .before .before .before .before .before .before .before .count-index-faults .ensures, c .before .before .before .before .before .before .if3 .left)) (sym (c .before .before .before .before .before .merges-have-fault .ensures) ∙ c .before .before .before .before .if4 .left) (c .before .before .before .header2 .ensures) (c .before .before .sets-out-of-range .ensures) (c .before .if5 .left) (c .sets-repeat .ensures)
 

@@ -5,39 +5,30 @@ use borrow.Author.Needs.{needs}
 use Rattle.merge_area.proofs.row_has_fault.Statement.{statement}
 use Rattle.merge_area.proofs.row_has_fault.Tie as tie
 
--- src/lib.rt:83:34
 mul-count-faults : tie.Need-mul-count-faults
 mul-count-faults c = omega (arith, sets-room {i = c .before .args .x} {n = c .before .args .c} (c .before .args .c) (omega arith))
 
--- src/lib.rt:83:34
 add-count-faults : tie.Need-add-count-faults
 add-count-faults c = omega (arith, sets-room {i = c .before .args .x} {n = c .before .args .c} (c .before .args .c) (omega arith))
 
--- src/lib.rt:83:9
 count-faults-requires : tie.Need-count-faults-requires
 count-faults-requires c κs = omega (arith, sets-room {i = c .before .args .x} {n = c .before .args .c} (c .before .args .c) (omega arith))
 
--- src/lib.rt:84:37
 mul-count-faults-2 : tie.Need-mul-count-faults-2
 mul-count-faults-2 c = omega (arith, sets-room {i = c .before .before .args .x} {n = c .before .before .args .c} (c .before .before .args .c) (omega arith))
 
--- src/lib.rt:84:37
 add-count-faults-2 : tie.Need-add-count-faults-2
 add-count-faults-2 c = omega (arith, sets-room {i = c .before .before .args .x} {n = c .before .before .args .c} (c .before .before .args .c) (omega arith))
 
--- src/lib.rt:84:48
 sub-count-faults : tie.Need-sub-count-faults
 sub-count-faults c = search needs
 
--- src/lib.rt:84:9
 count-faults-requires-2 : tie.Need-count-faults-requires-2
 count-faults-requires-2 c κs = omega (arith, sets-room {i = c .before .before .args .x} {n = c .before .before .args .c} (c .before .before .args .c) (omega arith))
 
--- src/lib.rt:85:9
 add-result : tie.Need-add-result
 add-result c = omega (arith, c .before .count-faults .ensures .few, c .count-faults2 .ensures .few)
 
--- src/lib.rt:79:1
 returns : tie.Need-returns
 unfolding row-fault
 returns c = rw (c .before .count-faults .ensures .value, c .count-faults2 .ensures .value)

@@ -15,35 +15,27 @@ Inv-loop sizes area n i₀ i = (i ≤ n) × (some-below (out-of-range sizes area
 abbrev μ-loop : tie.MeasureT-loop
 μ-loop sizes area n i₀ i = n - i
 
--- src/lib.rt:164:5
 loop-holds : tie.Need-loop-holds Inv-loop μ-loop
 loop-holds c = (omega arith, some-zero _)
 
--- src/lib.rt:165:33
 set-of-requires : tie.Need-set-of-requires Inv-loop μ-loop
 set-of-requires c κs = search needs
 
--- src/lib.rt:165:13
 in-range-requires : tie.Need-in-range-requires Inv-loop μ-loop
 in-range-requires c κs = search needs
 
--- src/lib.rt:166:13
 returns : tie.Need-returns Inv-loop μ-loop
 returns c = some-found _ _ _ (c .before .before .before .loop-test .taken) (sym (range-eq _ _ _ (c .before .before .set-of .ensures) (c .before .in-range .ensures)) ∙ c .if1 .taken)
 
--- src/lib.rt:168:9
 add-i : tie.Need-add-i Inv-loop μ-loop
 add-i c = omega arith
 
--- src/lib.rt:164:5
 loop-less : tie.Need-loop-less Inv-loop μ-loop
 loop-less c = omega arith
 
--- src/lib.rt:164:5
 loop-again : tie.Need-loop-again Inv-loop μ-loop
 loop-again c = (omega arith, none-more _ _ (c .before .before .before .before .loop .inv .1) (sym (range-eq _ _ _ (c .before .before .set-of .ensures) (c .before .in-range .ensures)) ∙ c .if1 .left))
 
--- src/lib.rt:159:1
 returns-2 : tie.Need-returns-2 Inv-loop μ-loop
 returns-2 c = let e : c .before .loop .i ≡ c .before .before .before .args .n = omega arith in sym (ap (some-below (out-of-range (c .before .before .before .args .sizes) (c .before .before .before .args .area .now))) (sym e) ∙ c .before .loop .inv .1)
 

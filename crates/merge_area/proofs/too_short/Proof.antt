@@ -4,31 +4,24 @@ use borrow.Author.Needs.{needs}
 use Rattle.merge_area.proofs.too_short.Statement.{statement}
 use Rattle.merge_area.proofs.too_short.Tie as tie
 
--- src/lib.rt:37:18
 mul-result : tie.Need-mul-result
 mul-result c = search needs
 
--- src/lib.rt:37:54
 add-result : tie.Need-add-result
 add-result c = search needs
 
--- src/lib.rt:37:54
 add-result-2 : tie.Need-add-result-2
 add-result-2 c = search needs
 
--- src/lib.rt:37:54
 add-result-3 : tie.Need-add-result-3
 add-result-3 c = search needs
 
--- src/lib.rt:37:48
 mul-result-2 : tie.Need-mul-result-2
 mul-result-2 c = search needs
 
--- src/lib.rt:37:18
 add-result-4 : tie.Need-add-result-4
 add-result-4 c = search needs
 
--- src/lib.rt:33:1
 returns : tie.Need-returns
 unfolding short
 returns c = refl

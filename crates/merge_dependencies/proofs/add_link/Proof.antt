@@ -6,37 +6,29 @@ use borrow.Author.Needs.{needs}
 use Rattle.merge_dependencies.proofs.add_link.Statement.{statement}
 use Rattle.merge_dependencies.proofs.add_link.Tie as tie
 
--- src/writes.rt:93:9
 returns : tie.Need-returns
 unfolding link
 returns c = rw (eq-eqb _ _ (c .if1 .taken))
 
--- src/writes.rt:96:9
 returns-2 : tie.Need-returns-2
 unfolding link
 returns-2 c = rw (ne-eqb _ _ (c .before .if1 .left), eq-eqb _ _ (c .if2 .taken))
 
--- src/writes.rt:98:14
 mul-at : tie.Need-mul-at
 mul-at c = omega (arith, sets-room {i = c .before .before .before .args .x} {n = c .before .before .before .args .sizes .chunks} (c .before .before .before .args .sizes .chunks) (c .before .before .before .pre .from), c .before .before .before .pre .within .square)
 
--- src/writes.rt:98:14
 add-at : tie.Need-add-at
 add-at c = omega (arith, sets-room {i = c .before .before .before .args .x} {n = c .before .before .before .args .sizes .chunks} (c .before .before .before .args .sizes .chunks) (c .before .before .before .pre .from), c .before .before .before .pre .within .square, c .before .before .before .pre .to (c .before .before .if1 .left))
 
--- src/writes.rt:99:5
 mul-area : tie.Need-mul-area
 mul-area c = omega (arith, sets-room {i = c .before .before .before .args .x} {n = c .before .before .before .args .sizes .chunks} (c .before .before .before .args .sizes .chunks) (c .before .before .before .pre .from), c .before .before .before .pre .within .square, c .before .before .before .pre .to (c .before .before .if1 .left))
 
--- src/writes.rt:99:5
 slice-write-area : tie.Need-slice-write-area
 slice-write-area c = omega (arith, sets-room {i = c .before .before .before .args .x} {n = c .before .before .before .args .sizes .chunks} (c .before .before .before .args .sizes .chunks) (c .before .before .before .pre .from), c .before .before .before .pre .long, c .before .before .before .pre .to (c .before .before .if1 .left))
 
--- src/writes.rt:88:1
 same-length : tie.Need-same-length
 same-length c = search needs
 
--- src/writes.rt:88:1
 returns-3 : tie.Need-returns-3
 unfolding link
 returns-3 c = rw (ne-eqb _ _ (c .before .before .if1 .left), ne-eqb _ _ (c .before .if2 .left))

@@ -5,19 +5,15 @@ use borrow.Author.Needs.{needs}
 use Rattle.merge_dependencies.proofs.merge.Statement.{statement}
 use Rattle.merge_dependencies.proofs.merge.Tie as tie
 
--- src/lib.rt:205:5
 absorb-requires : tie.Need-absorb-requires
 absorb-requires c κs = search needs
 
--- src/lib.rt:206:5
 record-merge-requires : tie.Need-record-merge-requires
 record-merge-requires c κs = search needs
 
--- src/lib.rt:201:1
 same-length : tie.Need-same-length
 same-length c = search needs
 
--- src/lib.rt:201:1
 returns : tie.Need-returns
 unfolding merge-area
 returns c = c .before .before .record-merge .ensures ∙ ap (λ l. record-area (c .before .before .before .before .before .before .before .before .before .args .sizes) l (c .before .before .before .before .before .before .before .before .before .args .target .0) (c .before .before .before .before .before .before .before .before .before .args .source .0)) (c .before .before .before .before .before .before .absorb .ensures)

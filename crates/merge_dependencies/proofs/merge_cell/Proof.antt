@@ -2,79 +2,60 @@ use borrow.Author.Needs.{needs}
 use Rattle.merge_dependencies.proofs.merge_cell.Statement.{statement}
 use Rattle.merge_dependencies.proofs.merge_cell.Tie as tie
 
--- src/writes.rt:153:28
 mul-union-of : tie.Need-mul-union-of
 mul-union-of c = search needs
 
--- src/writes.rt:153:28
 add-union-of : tie.Need-add-union-of
 add-union-of c = search needs
 
--- src/writes.rt:153:22
 mul-union-of-2 : tie.Need-mul-union-of-2
 mul-union-of-2 c = search needs
 
--- src/writes.rt:153:22
 slice-read-union-of : tie.Need-slice-read-union-of
 slice-read-union-of c = search needs
 
--- src/writes.rt:153:51
 mul-union-of-3 : tie.Need-mul-union-of-3
 mul-union-of-3 c = search needs
 
--- src/writes.rt:153:51
 add-union-of-2 : tie.Need-add-union-of-2
 add-union-of-2 c = search needs
 
--- src/writes.rt:153:45
 mul-union-of-4 : tie.Need-mul-union-of-4
 mul-union-of-4 c = search needs
 
--- src/writes.rt:153:45
 slice-read-union-of-2 : tie.Need-slice-read-union-of-2
 slice-read-union-of-2 c = search needs
 
--- src/writes.rt:153:9
 union-of-requires : tie.Need-union-of-requires
 union-of-requires c κs = search needs
 
--- src/writes.rt:154:11
 mul-flags : tie.Need-mul-flags
 mul-flags c = search needs
 
--- src/writes.rt:154:11
 add-flags : tie.Need-add-flags
 add-flags c = search needs
 
--- src/writes.rt:154:5
 mul-flags-2 : tie.Need-mul-flags-2
 mul-flags-2 c = search needs
 
--- src/writes.rt:154:5
 slice-write-flags : tie.Need-slice-write-flags
 slice-write-flags c = search needs
 
--- src/writes.rt:155:11
 mul-flags-3 : tie.Need-mul-flags-3
 mul-flags-3 c = search needs
 
--- src/writes.rt:155:11
 add-flags-2 : tie.Need-add-flags-2
 add-flags-2 c = search needs
 
--- src/writes.rt:155:5
 mul-flags-4 : tie.Need-mul-flags-4
 mul-flags-4 c = search needs
 
--- src/writes.rt:155:5
 slice-write-flags-2 : tie.Need-slice-write-flags-2
 slice-write-flags-2 c = search needs
 
--- src/writes.rt:149:1
 same-length : tie.Need-same-length
 same-length c = search needs
 
--- src/writes.rt:149:1
 returns : tie.Need-returns
 returns c = rw (c .union-of .ensures)
 

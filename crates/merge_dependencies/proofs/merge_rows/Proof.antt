@@ -10,31 +10,24 @@ Inv-loop flags₀ c target source y₀ flags y = Half flags₀ c target source f
 abbrev μ-loop : tie.MeasureT-loop
 μ-loop flags₀ c target source y₀ flags y = c - y
 
--- src/writes.rt:164:5
 loop-holds : tie.Need-loop-holds Inv-loop μ-loop
 loop-holds c = half-none (c .before .pre)
 
--- src/writes.rt:165:9
 merge-cell-requires : tie.Need-merge-cell-requires Inv-loop μ-loop
 merge-cell-requires c κs = half-can (c .before .before .before .before .pre) (c .before .before .loop .inv) (c .before .loop-test .taken)
 
--- src/writes.rt:166:9
 add-y : tie.Need-add-y Inv-loop μ-loop
 add-y c = omega arith
 
--- src/writes.rt:164:5
 loop-less : tie.Need-loop-less Inv-loop μ-loop
 loop-less c = omega arith
 
--- src/writes.rt:164:5
 loop-again : tie.Need-loop-again Inv-loop μ-loop
 loop-again c = half-more (c .before .before .before .before .before .before .before .pre) (c .before .before .before .before .before .loop .inv) (c .before .before .before .before .loop-test .taken) (c .before .before .merge-cell .ensures)
 
--- src/writes.rt:159:1
 same-length : tie.Need-same-length Inv-loop μ-loop
 same-length c = c .before .loop .inv .same
 
--- src/writes.rt:159:1
 returns : tie.Need-returns Inv-loop μ-loop
 returns c = half-done (c .before .loop .inv) (omega arith)
 

@@ -10,40 +10,31 @@ use borrow.Author.Needs.{needs}
 use Rattle.merge_dependencies.proofs.record_merge.Statement.{statement}
 use Rattle.merge_dependencies.proofs.record_merge.Tie as tie
 
--- src/lib.rt:194:8
 header-requires : tie.Need-header-requires
 header-requires c κs = search needs
 
--- src/lib.rt:195:9
 same-length : tie.Need-same-length
 same-length c = search needs
 
--- src/lib.rt:195:9
 returns : tie.Need-returns
 unfolding record-area mode-in
 returns c = rw (eq-eqb (cell (c .before .before .before .before .args .area .now) (head (c .before .before .before .before .args .sizes) 5)) 0 (sym (c .before .header .ensures) ∙ c .if1 .taken))
 
--- src/lib.rt:197:28
 cast-into-place : tie.Need-cast-into-place
 cast-into-place c = search needs
 
--- src/lib.rt:197:10
 into-place-requires : tie.Need-into-place-requires
 into-place-requires c κs = search needs
 
--- src/lib.rt:197:5
 mul-area : tie.Need-mul-area
 mul-area c = search needs
 
--- src/lib.rt:197:5
 slice-write-area : tie.Need-slice-write-area
 slice-write-area c = search needs
 
--- src/lib.rt:190:1
 same-length-2 : tie.Need-same-length-2
 same-length-2 c = search needs
 
--- src/lib.rt:190:1
 returns-2 : tie.Need-returns-2
 unfolding record-area mode-in
 returns-2 c = rw (ne-eqb (cell (c .before .before .before .before .before .before .args .area .now) (head (c .before .before .before .before .before .before .args .sizes) 5)) 0 (λ q. c .before .before .if1 .left (c .before .before .before .header .ensures ∙ q))) (ap (λ i. set (c .before .before .before .before .before .before .args .area .now) i (c .before .before .before .before .before .before .args .target .0)) (c .into-place .ensures))

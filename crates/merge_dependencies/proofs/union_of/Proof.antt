@@ -2,19 +2,15 @@ use Rattle.merge_laws.specs.Merging.{union-self, union-left, union-right, union
 use Rattle.merge_dependencies.proofs.union_of.Statement.{statement}
 use Rattle.merge_dependencies.proofs.union_of.Tie as tie
 
--- src/writes.rt:137:9
 returns : tie.Need-returns
 returns c = union-self _ _ _ _ (c .if1 .taken)
 
--- src/writes.rt:140:9
 returns-2 : tie.Need-returns-2
 returns-2 c = union-left _ _ _ _ (c .before .if1 .left) (c .if2 .taken)
 
--- src/writes.rt:143:9
 returns-3 : tie.Need-returns-3
 returns-3 c = union-right _ _ _ _ (c .before .before .if1 .left) (c .if3 .taken)
 
--- src/writes.rt:133:1
 returns-4 : tie.Need-returns-4
 returns-4 c = union-none _ _ _ _ (c .before .if2 .left) (c .if3 .left)
 

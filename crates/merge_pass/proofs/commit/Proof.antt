@@ -12,47 +12,36 @@ Inv-loop sizes area₀ proposals bars kinds₀ numbers₀ made j₀ k₀ area ki
 abbrev μ-loop : tie.MeasureT-loop
 μ-loop sizes area₀ proposals bars kinds₀ numbers₀ made j₀ k₀ area kinds numbers j k = made - k
 
--- src/lib.rt:80:16
 header-requires : tie.Need-header-requires Inv-loop μ-loop
 header-requires c κs = (c .before .before .before .before .before .before .pre .stood .headed .within, c .before .before .before .before .before .before .pre .stood .headed .long, omega arith)
 
--- src/lib.rt:80:16
 cast-made : tie.Need-cast-made Inv-loop μ-loop
 cast-made c = omega arith
 
--- src/lib.rt:83:5
 loop-holds : tie.Need-loop-holds Inv-loop μ-loop
 loop-holds c = (c .header .ensures, going-none _ _ _ _ _ _)
 
--- src/lib.rt:84:9
 turn-requires : tie.Need-turn-requires Inv-loop μ-loop
 turn-requires c κs = going-can (c .before .before .before .before .before .before .before .before .before .before .before .before .pre) (c .before .before .before .before .loop .inv .1) (omega (arith, c .before .before .before .before .loop .inv .0))
 
--- src/lib.rt:85:9
 add-k : tie.Need-add-k Inv-loop μ-loop
 add-k c = omega arith
 
--- src/lib.rt:83:5
 loop-less : tie.Need-loop-less Inv-loop μ-loop
 loop-less c = omega arith
 
--- src/lib.rt:83:5
 loop-again : tie.Need-loop-again Inv-loop μ-loop
 loop-again c = (c .before .before .before .before .before .before .before .before .before .before .before .loop .inv .0, going-more (c .before .before .before .before .before .before .before .before .before .before .before .before .before .before .before .before .before .before .before .pre) (c .before .before .before .before .before .before .before .before .before .before .before .loop .inv .1) (omega (arith, c .before .before .before .before .before .before .before .before .before .before .before .loop .inv .0)) (c .before .before .before .before .before .before .turn .ensures))
 
--- src/lib.rt:69:1
 same-length : tie.Need-same-length Inv-loop μ-loop
 same-length c = going-length (c .before .before .before .before .before .before .before .before .before .pre) (c .before .loop .inv .1)
 
--- src/lib.rt:69:1
 same-length-2 : tie.Need-same-length-2 Inv-loop μ-loop
 same-length-2 c = going-kinds (c .before .before .before .before .before .before .before .before .before .pre) (c .before .loop .inv .1)
 
--- src/lib.rt:69:1
 same-length-3 : tie.Need-same-length-3 Inv-loop μ-loop
 same-length-3 c = going-numbers (c .before .before .before .before .before .before .before .before .before .pre) (c .before .loop .inv .1)
 
--- src/lib.rt:69:1
 returns : tie.Need-returns Inv-loop μ-loop
 returns c = going-done (c .before .before .before .before .before .before .before .before .before .pre) (c .before .loop .inv .1) (omega (arith, c .before .loop .inv .0, c .before .loop .inv .1 .few))
 

@@ -4,19 +4,15 @@ use native.Mathlib.Omega.{arith}
 use Rattle.merge_pass.proofs.may_merge.Statement.{statement}
 use Rattle.merge_pass.proofs.may_merge.Tie as tie
 
--- src/lib.rt:23:9
 returns : tie.Need-returns
 returns c = not-proposed _ _ _ _ (c .if1 .taken)
 
--- src/lib.rt:26:9
 returns-2 : tie.Need-returns-2
 returns-2 c = barred _ _ _ _ (c .before .if1 .left) (c .if2 .taken)
 
--- src/lib.rt:28:6
 warns-requires : tie.Need-warns-requires
 warns-requires c κs = (c .before .before .before .pre .stood, c .before .before .before .pre .source, omega (arith, c .before .before .before .pre .target (c .before .if1 .left), c .before .before .before .pre .stood .headed .begun))
 
--- src/lib.rt:18:1
 returns-3 : tie.Need-returns-3
 returns-3 c = asked _ _ _ _ (c .before .before .if1 .left) (c .before .if2 .left) (c .warns .ensures)
 

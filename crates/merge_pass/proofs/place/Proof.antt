@@ -6,43 +6,33 @@ use borrow.Author.Needs.{needs}
 use Rattle.merge_pass.proofs.place.Statement.{statement}
 use Rattle.merge_pass.proofs.place.Tie as tie
 
--- src/lib.rt:35:8
 may-merge-requires : tie.Need-may-merge-requires
 may-merge-requires c κs = search needs
 
--- src/lib.rt:36:9
 merge-requires : tie.Need-merge-requires
 merge-requires c κs = place-merge (c .before .before .before .before .before .pre) (proposed _ _ _ _ (sym (c .before .before .may-merge .ensures) ∙ c .before .if1 .taken))
 
--- src/lib.rt:37:9
 same-length : tie.Need-same-length
 same-length c = search needs
 
--- src/lib.rt:37:9
 returns : tie.Need-returns
 returns c = placed-merged _ _ _ _ _ (c .before .before .before .before .before .may-merge .ensures) _ (c .before .before .before .before .if1 .taken) refl refl (c .before .before .merge .ensures)
 
--- src/lib.rt:39:18
 header-requires : tie.Need-header-requires
 header-requires c κs = search needs
 
--- src/lib.rt:39:55
 header-requires-2 : tie.Need-header-requires-2
 header-requires-2 c κs = search needs
 
--- src/lib.rt:39:18
 add-number : tie.Need-add-number
 add-number c = search needs
 
--- src/lib.rt:40:5
 create-requires : tie.Need-create-requires
 create-requires c κs = search needs
 
--- src/lib.rt:31:1
 same-length-2 : tie.Need-same-length-2
 same-length-2 c = search needs
 
--- src/lib.rt:31:1
 returns-2 : tie.Need-returns-2
 returns-2 c = placed-created _ _ _ _ _ (c .before .before .before .before .before .before .before .before .before .may-merge .ensures) _ (c .before .before .before .before .before .before .before .before .if1 .left) refl (omega (arith, c .before .before .before .before .before .before .header .ensures, c .before .before .before .before .header2 .ensures)) (c .before .before .create .ensures)
 

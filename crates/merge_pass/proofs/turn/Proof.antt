@@ -7,75 +7,57 @@ use borrow.Author.Needs.{needs}
 use Rattle.merge_pass.proofs.turn.Statement.{statement}
 use Rattle.merge_pass.proofs.turn.Tie as tie
 
--- src/lib.rt:59:9
 is-waiting-requires : tie.Need-is-waiting-requires
 is-waiting-requires c κs = search needs
 
--- src/lib.rt:60:9
 same-length : tie.Need-same-length
 same-length c = search needs
 
--- src/lib.rt:60:9
 returns : tie.Need-returns
 returns c = turn-none (c .before .before .before .before .before .before .before .before .pre) (sym (c .before .is-waiting .ensures) ∙ not-true _ (c .if1 .taken))
 
--- src/lib.rt:62:46
 cast-t16 : tie.Need-cast-t16
 cast-t16 c = search needs
 
--- src/lib.rt:62:57
 mul-place : tie.Need-mul-place
 mul-place c = omega (arith, can-answer (c .before .before .before .before .before .before .before .before .before .pre) (sym (c .before .before .is-waiting .ensures) ∙ not-false _ (c .before .if1 .left)) .proposals)
 
--- src/lib.rt:62:57
 shared-slice-read-place : tie.Need-shared-slice-read-place
 shared-slice-read-place c = omega (arith, can-answer (c .before .before .before .before .before .before .before .before .before .before .pre) (sym (c .before .before .before .is-waiting .ensures) ∙ not-false _ (c .before .before .if1 .left)) .proposals)
 
--- src/lib.rt:62:71
 mul-place-2 : tie.Need-mul-place-2
 mul-place-2 c = omega (arith, can-answer (c .before .before .before .before .before .before .before .before .before .before .pre) (sym (c .before .before .before .is-waiting .ensures) ∙ not-false _ (c .before .before .if1 .left)) .bars)
 
--- src/lib.rt:62:71
 shared-slice-read-place-2 : tie.Need-shared-slice-read-place-2
 shared-slice-read-place-2 c = omega (arith, can-answer (c .before .before .before .before .before .before .before .before .before .before .before .pre) (sym (c .before .before .before .before .is-waiting .ensures) ∙ not-false _ (c .before .before .before .if1 .left)) .bars)
 
--- src/lib.rt:62:9
 place-requires : tie.Need-place-requires
 place-requires c κs = turn-place (c .before .before .before .before .before .before .before .before .before .before .before .pre) (sym (c .before .before .before .before .is-waiting .ensures) ∙ not-false _ (c .before .before .before .if1 .left))
 
--- src/lib.rt:63:5
 mul-kinds : tie.Need-mul-kinds
 mul-kinds c = omega (arith, can-answer (c .before .before .before .before .before .before .before .before .before .before .before .before .before .before .pre) (sym (c .before .before .before .before .before .before .before .is-waiting .ensures) ∙ not-false _ (c .before .before .before .before .before .before .if1 .left)) .kinds)
 
--- src/lib.rt:63:5
 slice-write-kinds : tie.Need-slice-write-kinds
 slice-write-kinds c = omega (arith, can-answer (c .before .before .before .before .before .before .before .before .before .before .before .before .before .before .pre) (sym (c .before .before .before .before .before .before .before .is-waiting .ensures) ∙ not-false _ (c .before .before .before .before .before .before .if1 .left)) .kinds)
 
--- src/lib.rt:64:5
 mul-numbers : tie.Need-mul-numbers
 mul-numbers c = omega (arith, can-answer (c .before .before .before .before .before .before .before .before .before .before .before .before .before .before .pre) (sym (c .before .before .before .before .before .before .before .is-waiting .ensures) ∙ not-false _ (c .before .before .before .before .before .before .if1 .left)) .numbers)
 
--- src/lib.rt:64:5
 slice-write-numbers : tie.Need-slice-write-numbers
 slice-write-numbers c = omega (arith, can-answer (c .before .before .before .before .before .before .before .before .before .before .before .before .before .before .pre) (sym (c .before .before .before .before .before .before .before .is-waiting .ensures) ∙ not-false _ (c .before .before .before .before .before .before .if1 .left)) .numbers)
 
--- src/lib.rt:65:5
 add-result : tie.Need-add-result
 add-result c = omega (arith, can-answer (c .before .before .before .before .before .before .before .before .before .before .before .before .before .before .pre) (sym (c .before .before .before .before .before .before .before .is-waiting .ensures) ∙ not-false _ (c .before .before .before .before .before .before .if1 .left)) .proposals)
 
--- src/lib.rt:46:1
 same-length-2 : tie.Need-same-length-2
 same-length-2 c = search needs
 
--- src/lib.rt:46:1
 same-length-3 : tie.Need-same-length-3
 same-length-3 c = search needs
 
--- src/lib.rt:46:1
 same-length-4 : tie.Need-same-length-4
 same-length-4 c = search needs
 
--- src/lib.rt:46:1
 returns-2 : tie.Need-returns-2
 returns-2 c = turn-done (c .before .before .before .before .before .before .before .before .before .before .before .before .before .before .pre) (sym (c .before .before .before .before .before .before .before .is-waiting .ensures) ∙ not-false _ (c .before .before .before .before .before .before .if1 .left)) (c .before .before .place .ensures)
 

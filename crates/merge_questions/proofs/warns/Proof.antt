@@ -8,51 +8,39 @@ use borrow.Author.Needs.{needs}
 use Rattle.merge_questions.proofs.warns.Statement.{statement}
 use Rattle.merge_questions.proofs.warns.Tie as tie
 
--- src/lib.rt:19:16
 header-requires : tie.Need-header-requires
 header-requires c κs = search needs
 
--- src/lib.rt:19:16
 cast-made : tie.Need-cast-made
 cast-made c = search needs
 
--- src/lib.rt:20:13
 cast-s : tie.Need-cast-s
 cast-s c = search needs
 
--- src/lib.rt:21:13
 cast-t : tie.Need-cast-t
 cast-t c = search needs
 
--- src/lib.rt:22:9
 is-mode-requires : tie.Need-is-mode-requires
 is-mode-requires c κs = search needs
 
--- src/lib.rt:23:9
 warn-requires : tie.Need-warn-requires
 warn-requires c κs = rw (c .before .before .before .before .header .ensures) (pair _ _ _ _ (c .before .before .before .before .before .before .pre .0) (c .before .before .before .before .before .before .pre .1) (c .before .before .before .before .before .before .pre .2))
 
--- src/lib.rt:23:9
 returns : tie.Need-returns
 returns c = warn-by-flags _ _ _ _ (c .before .before .before .before .before .before .before .pre .0) (sym (c .before .before .is-mode .ensures) ∙ not-true _ (c .before .if1 .taken)) (c .before .before .before .before .before .header .ensures) (c .warn .ensures)
 
--- src/lib.rt:26:34
 slice-aggregate-find-ends : tie.Need-slice-aggregate-find-ends
 slice-aggregate-find-ends c = search needs
 
--- src/lib.rt:26:5
 find-ends-requires : tie.Need-find-ends-requires
 find-ends-requires c κs = (follows _ _ (c .before .before .before .before .before .before .before .pre .0) (sym (c .before .before .is-mode .ensures) ∙ not-false _ (c .before .if1 .left)) (c .before .before .before .before .before .header .ensures), omega (arith, c .before .before .before .before .before .header .ensures, c .before .before .before .before .before .before .before .pre .0 .headed .fits, c .before .before .before .before .before .before .before .pre .0 .headed .within .chunks))
 
--- src/lib.rt:27:68
 slice-aggregate-warn-counted : tie.Need-slice-aggregate-warn-counted
 slice-aggregate-warn-counted c = search needs
 
--- src/lib.rt:27:5
 warn-counted-requires : tie.Need-warn-counted-requires
 warn-counted-requires c κs = ask-ends _ _ (c .before .before .before .before .before .before .before .before .before .before .pre .0) (sym (c .before .before .before .before .before .is-mode .ensures) ∙ not-false _ (c .before .before .before .before .if1 .left)) (c .before .before .before .before .before .before .before .before .header .ensures) (c .before .before .find-ends .ensures) _ _ (pair _ _ _ _ (c .before .before .before .before .before .before .before .before .before .before .pre .0) (c .before .before .before .before .before .before .before .before .before .before .pre .1) (c .before .before .before .before .before .before .before .before .before .before .pre .2))
 
--- src/lib.rt:15:1
 returns-2 : tie.Need-returns-2
 returns-2 c = warn-by-ends _ _ (c .before .before .before .before .before .before .before .before .before .before .before .pre .0) (sym (c .before .before .before .before .before .before .is-mode .ensures) ∙ not-false _ (c .before .before .before .before .before .if1 .left)) (c .before .before .before .before .before .before .before .before .before .header .ensures) (c .before .before .before .find-ends .ensures) _ _ (c .warn-counted .ensures)
 

@@ -3,35 +3,27 @@ use borrow.Author.Needs.{needs}
 use Rattle.merge_warning.proofs.hits.Statement.{statement}
 use Rattle.merge_warning.proofs.hits.Tie as tie
 
--- src/lib.rt:16:8
 mul-if1 : tie.Need-mul-if1
 mul-if1 c = search needs
 
--- src/lib.rt:16:8
 shared-slice-read-if1 : tie.Need-shared-slice-read-if1
 shared-slice-read-if1 c = search needs
 
--- src/lib.rt:17:9
 returns : tie.Need-returns
 returns c = hit-none _ _ _ _ _ _ (c .if1 .taken)
 
--- src/lib.rt:19:11
 mul-result : tie.Need-mul-result
 mul-result c = search needs
 
--- src/lib.rt:19:11
 add-result : tie.Need-add-result
 add-result c = search needs
 
--- src/lib.rt:19:5
 mul-result-2 : tie.Need-mul-result-2
 mul-result-2 c = search needs
 
--- src/lib.rt:19:5
 shared-slice-read-result : tie.Need-shared-slice-read-result
 shared-slice-read-result c = search needs
 
--- src/lib.rt:12:1
 returns-2 : tie.Need-returns-2
 returns-2 c = hit-some _ _ _ _ _ _ (c .before .if1 .left) (c .before .before .before .pre .2) (c .before .before .before .pre .3)
 

@@ -14,31 +14,24 @@ Inv-loop flags c n source marks x₀ x = (x ≤ n) × (some-below (hit-at flags 
 abbrev μ-loop : tie.MeasureT-loop
 μ-loop flags c n source marks x₀ x = n - x
 
--- src/lib.rt:28:5
 loop-holds : tie.Need-loop-holds Inv-loop μ-loop
 loop-holds c = (omega arith, some-zero _)
 
--- src/lib.rt:29:12
 hits-requires : tie.Need-hits-requires Inv-loop μ-loop
 hits-requires c κs = let p = c .before .before .before .before .pre in let l = c .loop-test .taken in (omega (arith, sets-room {i = c .before .loop .x} {n = c .before .before .before .before .args .n} (c .before .before .before .before .args .c) l, p .0, p .1, p .3), omega (arith, l, p .2), l, p .3)
 
--- src/lib.rt:30:13
 returns : tie.Need-returns Inv-loop μ-loop
 returns c = some-found _ _ _ (c .before .before .loop-test .taken) (sym (c .before .hits .ensures) ∙ c .if1 .taken)
 
--- src/lib.rt:32:9
 add-x : tie.Need-add-x Inv-loop μ-loop
 add-x c = omega arith
 
--- src/lib.rt:28:5
 loop-less : tie.Need-loop-less Inv-loop μ-loop
 loop-less c = omega arith
 
--- src/lib.rt:28:5
 loop-again : tie.Need-loop-again Inv-loop μ-loop
 loop-again c = (omega arith, none-more _ _ (c .before .before .before .loop .inv .1) (sym (c .before .hits .ensures) ∙ c .if1 .left))
 
--- src/lib.rt:23:1
 returns-2 : tie.Need-returns-2 Inv-loop μ-loop
 returns-2 c = none-left _ _ _ (c .before .loop .inv .1) (omega arith)
 

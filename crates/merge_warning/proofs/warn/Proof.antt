@@ -6,39 +6,30 @@ use borrow.Author.Needs.{needs}
 use Rattle.merge_warning.proofs.warn.Statement.{statement}
 use Rattle.merge_warning.proofs.warn.Tie as tie
 
--- src/lib.rt:44:52
 slice-aggregate-closure : tie.Need-slice-aggregate-closure
 slice-aggregate-closure c = search needs
 
--- src/lib.rt:44:64
 slice-aggregate-closure-2 : tie.Need-slice-aggregate-closure-2
 slice-aggregate-closure-2 c = search needs
 
--- src/lib.rt:44:5
 closure-requires : tie.Need-closure-requires
 closure-requires c κs = record { rows = record { cells = c .before .before .before .pre .cells; narrow = c .before .before .before .pre .narrow; few = omega (arith, c .before .before .before .pre .narrow, c .before .before .before .pre .few) }; cells = omega (arith, c .before .before .before .pre .narrow, c .before .before .before .pre .few); room = omega (arith, c .before .before .before .pre .narrow, c .before .before .before .pre .few); first = c .before .before .before .pre .first; second = c .before .before .before .pre .second; fresh = λ x h. omega (arith, zeros 1024 x) }
 
--- src/lib.rt:45:8
 mul-if1 : tie.Need-mul-if1
 mul-if1 c = search needs
 
--- src/lib.rt:45:8
 array-read-if1 : tie.Need-array-read-if1
 array-read-if1 c = search needs
 
--- src/lib.rt:46:9
 returns : tie.Need-returns
 returns c = warns-target _ _ _ _ _ _ (c .before .before .before .before .before .before .before .pre .second) (λ x h. zeros 1024 x) (omega (arith, c .before .before .before .before .before .before .before .pre .narrow, c .before .before .before .before .before .before .before .pre .few)) (c .before .before .before .closure .ensures) (c .if1 .taken)
 
--- src/lib.rt:48:35
 slice-aggregate-some-hit : tie.Need-slice-aggregate-some-hit
 slice-aggregate-some-hit c = search needs
 
--- src/lib.rt:48:5
 some-hit-requires : tie.Need-some-hit-requires
 some-hit-requires c κs = search needs
 
--- src/lib.rt:38:1
 returns-2 : tie.Need-returns-2
 returns-2 c = warns-member _ _ _ _ _ _ (c .before .before .before .before .before .before .before .before .before .pre .second) (λ x h. zeros 1024 x) (omega (arith, c .before .before .before .before .before .before .before .before .before .pre .narrow, c .before .before .before .before .before .before .before .before .before .pre .few)) (c .before .before .before .before .before .closure .ensures) (c .before .before .if1 .left) (c .some-hit .ensures ∙ hits-are _ _ _ _ _)
 

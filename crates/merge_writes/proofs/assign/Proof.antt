@@ -3,35 +3,27 @@ use borrow.Author.Needs.{needs}
 use Rattle.merge_writes.proofs.assign.Statement.{statement}
 use Rattle.merge_writes.proofs.assign.Tie as tie
 
--- src/writes.rt:79:13
 header-requires : tie.Need-header-requires
 header-requires c κs = search needs
 
--- src/writes.rt:80:9
 open-requires : tie.Need-open-requires
 open-requires c κs = let r = c .before .before .before .before .before .pre .room (c .before .before .before .if1 .taken) in record { within = c .before .before .before .before .before .pre .within; long = c .before .before .before .before .before .pre .long; left = r .0; few = r .1 }
 
--- src/writes.rt:81:9
 append-requires : tie.Need-append-requires
 append-requires c κs = let r = c .before .before .before .before .before .before .before .before .before .pre .room (c .before .before .before .before .before .before .before .if1 .taken) in rw (c .before .before .before .«open» .ensures, c .before .before .before .before .before .header .ensures) (open-append _ _ _ _ (record { within = c .before .before .before .before .before .before .before .before .before .pre .within; long = c .before .before .before .before .before .before .before .before .before .pre .long; left = r .0; few = r .1 }) (c .before .before .before .before .before .before .before .before .before .pre .listed) (c .before .before .before .before .before .before .before .before .before .pre .left))
 
--- src/writes.rt:82:9
 same-length : tie.Need-same-length
 same-length c = search needs
 
--- src/writes.rt:82:9
 returns : tie.Need-returns
 returns c = init-new _ _ _ _ _ _ (c .before .before .before .before .before .before .before .before .before .before .if1 .taken) (c .before .before .before .before .before .before .before .before .header .ensures) (c .before .before .before .before .before .before .«open» .ensures) (c .before .before .append .ensures)
 
--- src/writes.rt:84:5
 append-requires-2 : tie.Need-append-requires-2
 append-requires-2 c κs = record { within = c .before .before .before .pre .within; long = c .before .before .before .pre .long; chunk = c .before .before .before .pre .chunk (c .before .if1 .left); listed = c .before .before .before .pre .listed; left = c .before .before .before .pre .left }
 
--- src/writes.rt:74:1
 same-length-2 : tie.Need-same-length-2
 same-length-2 c = search needs
 
--- src/writes.rt:74:1
 returns-2 : tie.Need-returns-2
 returns-2 c = init-old _ _ _ _ _ _ (c .before .before .before .before .if1 .left) (c .before .before .append2 .ensures)
 

@@ -2,15 +2,12 @@ use borrow.Author.Tests.{eq-eqb, ne-eqb}
 use Rattle.merge_writes.proofs.or_flag.Statement.{statement}
 use Rattle.merge_writes.proofs.or_flag.Tie as tie
 
--- src/writes.rt:30:9
 returns : tie.Need-returns
 returns c = rw (ne-eqb _ _ (c .if1 .taken))
 
--- src/writes.rt:33:9
 returns-2 : tie.Need-returns-2
 returns-2 c = rw (eq-eqb _ _ (c .before .if1 .left), c .if2 .taken)
 
--- src/writes.rt:26:1
 returns-3 : tie.Need-returns-3
 returns-3 c = rw (eq-eqb _ _ (c .before .if1 .left), c .if2 .left)
 

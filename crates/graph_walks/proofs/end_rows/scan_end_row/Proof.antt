@@ -15,75 +15,57 @@ Inv-loop flags c n ends source target mark marks₀ stack₀ sp t i from s₀ j�
 abbrev μ-loop : tie.MeasureT-loop
 μ-loop flags c n ends source target mark marks₀ stack₀ sp t i from s₀ j₀ marks stack s j = n - j
 
--- src/end_rows.rt:57:8
 mul-if1 : tie.Need-mul-if1 Inv-loop μ-loop
 mul-if1 c = omega (arith, c .before .before .before .before .pre .can .rows .long, c .before .before .before .before .pre .row)
 
--- src/end_rows.rt:57:8
 shared-slice-read-if1 : tie.Need-shared-slice-read-if1 Inv-loop μ-loop
 shared-slice-read-if1 c = omega (arith, c .before .before .before .before .before .pre .can .rows .long, c .before .before .before .before .before .pre .row)
 
--- src/end_rows.rt:57:8
 cast-if1 : tie.Need-cast-if1 Inv-loop μ-loop
 cast-if1 c = omega (arith, c .before .before .before .before .before .pre .can .rows .each _ (c .before .before .before .before .before .pre .row), c .before .before .before .before .before .pre .can .rows .rows .few)
 
--- src/end_rows.rt:58:9
 returns : tie.Need-returns Inv-loop μ-loop
 returns c = swept-off _ _ (c .before .before .before .before .before .before .pre .can .rows) _ _ (c .before .before .before .before .before .before .pre .can .ready) (c .before .before .before .before .before .before .pre .row) (c .if1 .taken)
 
--- src/end_rows.rt:60:16
 mul-from : tie.Need-mul-from Inv-loop μ-loop
 mul-from c = omega (arith, c .before .before .before .before .before .before .pre .inside)
 
--- src/end_rows.rt:63:5
 loop-holds : tie.Need-loop-holds Inv-loop μ-loop
 loop-holds c = (swept-none _ _ (c .before .before .before .before .before .before .pre .can .rows) _ _ (c .before .before .before .before .before .before .pre .can .ready), omega arith, refl, refl)
 
--- src/end_rows.rt:64:28
 add-look-end : tie.Need-add-look-end Inv-loop μ-loop
 add-look-end c = omega (arith, c .before .before .before .before .before .before .before .before .pre .inside)
 
--- src/end_rows.rt:64:22
 mul-look-end : tie.Need-mul-look-end Inv-loop μ-loop
 mul-look-end c = omega (arith, c .before .before .before .before .before .before .before .before .pre .inside)
 
--- src/end_rows.rt:64:22
 shared-slice-read-look-end : tie.Need-shared-slice-read-look-end Inv-loop μ-loop
 shared-slice-read-look-end c = omega (arith, c .before .before .before .before .before .before .before .before .before .pre .inside)
 
--- src/end_rows.rt:64:81
 mul-look-end-2 : tie.Need-mul-look-end-2 Inv-loop μ-loop
 mul-look-end-2 c = omega (arith, c .before .before .before .before .before .before .before .before .before .before .before .pre .can .rows .long, c .before .before .before .loop-test .taken)
 
--- src/end_rows.rt:64:81
 shared-slice-read-look-end-2 : tie.Need-shared-slice-read-look-end-2 Inv-loop μ-loop
 shared-slice-read-look-end-2 c = omega (arith, c .before .before .before .before .before .before .before .before .before .before .before .before .pre .can .rows .long, c .before .before .before .before .loop-test .taken)
 
--- src/end_rows.rt:64:9
 look-end-requires : tie.Need-look-end-requires Inv-loop μ-loop
 look-end-requires c κs = look-can (c .before .before .before .before .before .loop .inv .0 .ready) (c .before .before .before .before .before .before .before .before .before .before .before .before .pre .can .rows .each _ (c .before .before .before .before .loop-test .taken))
 
--- src/end_rows.rt:65:9
 add-j : tie.Need-add-j Inv-loop μ-loop
 add-j c = omega arith
 
--- src/end_rows.rt:63:5
 loop-less : tie.Need-loop-less Inv-loop μ-loop
 loop-less c = omega arith
 
--- src/end_rows.rt:63:5
 loop-again : tie.Need-loop-again Inv-loop μ-loop
 loop-again c = (swept-more _ _ (c .before .before .before .before .before .before .before .before .before .before .before .before .before .before .before .before .before .pre .can .rows) (c .before .before .before .before .before .before .before .before .before .before .loop .inv .0) (c .before .before .before .before .before .before .before .before .before .before .before .before .before .before .before .before .before .pre .can .node) (c .before .before .before .before .before .before .before .before .before .before .before .before .before .before .before .before .before .pre .row) (c .before .before .before .before .before .before .before .before .before .loop-test .taken) (c .before .before .before .before .before .before .before .before .before .before .before .if1 .left) (c .before .before .before .before .look-end .ensures), omega arith, c .before .before .before .before .look-end .kept .1 .1 .1 .1 .0 ∙ c .before .before .before .before .before .before .before .before .before .before .loop .inv .2, c .before .before .before .before .look-end .kept .1 .1 .1 .1 .1 .0 ∙ c .before .before .before .before .before .before .before .before .before .before .loop .inv .3)
 
--- src/end_rows.rt:40:1
 same-length : tie.Need-same-length Inv-loop μ-loop
 same-length c = c .before .loop .inv .2
 
--- src/end_rows.rt:40:1
 same-length-2 : tie.Need-same-length-2 Inv-loop μ-loop
 same-length-2 c = c .before .loop .inv .3
 
--- src/end_rows.rt:40:1
 returns-2 : tie.Need-returns-2 Inv-loop μ-loop
 returns-2 c = let z : c .before .loop .j ≡ c .before .before .before .before .before .before .before .before .args .n = omega (arith, c .before .loop .inv .1) in rw z at (c .before .loop .inv .0)
 

@@ -14,35 +14,27 @@ Inv-loop flags c n ends source target mark marks₀ stack₀ sp t s₀ i₀ mark
 abbrev μ-loop : tie.MeasureT-loop
 μ-loop flags c n ends source target mark marks₀ stack₀ sp t s₀ i₀ marks stack s i = n - i
 
--- src/end_rows.rt:89:5
 loop-holds : tie.Need-loop-holds Inv-loop μ-loop
 loop-holds c = (rows-none _ _ (c .before .before .before .before .pre .rows) _ (c .before .before .before .before .pre .ready), omega arith, refl, refl)
 
--- src/end_rows.rt:90:9
 scan-end-row-requires : tie.Need-scan-end-row-requires Inv-loop μ-loop
 scan-end-row-requires c κs = end-row-can (c .before .before .before .before .before .before .before .before .pre .rows) (c .before .before .before .loop .inv .0 .ready) (c .before .before .before .before .before .before .before .before .pre .node) (c .before .before .loop-test .taken)
 
--- src/end_rows.rt:91:9
 add-i : tie.Need-add-i Inv-loop μ-loop
 add-i c = omega arith
 
--- src/end_rows.rt:89:5
 loop-less : tie.Need-loop-less Inv-loop μ-loop
 loop-less c = omega arith
 
--- src/end_rows.rt:89:5
 loop-again : tie.Need-loop-again Inv-loop μ-loop
 loop-again c = (rows-more _ _ (c .before .before .before .before .before .before .before .before .before .before .before .before .before .pre .rows) (c .before .before .before .before .before .before .before .before .loop .inv .0) (c .before .before .before .before .scan-end-row .ensures), omega arith, c .before .before .before .before .scan-end-row .kept .1 .1 .1 .1 .1 .1 .1 .0 ∙ c .before .before .before .before .before .before .before .before .loop .inv .2, c .before .before .before .before .scan-end-row .kept .1 .1 .1 .1 .1 .1 .1 .1 .0 ∙ c .before .before .before .before .before .before .before .before .loop .inv .3)
 
--- src/end_rows.rt:71:1
 same-length : tie.Need-same-length Inv-loop μ-loop
 same-length c = c .before .loop .inv .2
 
--- src/end_rows.rt:71:1
 same-length-2 : tie.Need-same-length-2 Inv-loop μ-loop
 same-length-2 c = c .before .loop .inv .3
 
--- src/end_rows.rt:71:1
 returns : tie.Need-returns Inv-loop μ-loop
 returns c = let z : c .before .loop .i ≡ c .before .before .before .before .before .before .args .n = omega (arith, c .before .loop .inv .1) in rw z at (c .before .loop .inv .0)
 

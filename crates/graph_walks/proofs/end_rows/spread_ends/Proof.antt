@@ -15,47 +15,36 @@ Inv-loop flags c n ends source target mark marks₀ stack₀ height left₀ mark
 abbrev μ-loop : tie.MeasureT-loop
 μ-loop flags c n ends source target mark marks₀ stack₀ height left₀ marks stack left = size n mark marks left
 
--- src/end_rows.rt:114:5
 loop-holds : tie.Need-loop-holds Inv-loop μ-loop
 loop-holds c = (done-none (offers-ends _ _ (c .before .before .before .before .pre .rows)) (c .before .before .before .before .pre .ready), refl, refl)
 
--- src/end_rows.rt:115:19
 sub-top : tie.Need-sub-top Inv-loop μ-loop
 sub-top c = omega arith
 
--- src/end_rows.rt:116:17
 mul-t : tie.Need-mul-t Inv-loop μ-loop
 mul-t c = omega (arith, c .before .loop .inv .0 .ready .count, c .before .loop .inv .0 .ready .room)
 
--- src/end_rows.rt:116:17
 slice-read-t : tie.Need-slice-read-t Inv-loop μ-loop
 slice-read-t c = omega (arith, c .before .before .loop .inv .0 .ready .count, c .before .before .loop .inv .0 .ready .room)
 
--- src/end_rows.rt:116:17
 cast-t : tie.Need-cast-t Inv-loop μ-loop
 cast-t c = omega (arith, top-node (offers-ends _ _ (c .before .before .before .before .before .before .before .pre .rows)) (c .before .before .loop .inv .0) (omega arith))
 
--- src/end_rows.rt:117:9
 scan-ends-requires : tie.Need-scan-ends-requires Inv-loop μ-loop
 scan-ends-requires c κs = record { rows = c .before .before .before .before .before .before .before .before .before .pre .rows; ready = top-ready (offers-ends _ _ (c .before .before .before .before .before .before .before .before .before .pre .rows)) (c .before .before .before .before .loop .inv .0) (omega arith); node = top-node (offers-ends _ _ (c .before .before .before .before .before .before .before .before .before .pre .rows)) (c .before .before .before .before .loop .inv .0) (omega arith) }
 
--- src/end_rows.rt:114:5
 loop-less : tie.Need-loop-less Inv-loop μ-loop
 loop-less c = scan-less (c .before .before .before .before .before .before .before .before .before .before .before .before .before .before .args .n) (c .before .before .before .before .before .before .before .before .before .before .before .before .before .before .args .mark) (c .before .before .before .before .before .before .before .before .before .loop .marks) (c .before .before .before .before .before .before .before .before .before .loop .left) _ (omega arith) (c .before .before .before .before .scan-ends .ensures .less)
 
--- src/end_rows.rt:114:5
 loop-again : tie.Need-loop-again Inv-loop μ-loop
 loop-again c = (done-more (offers-ends _ _ (c .before .before .before .before .before .before .before .before .before .before .before .before .before .before .pre .rows)) (c .before .before .before .before .before .before .before .before .before .loop .inv .0) (omega arith) (c .before .before .before .before .scan-ends .ensures), c .before .before .before .before .scan-ends .kept .1 .1 .1 .1 .1 .1 .1 .0 ∙ c .before .before .before .before .before .before .before .before .before .loop .inv .1, c .before .before .before .before .scan-ends .kept .1 .1 .1 .1 .1 .1 .1 .1 .0 ∙ c .before .before .before .before .before .before .before .before .before .loop .inv .2)
 
--- src/end_rows.rt:98:1
 same-length : tie.Need-same-length Inv-loop μ-loop
 same-length c = c .before .loop .inv .1
 
--- src/end_rows.rt:98:1
 same-length-2 : tie.Need-same-length-2 Inv-loop μ-loop
 same-length-2 c = c .before .loop .inv .2
 
--- src/end_rows.rt:98:1
 returns : tie.Need-returns Inv-loop μ-loop
 returns c = let z : c .before .loop .left ≡ 0 = omega arith in rw z at (c .before .loop .inv .0)
 

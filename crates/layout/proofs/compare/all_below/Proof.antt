@@ -7,21 +7,17 @@ use borrow.Author.Needs.{needs}
 use Rattle.layout.proofs.compare.all_below.Statement.{statement}
 use Rattle.layout.proofs.compare.all_below.Tie as tie
 
--- src/compare.rt:42:9
 returns : tie.Need-returns
 returns c =
     let g = c .before .before .args in
     none-below (λ i. getD (g .list .now) (g .at + i) 0) (g .k) (g .bound) (c .if1 .taken)
 
--- src/compare.rt:44:29
 sub-none-above : tie.Need-sub-none-above
 sub-none-above c = search needs
 
--- src/compare.rt:44:5
 none-above-requires : tie.Need-none-above-requires
 none-above-requires c κs = search needs
 
--- src/compare.rt:37:1
 returns-2 : tie.Need-returns-2
 returns-2 c =
     let g = c .before .before .before .args in

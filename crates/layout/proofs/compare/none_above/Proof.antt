@@ -14,37 +14,29 @@ Inv-loop list at k bound fits₀ i₀ fits i = (i ≤ k) × Decides (PartUpTo li
 abbrev μ-loop : tie.MeasureT-loop
 μ-loop list at k bound fits₀ i₀ fits i = k - i
 
--- src/compare.rt:29:5
 loop-holds : tie.Need-loop-holds Inv-loop μ-loop
 loop-holds c = (omega arith, each-none _)
 
--- src/compare.rt:30:29
 add-fits : tie.Need-add-fits Inv-loop μ-loop
 add-fits c = omega arith
 
--- src/compare.rt:30:24
 mul-fits : tie.Need-mul-fits Inv-loop μ-loop
 mul-fits c = omega arith
 
--- src/compare.rt:30:24
 shared-slice-read-fits : tie.Need-shared-slice-read-fits Inv-loop μ-loop
 shared-slice-read-fits c = omega arith
 
--- src/compare.rt:31:9
 add-i : tie.Need-add-i Inv-loop μ-loop
 add-i c = omega arith
 
--- src/compare.rt:29:5
 loop-less : tie.Need-loop-less Inv-loop μ-loop
 loop-less c = omega arith
 
--- src/compare.rt:29:5
 loop-again : tie.Need-loop-again Inv-loop μ-loop
 loop-again c =
     let g = c .before .before .before .args in
     (omega arith, each-more (λ i. getD (g .list .now) (g .at + i) 0 ≤ g .bound) (c .before .before .loop .inv .1) (leb-decides _ _))
 
--- src/compare.rt:23:1
 returns : tie.Need-returns Inv-loop μ-loop
 returns c =
     let g = c .before .before .args in

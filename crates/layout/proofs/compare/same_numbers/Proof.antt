@@ -15,49 +15,38 @@ Inv-loop a at b from n same₀ i₀ same i = (i ≤ n) × Decides (SamePart a at
 abbrev μ-loop : tie.MeasureT-loop
 μ-loop a at b from n same₀ i₀ same i = n - i
 
--- src/compare.rt:15:5
 loop-holds : tie.Need-loop-holds Inv-loop μ-loop
 loop-holds c = (omega arith, each-none _)
 
--- src/compare.rt:16:26
 add-same : tie.Need-add-same Inv-loop μ-loop
 add-same c = omega arith
 
--- src/compare.rt:16:24
 mul-same : tie.Need-mul-same Inv-loop μ-loop
 mul-same c = omega arith
 
--- src/compare.rt:16:24
 shared-slice-read-same : tie.Need-shared-slice-read-same Inv-loop μ-loop
 shared-slice-read-same c = omega arith
 
--- src/compare.rt:16:39
 add-same-2 : tie.Need-add-same-2 Inv-loop μ-loop
 add-same-2 c = omega arith
 
--- src/compare.rt:16:37
 mul-same-2 : tie.Need-mul-same-2 Inv-loop μ-loop
 mul-same-2 c = omega arith
 
--- src/compare.rt:16:37
 shared-slice-read-same-2 : tie.Need-shared-slice-read-same-2 Inv-loop μ-loop
 shared-slice-read-same-2 c = omega arith
 
--- src/compare.rt:17:9
 add-i : tie.Need-add-i Inv-loop μ-loop
 add-i c = omega arith
 
--- src/compare.rt:15:5
 loop-less : tie.Need-loop-less Inv-loop μ-loop
 loop-less c = omega arith
 
--- src/compare.rt:15:5
 loop-again : tie.Need-loop-again Inv-loop μ-loop
 loop-again c =
     let g = c .before .before .before .before .args in
     (omega arith, each-more (λ i. getD (g .a .now) (g .at + i) 0 ≡ getD (g .b .now) (g .from + i) 0) (c .before .before .before .loop .inv .1) (eqb-decides _ _))
 
--- src/compare.rt:9:1
 returns : tie.Need-returns Inv-loop μ-loop
 returns c =
     let g = c .before .before .args in

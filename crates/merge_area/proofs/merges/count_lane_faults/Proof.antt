@@ -4,39 +4,30 @@ use borrow.Author.Needs.{needs}
 use Rattle.merge_area.proofs.merges.count_lane_faults.Statement.{statement}
 use Rattle.merge_area.proofs.merges.count_lane_faults.Tie as tie
 
--- src/merges.rt:109:16
 header-requires : tie.Need-header-requires
 header-requires c κs = search needs
 
--- src/merges.rt:109:16
 cast-made : tie.Need-cast-made
 cast-made c = search needs
 
--- src/merges.rt:110:32
 into-place-requires : tie.Need-into-place-requires
 into-place-requires c κs = search needs
 
--- src/merges.rt:110:9
 count-faults-requires : tie.Need-count-faults-requires
 count-faults-requires c κs = search needs
 
--- src/merges.rt:111:32
 into-place-requires-2 : tie.Need-into-place-requires-2
 into-place-requires-2 c κs = search needs
 
--- src/merges.rt:111:57
 sub-count-faults : tie.Need-sub-count-faults
 sub-count-faults c = search needs
 
--- src/merges.rt:111:9
 count-faults-requires-2 : tie.Need-count-faults-requires-2
 count-faults-requires-2 c κs = search needs
 
--- src/merges.rt:112:5
 add-result : tie.Need-add-result
 add-result c = search needs
 
--- src/merges.rt:105:1
 returns : tie.Need-returns
 returns c = lane-sum _ _ (c .before .before .before .before .before .header .ensures) (c .before .before .before .before .into-place .ensures) (c .before .before .into-place2 .ensures) (c .before .before .before .count-faults .ensures .value) (c .count-faults2 .ensures .value)
 

@@ -12,55 +12,42 @@ Inv-loop n ends₀ x₀ ends x = (x ≤ n) × Doubling n x ends₀ ends
 abbrev μ-loop : tie.MeasureT-loop
 μ-loop n ends₀ x₀ ends x = n - x
 
--- src/merges.rt:58:5
 loop-holds : tie.Need-loop-holds Inv-loop μ-loop
 loop-holds c = (omega arith, doubling-none _ _ (c .pre))
 
--- src/merges.rt:59:17
 mul-y : tie.Need-mul-y Inv-loop μ-loop
 mul-y c = omega (arith, c .before .loop .inv .1 .inside .long)
 
--- src/merges.rt:59:17
 slice-read-y : tie.Need-slice-read-y Inv-loop μ-loop
 slice-read-y c = omega (arith, c .before .before .loop .inv .1 .inside .long, c .before .loop-test .taken)
 
--- src/merges.rt:59:17
 cast-y : tie.Need-cast-y Inv-loop μ-loop
 cast-y c = omega (arith, c .before .before .loop .inv .1 .inside .each _ (c .before .loop-test .taken), c .before .before .loop .inv .1 .inside .long)
 
--- src/merges.rt:60:19
 mul-ends : tie.Need-mul-ends Inv-loop μ-loop
 mul-ends c = omega (arith, c .before .before .loop .inv .1 .inside .each _ (c .before .loop-test .taken), c .before .before .loop .inv .1 .inside .long)
 
--- src/merges.rt:60:19
 slice-read-ends : tie.Need-slice-read-ends Inv-loop μ-loop
 slice-read-ends c = omega (arith, c .before .before .before .loop .inv .1 .inside .each _ (c .before .before .loop-test .taken), c .before .before .before .loop .inv .1 .inside .long)
 
--- src/merges.rt:60:9
 mul-ends-2 : tie.Need-mul-ends-2 Inv-loop μ-loop
 mul-ends-2 c = omega (arith, c .before .before .before .loop .inv .1 .inside .long, c .before .before .loop-test .taken)
 
--- src/merges.rt:60:9
 slice-write-ends : tie.Need-slice-write-ends Inv-loop μ-loop
 slice-write-ends c = omega (arith, c .before .before .before .loop .inv .1 .inside .long, c .before .before .loop-test .taken)
 
--- src/merges.rt:61:9
 add-x : tie.Need-add-x Inv-loop μ-loop
 add-x c = omega arith
 
--- src/merges.rt:58:5
 loop-less : tie.Need-loop-less Inv-loop μ-loop
 loop-less c = omega arith
 
--- src/merges.rt:58:5
 loop-again : tie.Need-loop-again Inv-loop μ-loop
 loop-again c = (omega arith, doubling-more _ _ _ (c .before .before .before .loop .inv .1) (c .before .before .loop-test .taken) refl refl)
 
--- src/merges.rt:53:1
 same-length : tie.Need-same-length Inv-loop μ-loop
 same-length c = c .before .loop .inv .1 .same
 
--- src/merges.rt:53:1
 returns : tie.Need-returns Inv-loop μ-loop
 returns c = doubling-done _ (c .before .loop .inv .1) (omega arith)
 

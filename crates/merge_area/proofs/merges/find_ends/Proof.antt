@@ -12,35 +12,27 @@ Inv-loop area n ends₀ round₀ ends round = (round ≤ 10) × Rounds n round e
 abbrev μ-loop : tie.MeasureT-loop
 μ-loop area n ends₀ round₀ ends round = 10 - round
 
--- src/merges.rt:70:5
 take-step-requires : tie.Need-take-step-requires Inv-loop μ-loop
 take-step-requires c κs = (c .before .before .before .pre .0, omega (arith, c .before .before .before .pre .1))
 
--- src/merges.rt:72:5
 loop-holds : tie.Need-loop-holds Inv-loop μ-loop
 loop-holds c = (omega arith, rounds-none _ _ (c .before .before .take-step .ensures .inside))
 
--- src/merges.rt:73:9
 double-requires : tie.Need-double-requires Inv-loop μ-loop
 double-requires c κs = c .before .before .loop .inv .1 .inside
 
--- src/merges.rt:74:9
 add-round : tie.Need-add-round Inv-loop μ-loop
 add-round c = omega arith
 
--- src/merges.rt:72:5
 loop-less : tie.Need-loop-less Inv-loop μ-loop
 loop-less c = omega arith
 
--- src/merges.rt:72:5
 loop-again : tie.Need-loop-again Inv-loop μ-loop
 loop-again c = (omega arith, rounds-more _ _ (c .before .before .before .before .before .loop .inv .1) (c .before .before .double .ensures) (c .before .before .double .kept .1 .0))
 
--- src/merges.rt:66:1
 same-length : tie.Need-same-length Inv-loop μ-loop
 same-length c = c .before .loop .inv .1 .same ∙ c .before .before .before .before .take-step .kept .1 .1 .1 .0
 
--- src/merges.rt:66:1
 returns : tie.Need-returns Inv-loop μ-loop
 returns c = rounds-done _ _ _ (c .before .loop .inv .1) (omega arith) (c .before .before .before .before .take-step .ensures)
 

@@ -6,23 +6,18 @@ use borrow.Author.Needs.{needs}
 use Rattle.merge_area.proofs.merges.has_ring.Statement.{statement}
 use Rattle.merge_area.proofs.merges.has_ring.Tie as tie
 
--- src/merges.rt:100:31
 slice-aggregate-find-ends : tie.Need-slice-aggregate-find-ends
 slice-aggregate-find-ends c = search needs
 
--- src/merges.rt:100:5
 find-ends-requires : tie.Need-find-ends-requires
 find-ends-requires c κs = search needs
 
--- src/merges.rt:101:31
 slice-aggregate-some-left : tie.Need-slice-aggregate-some-left
 slice-aggregate-some-left c = search needs
 
--- src/merges.rt:101:5
 some-left-requires : tie.Need-some-left-requires
 some-left-requires c κs = search needs
 
--- src/merges.rt:95:1
 returns : tie.Need-returns
 returns c = c .some-left .ensures ∙ ring-is _ _ (c .before .before .before .before .before .before .pre .range) (c .before .before .before .find-ends .ensures) (omega (arith, c .before .before .before .before .before .before .pre .few, c .before .before .before .before .before .before .pre .within .chunks))
 

@@ -7,31 +7,24 @@ use borrow.Author.Needs.{needs}
 use Rattle.merge_area.proofs.merges.is_gone.Statement.{statement}
 use Rattle.merge_area.proofs.merges.is_gone.Tie as tie
 
--- src/merges.rt:36:9
 is-mode-requires : tie.Need-is-mode-requires
 is-mode-requires c κs = search needs
 
--- src/merges.rt:37:9
 returns : tie.Need-returns
 returns c = not-gone-off _ _ _ (sym (c .before .is-mode .ensures) ∙ not-true _ (c .if1 .taken))
 
--- src/merges.rt:40:9
 returns-2 : tie.Need-returns-2
 returns-2 c = not-gone-past _ _ _ (c .if2 .taken)
 
--- src/merges.rt:42:9
 into-place-requires : tie.Need-into-place-requires
 into-place-requires c κs = search needs
 
--- src/merges.rt:43:5
 mul-result : tie.Need-mul-result
 mul-result c = search needs
 
--- src/merges.rt:43:5
 shared-slice-read-result : tie.Need-shared-slice-read-result
 shared-slice-read-result c = search needs
 
--- src/merges.rt:32:1
 returns-3 : tie.Need-returns-3
 returns-3 c = gone-at _ _ _ (sym (c .before .before .before .before .before .is-mode .ensures) ∙ not-false _ (c .before .before .before .before .if1 .left)) (omega (arith, c .before .before .if2 .left)) (c .before .into-place .ensures)
 

@@ -4,11 +4,9 @@ use borrow.Author.Needs.{needs}
 use Rattle.merge_area.proofs.merges.is_mode.Statement.{statement}
 use Rattle.merge_area.proofs.merges.is_mode.Tie as tie
 
--- src/merges.rt:27:5
 header-requires : tie.Need-header-requires
 header-requires c κs = search needs
 
--- src/merges.rt:23:1
 returns : tie.Need-returns
 returns c = mode-is _ _ (c .header .ensures)
 

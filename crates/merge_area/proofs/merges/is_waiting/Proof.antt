@@ -4,27 +4,21 @@ use borrow.Author.Needs.{needs}
 use Rattle.merge_area.proofs.merges.is_waiting.Statement.{statement}
 use Rattle.merge_area.proofs.merges.is_waiting.Tie as tie
 
--- src/merges.rt:51:9
 need-place-requires : tie.Need-need-place-requires
 need-place-requires c κs = search needs
 
--- src/merges.rt:52:8
 mul-if1 : tie.Need-mul-if1
 mul-if1 c = search needs
 
--- src/merges.rt:52:8
 shared-slice-read-if1 : tie.Need-shared-slice-read-if1
 shared-slice-read-if1 c = search needs
 
--- src/merges.rt:53:9
 returns : tie.Need-returns
 returns c = needless _ _ _ (c .before .before .need-place .ensures) (c .before .before .before .before .pre .1) (c .if1 .taken)
 
--- src/merges.rt:55:6
 is-gone-requires : tie.Need-is-gone-requires
 is-gone-requires c κs = search needs
 
--- src/merges.rt:47:1
 returns-2 : tie.Need-returns-2
 returns-2 c = waits-at _ _ _ (c .before .before .before .need-place .ensures) (c .before .before .before .before .before .pre .1) (c .before .if1 .left) (c .is-gone .ensures)
 

@@ -7,35 +7,27 @@ use borrow.Author.Needs.{needs}
 use Rattle.merge_area.proofs.merges.merges_have_fault.Statement.{statement}
 use Rattle.merge_area.proofs.merges.merges_have_fault.Tie as tie
 
--- src/merges.rt:120:9
 is-mode-requires : tie.Need-is-mode-requires
 is-mode-requires c κs = search needs
 
--- src/merges.rt:121:9
 returns : tie.Need-returns
 returns c = no-merges _ _ (sym (c .before .is-mode .ensures) ∙ not-true _ (c .if1 .taken))
 
--- src/merges.rt:123:12
 count-lane-faults-requires : tie.Need-count-lane-faults-requires
 count-lane-faults-requires c κs = search needs
 
--- src/merges.rt:124:9
 returns-2 : tie.Need-returns-2
 returns-2 c = odd-lane _ _ (sym (c .before .before .before .is-mode .ensures) ∙ not-false _ (c .before .before .if1 .left)) (omega (arith, c .before .count-lane-faults .ensures, c .if2 .taken))
 
--- src/merges.rt:126:27
 header-requires : tie.Need-header-requires
 header-requires c κs = search needs
 
--- src/merges.rt:126:27
 cast-has-ring : tie.Need-cast-has-ring
 cast-has-ring c = search needs
 
--- src/merges.rt:126:5
 has-ring-requires : tie.Need-has-ring-requires
 has-ring-requires c κs = can-follow _ _ (c .before .before .before .before .before .before .pre) (sym (c .before .before .before .before .is-mode .ensures) ∙ not-false _ (c .before .before .before .if1 .left)) (omega (arith, c .before .before .count-lane-faults .ensures, c .before .if2 .left)) (c .header .ensures)
 
--- src/merges.rt:116:1
 returns-3 : tie.Need-returns-3
 returns-3 c = odd-ring _ _ (sym (c .before .before .before .before .before .is-mode .ensures) ∙ not-false _ (c .before .before .before .before .if1 .left)) (omega (arith, c .before .before .before .count-lane-faults .ensures, c .before .before .if2 .left)) (c .before .header .ensures) (c .has-ring .ensures)
 

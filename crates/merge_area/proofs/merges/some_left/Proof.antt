@@ -20,51 +20,39 @@ Inv-loop sizes area n ends x₀ x = (x ≤ n) × (some-below (λ y. not (eqb (in
 abbrev μ-loop : tie.MeasureT-loop
 μ-loop sizes area n ends x₀ x = n - x
 
--- src/merges.rt:84:5
 loop-holds : tie.Need-loop-holds Inv-loop μ-loop
 loop-holds c = (omega arith, some-zero _)
 
--- src/merges.rt:85:36
 mul-into-place : tie.Need-mul-into-place Inv-loop μ-loop
 mul-into-place c = omega (arith, c .before .before .before .before .pre .1 .long, c .loop-test .taken)
 
--- src/merges.rt:85:36
 shared-slice-read-into-place : tie.Need-shared-slice-read-into-place Inv-loop μ-loop
 shared-slice-read-into-place c = omega (arith, c .before .before .before .before .before .pre .1 .long, c .before .loop-test .taken)
 
--- src/merges.rt:85:36
 cast-into-place : tie.Need-cast-into-place Inv-loop μ-loop
 cast-into-place c = omega (arith, c .before .before .before .before .before .pre .1 .each _ (c .before .loop-test .taken), c .before .before .before .before .before .pre .0 .few, c .before .before .before .before .before .pre .0 .within .chunks)
 
--- src/merges.rt:85:13
 into-place-requires : tie.Need-into-place-requires Inv-loop μ-loop
 into-place-requires c κs = (c .before .before .before .before .before .pre .0 .within, omega (arith, c .before .before .before .before .before .pre .1 .each _ (c .before .loop-test .taken), c .before .before .before .before .before .pre .0 .few, c .before .before .before .before .before .pre .0 .within .chunks))
 
--- src/merges.rt:86:12
 mul-if1 : tie.Need-mul-if1 Inv-loop μ-loop
 mul-if1 c = omega (arith, c .into-place .ensures, c .before .before .before .before .before .before .pre .1 .each _ (c .before .before .loop-test .taken), c .before .before .before .before .before .before .pre .0 .few, c .before .before .before .before .before .before .pre .0 .within .chunks, c .before .before .before .before .before .before .pre .0 .within .square)
 
--- src/merges.rt:86:12
 shared-slice-read-if1 : tie.Need-shared-slice-read-if1 Inv-loop μ-loop
 shared-slice-read-if1 c = omega (arith, c .before .into-place .ensures, c .before .before .before .before .before .before .before .pre .1 .each _ (c .before .before .before .loop-test .taken), c .before .before .before .before .before .before .before .pre .0 .few, c .before .before .before .before .before .before .before .pre .0 .long)
 
--- src/merges.rt:87:13
 returns : tie.Need-returns Inv-loop μ-loop
 returns c = some-found _ _ _ (c .before .before .before .before .loop-test .taken) (ap not (ne-eqb _ None (λ q. c .if1 .taken (left-at (c .before .before .before .before .before .before .before .before .pre .0) (c .before .before .before .before .before .before .before .before .pre .1 .each _ (c .before .before .before .before .loop-test .taken)) (c .before .before .into-place .ensures) ∙ q))))
 
--- src/merges.rt:89:9
 add-x : tie.Need-add-x Inv-loop μ-loop
 add-x c = omega arith
 
--- src/merges.rt:84:5
 loop-less : tie.Need-loop-less Inv-loop μ-loop
 loop-less c = omega arith
 
--- src/merges.rt:84:5
 loop-again : tie.Need-loop-again Inv-loop μ-loop
 loop-again c = (omega arith, none-more _ _ (c .before .before .before .before .before .loop .inv .1) (ap not (eq-eqb _ None (sym (left-at (c .before .before .before .before .before .before .before .before .pre .0) (c .before .before .before .before .before .before .before .before .pre .1 .each _ (c .before .before .before .before .loop-test .taken)) (c .before .before .into-place .ensures)) ∙ c .if1 .left))))
 
--- src/merges.rt:79:1
 returns-2 : tie.Need-returns-2 Inv-loop μ-loop
 returns-2 c = none-left _ _ _ (c .before .loop .inv .1) (omega arith)
 

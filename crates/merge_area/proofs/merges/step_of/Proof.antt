@@ -4,11 +4,9 @@ use Rattle.merge_state.specs.State.{None}
 use Rattle.merge_area.proofs.merges.step_of.Statement.{statement}
 use Rattle.merge_area.proofs.merges.step_of.Tie as tie
 
--- src/merges.rt:35:9
 returns : tie.Need-returns
 returns c = rw (eq-eqb _ None (c .if1 .taken))
 
--- src/merges.rt:31:1
 returns-2 : tie.Need-returns-2
 returns-2 c = rw (ne-eqb _ None (c .if1 .left))
 

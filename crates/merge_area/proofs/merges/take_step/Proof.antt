@@ -16,55 +16,42 @@ Inv-loop sizes area n ends₀ x₀ ends x = (x ≤ n) × Stepped (into-in sizes 
 abbrev μ-loop : tie.MeasureT-loop
 μ-loop sizes area n ends₀ x₀ ends x = n - x
 
--- src/merges.rt:46:5
 loop-holds : tie.Need-loop-holds Inv-loop μ-loop
 loop-holds c = (omega arith, stepped-none _ _ _ (c .before .before .pre .1))
 
--- src/merges.rt:47:32
 into-place-requires : tie.Need-into-place-requires Inv-loop μ-loop
 into-place-requires c κs = (c .before .before .before .before .pre .0 .within, omega (arith, c .before .before .before .before .pre .0 .few, c .before .before .before .before .pre .0 .within .chunks))
 
--- src/merges.rt:47:27
 mul-step-of : tie.Need-mul-step-of Inv-loop μ-loop
 mul-step-of c = omega (arith, c .into-place .ensures, c .before .before .before .before .before .pre .0 .within .chunks, c .before .before .before .before .before .pre .0 .within .square, c .before .before .before .before .before .pre .0 .few)
 
--- src/merges.rt:47:27
 shared-slice-read-step-of : tie.Need-shared-slice-read-step-of Inv-loop μ-loop
 shared-slice-read-step-of c = omega (arith, c .before .into-place .ensures, c .before .before .before .before .before .before .pre .0 .long, c .before .before .before .before .before .before .pre .0 .few)
 
--- src/merges.rt:47:55
 cast-step-of : tie.Need-cast-step-of Inv-loop μ-loop
 cast-step-of c = omega (arith, c .before .before .before .before .before .before .pre .0 .few, c .before .before .before .before .before .before .pre .0 .within .chunks)
 
--- src/merges.rt:47:19
 step-of-requires : tie.Need-step-of-requires Inv-loop μ-loop
 step-of-requires c κs = search needs
 
--- src/merges.rt:47:9
 mul-ends : tie.Need-mul-ends Inv-loop μ-loop
 mul-ends c = omega (arith, c .before .before .before .before .loop .inv .1 .long)
 
--- src/merges.rt:47:9
 slice-write-ends : tie.Need-slice-write-ends Inv-loop μ-loop
 slice-write-ends c = omega (arith, c .before .before .before .before .loop .inv .1 .long)
 
--- src/merges.rt:48:9
 add-x : tie.Need-add-x Inv-loop μ-loop
 add-x c = omega arith
 
--- src/merges.rt:46:5
 loop-less : tie.Need-loop-less Inv-loop μ-loop
 loop-less c = omega arith
 
--- src/merges.rt:46:5
 loop-again : tie.Need-loop-again Inv-loop μ-loop
 loop-again c = (omega arith, stepped-more _ _ _ _ (c .before .before .before .before .loop .inv .1) (c .before .before .before .before .before .before .before .pre .0 .range) (c .before .before .before .loop-test .taken) (ap (λ i. cell (c .before .before .before .before .before .before .before .args .area .now) i) (c .before .before .into-place .ensures) ∙ sym (into-at _ _ _ (c .before .before .before .before .before .before .before .pre .0 .on) (omega (arith, c .before .before .before .before .before .before .before .pre .0 .few, c .before .before .before .loop-test .taken)))) (c .step-of .ensures))
 
--- src/merges.rt:41:1
 same-length : tie.Need-same-length Inv-loop μ-loop
 same-length c = c .before .loop .inv .1 .same
 
--- src/merges.rt:41:1
 returns : tie.Need-returns Inv-loop μ-loop
 returns c = stepped-done _ _ (c .before .loop .inv .1) (omega arith)
 

@@ -3,11 +3,9 @@ use borrow.Author.Tests.{eq-eqb, ne-eqb}
 use Rattle.merge_loading.proofs.bare.flag_of.Statement.{statement}
 use Rattle.merge_loading.proofs.bare.flag_of.Tie as tie
 
--- src/bare.rt:35:9
 returns : tie.Need-returns
 returns c = rw (ne-eqb _ 0 (c .if1 .taken))
 
--- src/bare.rt:31:1
 returns-2 : tie.Need-returns-2
 returns-2 c = rw (eq-eqb _ 0 (c .if1 .left))
 

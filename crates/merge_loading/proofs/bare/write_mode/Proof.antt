@@ -4,35 +4,27 @@ use borrow.Author.Needs.{needs}
 use Rattle.merge_loading.proofs.bare.write_mode.Statement.{statement}
 use Rattle.merge_loading.proofs.bare.write_mode.Tie as tie
 
--- src/bare.rt:45:9
 flag-of-requires : tie.Need-flag-of-requires
 flag-of-requires c κs = search needs
 
--- src/bare.rt:46:21
 into-place-requires : tie.Need-into-place-requires
 into-place-requires c κs = search needs
 
--- src/bare.rt:46:5
 fill-with-requires : tie.Need-fill-with-requires
 fill-with-requires c κs = search needs
 
--- src/bare.rt:47:10
 head-place-requires : tie.Need-head-place-requires
 head-place-requires c κs = search needs
 
--- src/bare.rt:47:5
 mul-area : tie.Need-mul-area
 mul-area c = search needs
 
--- src/bare.rt:47:5
 slice-write-area : tie.Need-slice-write-area
 slice-write-area c = search needs
 
--- src/bare.rt:41:1
 same-length : tie.Need-same-length
 same-length c = search needs
 
--- src/bare.rt:41:1
 returns : tie.Need-returns
 unfolding mode-area
 returns c = rw (c .before .before .before .fill-with .ensures, c .head-place .ensures, c .before .before .before .before .before .before .flag-of .ensures, c .before .before .before .before .into-place .ensures)

@@ -5,23 +5,18 @@ use borrow.Author.Needs.{needs}
 use Rattle.merge_loading.proofs.entries.load.Statement.{statement}
 use Rattle.merge_loading.proofs.entries.load.Tie as tie
 
--- src/entries.rt:67:5
 write-mode-requires : tie.Need-write-mode-requires
 write-mode-requires c κs = search needs
 
--- src/entries.rt:68:5
 write-bare-requires : tie.Need-write-bare-requires
 write-bare-requires c κs = search needs
 
--- src/entries.rt:69:5
 list-modules-requires : tie.Need-list-modules-requires
 list-modules-requires c κs = load-list (c .before .before .before .before .before .before .before .before .before .before .before .before .before .before .before .pre) (rw (← c .before .before .before .before .before .before .before .write-mode .ensures) (c .before .before .before .write-bare .ensures))
 
--- src/entries.rt:53:1
 same-length : tie.Need-same-length
 same-length c = search needs
 
--- src/entries.rt:53:1
 returns : tie.Need-returns
 unfolding loaded-area
 returns c = rw (← c .before .before .before .before .before .before .before .before .before .before .write-mode .ensures, ← c .before .before .before .before .before .before .write-bare .ensures) (c .before .before .list-modules .ensures)

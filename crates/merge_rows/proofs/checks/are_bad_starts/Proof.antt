@@ -4,47 +4,36 @@ use borrow.Author.Needs.{needs}
 use Rattle.merge_rows.proofs.checks.are_bad_starts.Statement.{statement}
 use Rattle.merge_rows.proofs.checks.are_bad_starts.Tie as tie
 
--- src/tests.rt:54:9
 returns : tie.Need-returns
 returns c = bad-count _ _ _ (omega arith)
 
--- src/tests.rt:56:8
 sub-if2 : tie.Need-sub-if2
 sub-if2 c = search needs
 
--- src/tests.rt:57:9
 returns-2 : tie.Need-returns-2
 returns-2 c = bad-count _ _ _ (omega arith)
 
--- src/tests.rt:59:8
 shared-slice-read-if3 : tie.Need-shared-slice-read-if3
 shared-slice-read-if3 c = search needs
 
--- src/tests.rt:60:9
 returns-3 : tie.Need-returns-3
 returns-3 c = bad-begin _ _ _ (omega arith) (c .if3 .taken)
 
--- src/tests.rt:62:8
 mul-if4 : tie.Need-mul-if4
 mul-if4 c = search needs
 
--- src/tests.rt:62:8
 shared-slice-read-if4 : tie.Need-shared-slice-read-if4
 shared-slice-read-if4 c = search needs
 
--- src/tests.rt:62:8
 cast-if4 : tie.Need-cast-if4
 cast-if4 c = omega (arith, c .shared-slice-known3 .given (c .before .before .before .before .before .before .args .n))
 
--- src/tests.rt:63:9
 returns-4 : tie.Need-returns-4
 returns-4 c = bad-end _ _ _ (omega arith) (c .before .before .if3 .left) (c .if4 .taken)
 
--- src/tests.rt:65:5
 is-falling-requires : tie.Need-is-falling-requires
 is-falling-requires c κs = search needs
 
--- src/tests.rt:50:1
 returns-5 : tie.Need-returns-5
 returns-5 c = bad-fall _ _ _ (omega arith) (c .before .before .before .if3 .left) (c .before .if4 .left) (c .is-falling .ensures)
 

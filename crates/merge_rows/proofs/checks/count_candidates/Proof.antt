@@ -17,39 +17,30 @@ Inv-loop sizes area made n₀ x₀ n x = (x ≤ made) × (n ≡ count (waits (re
 abbrev μ-loop : tie.MeasureT-loop
 μ-loop sizes area made n₀ x₀ n x = made - x
 
--- src/checks.rt:55:16
 header-requires : tie.Need-header-requires Inv-loop μ-loop
 header-requires c κs = search needs
 
--- src/checks.rt:55:16
 cast-made : tie.Need-cast-made Inv-loop μ-loop
 cast-made c = omega (arith, c .header .ensures, c .before .before .pre .fits, c .before .before .pre .within .chunks)
 
--- src/checks.rt:58:5
 loop-holds : tie.Need-loop-holds Inv-loop μ-loop
 loop-holds c = (omega arith, sym (count-none _))
 
--- src/checks.rt:59:14
 count-waiting-requires : tie.Need-count-waiting-requires Inv-loop μ-loop
 count-waiting-requires c κs = (c .before .before .before .before .pre, omega (arith, c .loop-test .taken, c .before .before .header .ensures, c .before .before .before .before .pre .fits))
 
--- src/checks.rt:59:9
 add-n : tie.Need-add-n Inv-loop μ-loop
 add-n c = omega (arith, waiting-more _ _ _ (c .before .before .loop .inv .1) (c .count-waiting .ensures), count-le (waits (read (c .before .before .before .before .before .args .sizes) (c .before .before .before .before .before .args .area .now))) (c .before .before .loop .x + 1), c .before .before .before .header .ensures, c .before .before .before .before .before .pre .fits, c .before .before .before .before .before .pre .within .chunks)
 
--- src/checks.rt:60:9
 add-x : tie.Need-add-x Inv-loop μ-loop
 add-x c = omega arith
 
--- src/checks.rt:58:5
 loop-less : tie.Need-loop-less Inv-loop μ-loop
 loop-less c = omega arith
 
--- src/checks.rt:58:5
 loop-again : tie.Need-loop-again Inv-loop μ-loop
 loop-again c = (omega arith, waiting-more _ _ _ (c .before .before .loop .inv .1) (c .count-waiting .ensures))
 
--- src/checks.rt:51:1
 returns : tie.Need-returns Inv-loop μ-loop
 returns c = let e : c .before .loop .x ≡ cell (c .before .before .before .before .args .area .now) (head (c .before .before .before .before .args .sizes) 1) = omega (arith, c .before .before .header .ensures) in c .before .loop .inv .1 ∙ ap (count (waits (read (c .before .before .before .before .args .sizes) (c .before .before .before .before .args .area .now)))) e
 

@@ -4,15 +4,12 @@ use borrow.Author.Needs.{needs}
 use Rattle.merge_rows.proofs.checks.count_waiting.Statement.{statement}
 use Rattle.merge_rows.proofs.checks.count_waiting.Tie as tie
 
--- src/checks.rt:44:8
 is-waiting-requires : tie.Need-is-waiting-requires
 is-waiting-requires c κs = search needs
 
--- src/checks.rt:45:9
 returns : tie.Need-returns
 returns c = one-waits (c .before .is-waiting .ensures) (c .if1 .taken)
 
--- src/checks.rt:40:1
 returns-2 : tie.Need-returns-2
 returns-2 c = none-waits (c .before .is-waiting .ensures) (c .if1 .left)
 

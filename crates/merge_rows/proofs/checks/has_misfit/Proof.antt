@@ -3,11 +3,9 @@ use borrow.Author.Needs.{needs}
 use Rattle.merge_rows.proofs.checks.has_misfit.Statement.{statement}
 use Rattle.merge_rows.proofs.checks.has_misfit.Tie as tie
 
--- src/tests.rt:31:9
 count-faults-requires : tie.Need-count-faults-requires
 count-faults-requires c κs = search needs
 
--- src/tests.rt:28:1
 returns : tie.Need-returns
 returns c = misfit-is _ _ _ (c .count-faults .ensures .value)
 

@@ -16,48 +16,37 @@ Inv-loop starts n i₀ i = (i ≤ n) × (some-below (λ k. ltb (getD starts (k +
 abbrev μ-loop : tie.MeasureT-loop
 μ-loop starts n i₀ i = n - i
 
--- src/tests.rt:40:5
 loop-holds : tie.Need-loop-holds Inv-loop μ-loop
 loop-holds c = (omega arith, some-zero _)
 
--- src/tests.rt:41:19
 add-if1 : tie.Need-add-if1 Inv-loop μ-loop
 add-if1 c = omega arith
 
--- src/tests.rt:41:12
 mul-if1 : tie.Need-mul-if1 Inv-loop μ-loop
 mul-if1 c = omega arith
 
--- src/tests.rt:41:12
 shared-slice-read-if1 : tie.Need-shared-slice-read-if1 Inv-loop μ-loop
 shared-slice-read-if1 c = omega arith
 
--- src/tests.rt:41:28
 mul-if1-2 : tie.Need-mul-if1-2 Inv-loop μ-loop
 mul-if1-2 c = omega arith
 
--- src/tests.rt:41:28
 shared-slice-read-if1-2 : tie.Need-shared-slice-read-if1-2 Inv-loop μ-loop
 shared-slice-read-if1-2 c = omega arith
 
--- src/tests.rt:42:13
 returns : tie.Need-returns Inv-loop μ-loop
 unfolding falling
 returns c = some-found _ _ _ (c .before .before .before .loop-test .taken) (lt-ltb _ _ (c .if1 .taken))
 
--- src/tests.rt:44:9
 add-i : tie.Need-add-i Inv-loop μ-loop
 add-i c = omega arith
 
--- src/tests.rt:40:5
 loop-less : tie.Need-loop-less Inv-loop μ-loop
 loop-less c = omega arith
 
--- src/tests.rt:40:5
 loop-again : tie.Need-loop-again Inv-loop μ-loop
 loop-again c = (omega arith, none-more _ _ (c .before .before .before .before .loop .inv .1) (le-ltb _ _ (c .if1 .left)))
 
--- src/tests.rt:35:1
 returns-2 : tie.Need-returns-2 Inv-loop μ-loop
 unfolding falling
 returns-2 c = none-left _ _ _ (c .before .loop .inv .1) (omega arith)

@@ -4,15 +4,12 @@ use borrow.Author.Needs.{needs}
 use Rattle.merge_rows.proofs.checks.is_full.Statement.{statement}
 use Rattle.merge_rows.proofs.checks.is_full.Tie as tie
 
--- src/tests.rt:24:22
 header-requires : tie.Need-header-requires
 header-requires c κs = search needs
 
--- src/tests.rt:24:22
 cast-result : tie.Need-cast-result
 cast-result c = search needs
 
--- src/tests.rt:20:1
 returns : tie.Need-returns
 returns c = rw (pairs-length, c .before .header .ensures) refl
 

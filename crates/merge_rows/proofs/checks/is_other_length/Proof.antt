@@ -2,19 +2,15 @@ use borrow.Author.Tests.{eq-eqb, ne-eqb}
 use Rattle.merge_rows.proofs.checks.is_other_length.Statement.{statement}
 use Rattle.merge_rows.proofs.checks.is_other_length.Tie as tie
 
--- src/tests.rt:52:9
 returns : tie.Need-returns
 returns c = rw (ne-eqb _ _ (c .if1 .taken))
 
--- src/tests.rt:55:9
 returns-2 : tie.Need-returns-2
 returns-2 c = rw (eq-eqb _ _ (c .before .if1 .left), ne-eqb _ _ (c .if2 .taken))
 
--- src/tests.rt:58:9
 returns-3 : tie.Need-returns-3
 returns-3 c = rw (eq-eqb _ _ (c .before .before .if1 .left), eq-eqb _ _ (c .before .if2 .left), ne-eqb _ _ (c .if3 .taken))
 
--- src/tests.rt:48:1
 returns-4 : tie.Need-returns-4
 returns-4 c = rw (eq-eqb _ _ (c .before .before .if1 .left), eq-eqb _ _ (c .before .if2 .left), eq-eqb _ _ (c .if3 .left))
 

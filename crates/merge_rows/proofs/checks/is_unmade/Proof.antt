@@ -3,11 +3,9 @@ use borrow.Author.Needs.{needs}
 use Rattle.merge_rows.proofs.checks.is_unmade.Statement.{statement}
 use Rattle.merge_rows.proofs.checks.is_unmade.Tie as tie
 
--- src/tests.rt:16:5
 header-requires : tie.Need-header-requires
 header-requires c κs = search needs
 
--- src/tests.rt:12:1
 returns : tie.Need-returns
 returns c = rw (c .before .header .ensures) refl
 

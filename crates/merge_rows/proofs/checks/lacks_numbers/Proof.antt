@@ -2,31 +2,24 @@ use borrow.Author.Needs.{needs}
 use Rattle.merge_rows.proofs.checks.lacks_numbers.Statement.{statement}
 use Rattle.merge_rows.proofs.checks.lacks_numbers.Tie as tie
 
--- src/tests.rt:68:19
 header-requires : tie.Need-header-requires
 header-requires c κs = search needs
 
--- src/tests.rt:68:19
 cast-initial : tie.Need-cast-initial
 cast-initial c = search needs
 
--- src/tests.rt:69:19
 header-requires-2 : tie.Need-header-requires-2
 header-requires-2 c κs = search needs
 
--- src/tests.rt:69:19
 cast-created : tie.Need-cast-created
 cast-created c = search needs
 
--- src/tests.rt:70:20
 add-result : tie.Need-add-result
 add-result c = search needs
 
--- src/tests.rt:70:20
 add-result-2 : tie.Need-add-result-2
 add-result-2 c = search needs
 
--- src/tests.rt:64:1
 returns : tie.Need-returns
 returns c = rw (c .before .before .header .ensures, c .before .header2 .ensures)
 

@@ -17,43 +17,33 @@ Inv-loop sizes area l i₀ i = (i ≤ length l) × (some-below (λ k. gone (read
 abbrev μ-loop : tie.MeasureT-loop
 μ-loop sizes area l i₀ i = length l - i
 
--- src/checks.rt:71:5
 loop-holds : tie.Need-loop-holds Inv-loop μ-loop
 loop-holds c = (omega arith, some-zero _)
 
--- src/checks.rt:72:53
 mul-is-gone : tie.Need-mul-is-gone Inv-loop μ-loop
 mul-is-gone c = omega arith
 
--- src/checks.rt:72:53
 shared-slice-read-is-gone : tie.Need-shared-slice-read-is-gone Inv-loop μ-loop
 shared-slice-read-is-gone c = omega arith
 
--- src/checks.rt:72:53
 cast-is-gone : tie.Need-cast-is-gone Inv-loop μ-loop
 cast-is-gone c = omega (arith, c .shared-slice-known3 .given (c .before .before .loop .i))
 
--- src/checks.rt:72:12
 is-gone-requires : tie.Need-is-gone-requires Inv-loop μ-loop
 is-gone-requires c κs = c .before .before .before .before .before .pre
 
--- src/checks.rt:73:13
 returns : tie.Need-returns Inv-loop μ-loop
 returns c = some-found _ _ _ (c .before .before .before .loop-test .taken) (sym (c .before .is-gone .ensures) ∙ c .if1 .taken)
 
--- src/checks.rt:75:9
 add-i : tie.Need-add-i Inv-loop μ-loop
 add-i c = omega arith
 
--- src/checks.rt:71:5
 loop-less : tie.Need-loop-less Inv-loop μ-loop
 loop-less c = omega arith
 
--- src/checks.rt:71:5
 loop-again : tie.Need-loop-again Inv-loop μ-loop
 loop-again c = (omega arith, none-more _ _ (c .before .before .before .before .loop .inv .1) (sym (c .before .is-gone .ensures) ∙ c .if1 .left))
 
--- src/checks.rt:66:1
 returns-2 : tie.Need-returns-2 Inv-loop μ-loop
 returns-2 c = none-left _ _ _ (c .before .loop .inv .1) (omega arith)
 

@@ -7,28 +7,22 @@ use borrow.Author.Needs.{needs}
 use Rattle.merge_rows.proofs.rows.calc_row.Statement.{statement}
 use Rattle.merge_rows.proofs.rows.calc_row.Tie as tie
 
--- src/rows.rt:100:9
 are-bad-starts-requires : tie.Need-are-bad-starts-requires
 are-bad-starts-requires c κs = search needs
 
--- src/rows.rt:101:9
 standing-row-requires : tie.Need-standing-row-requires
 standing-row-requires c κs = search needs
 
--- src/rows.rt:103:9
 returns : tie.Need-returns
 returns c = early _ _ _ (calc-stand _ _ _ _ (c .before .before .are-bad-starts .ensures) (c .before .standing-row .ensures)) (c .if1 .taken)
 
--- src/rows.rt:105:8
 has-misfit-requires : tie.Need-has-misfit-requires
 has-misfit-requires c κs = search needs
 
--- src/rows.rt:106:9
 returns-2 : tie.Need-returns-2
 unfolding later
 returns-2 c = late _ _ _ _ _ (calc-stand _ _ _ _ (c .before .before .before .before .are-bad-starts .ensures) (c .before .before .before .standing-row .ensures)) (c .before .before .if1 .left) (fits-here _ _ [] (sym (c .before .has-misfit .ensures) ∙ c .if2 .taken))
 
--- src/rows.rt:96:1
 returns-3 : tie.Need-returns-3
 unfolding later
 returns-3 c = late _ _ _ _ _ (calc-stand _ _ _ _ (c .before .before .before .before .are-bad-starts .ensures) (c .before .before .before .standing-row .ensures)) (c .before .before .if1 .left) (fits-next _ _ _ [] (sym (c .before .has-misfit .ensures) ∙ c .if2 .left) fits-none)

@@ -3,23 +3,18 @@ use borrow.Author.Needs.{needs}
 use Rattle.merge_rows.proofs.rows.find_chunk.Statement.{statement}
 use Rattle.merge_rows.proofs.rows.find_chunk.Tie as tie
 
--- src/rows.rt:24:16
 header-requires : tie.Need-header-requires
 header-requires c κs = search needs
 
--- src/rows.rt:24:16
 cast-sets : tie.Need-cast-sets
 cast-sets c = search needs
 
--- src/rows.rt:25:49
 from-list-requires : tie.Need-from-list-requires
 from-list-requires c κs = search needs
 
--- src/rows.rt:25:5
 chunk-of-set-requires : tie.Need-chunk-of-set-requires
 chunk-of-set-requires c κs = search needs
 
--- src/rows.rt:20:1
 returns : tie.Need-returns
 returns c = found-chunk (c .before .before .before .before .before .args .sizes) _ (c .before .before .header .ensures) (c .before .from-list .ensures) (c .chunk-of-set .ensures)
 

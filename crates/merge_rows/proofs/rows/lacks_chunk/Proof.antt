@@ -4,19 +4,15 @@ use borrow.Author.Needs.{needs}
 use Rattle.merge_rows.proofs.rows.lacks_chunk.Statement.{statement}
 use Rattle.merge_rows.proofs.rows.lacks_chunk.Tie as tie
 
--- src/rows.rt:34:9
 returns : tie.Need-returns
 returns c = rw (ne-eqb _ _ (c .if1 .taken)) refl
 
--- src/rows.rt:36:21
 header-requires : tie.Need-header-requires
 header-requires c κs = search needs
 
--- src/rows.rt:36:21
 cast-result : tie.Need-cast-result
 cast-result c = search needs
 
--- src/rows.rt:29:1
 returns-2 : tie.Need-returns-2
 returns-2 c = rw (eq-eqb _ _ (c .before .before .if1 .left), c .before .header .ensures) refl
 

@@ -7,60 +7,46 @@ use borrow.Author.Needs.{needs}
 use Rattle.merge_rows.proofs.rows.pass_row.Statement.{statement}
 use Rattle.merge_rows.proofs.rows.pass_row.Tie as tie
 
--- src/rows.rt:180:9
 standing-row-requires : tie.Need-standing-row-requires
 standing-row-requires c κs = search needs
 
--- src/rows.rt:182:9
 returns : tie.Need-returns
 unfolding over-lists bad-lists
 returns c = early _ _ _ (c .before .standing-row .ensures) (c .if1 .taken)
 
--- src/rows.rt:184:9
 count-candidates-requires : tie.Need-count-candidates-requires
 count-candidates-requires c κs = stood _ _ _ _ (c .before .standing-row .ensures) (c .if1 .left) .headed
 
--- src/rows.rt:185:8
 is-other-length-requires : tie.Need-is-other-length-requires
 is-other-length-requires c κs = search needs
 
--- src/rows.rt:186:9
 returns-2 : tie.Need-returns-2
 returns-2 c = pass-lists _ _ _ _ _ _ _ _ (c .before .before .before .before .standing-row .ensures) (c .before .before .before .if1 .left) (c .before .before .count-candidates .ensures) (c .before .is-other-length .ensures) (c .if2 .taken)
 
--- src/rows.rt:188:19
 header-requires : tie.Need-header-requires
 header-requires c κs = let s = stood _ _ _ _ (c .before .before .before .before .standing-row .ensures) (c .before .before .before .if1 .left) .headed in (s .within, s .long, omega arith)
 
--- src/rows.rt:188:19
 cast-initial : tie.Need-cast-initial
 cast-initial c = search needs
 
--- src/rows.rt:189:8
 has-misfit-requires : tie.Need-has-misfit-requires
 has-misfit-requires c κs = search needs
 
--- src/rows.rt:190:9
 returns-3 : tie.Need-returns-3
 returns-3 c = pass-misfit _ _ _ _ _ _ _ _ (c .before .before .before .before .before .before .before .standing-row .ensures) (c .before .before .before .before .before .before .if1 .left) (c .before .before .before .before .before .count-candidates .ensures) (c .before .before .before .before .is-other-length .ensures) _ (c .before .before .before .if2 .left) (c .before .before .header .ensures) (c .before .has-misfit .ensures) (c .if3 .taken)
 
--- src/rows.rt:192:8
 some-gone-requires : tie.Need-some-gone-requires
 some-gone-requires c κs = stood _ _ _ _ (c .before .before .before .before .before .before .before .standing-row .ensures) (c .before .before .before .before .before .before .if1 .left) .headed
 
--- src/rows.rt:193:9
 returns-4 : tie.Need-returns-4
 returns-4 c = pass-gone _ _ _ _ _ _ _ _ (c .before .before .before .before .before .before .before .before .before .standing-row .ensures) (c .before .before .before .before .before .before .before .before .if1 .left) (c .before .before .before .before .before .before .before .count-candidates .ensures) (c .before .before .before .before .before .before .is-other-length .ensures) _ (c .before .before .before .before .before .if2 .left) (c .before .before .before .before .header .ensures) (c .before .before .before .has-misfit .ensures) (c .before .before .if3 .left) (c .before .some-gone .ensures) (c .if4 .taken)
 
--- src/rows.rt:195:8
 lacks-numbers-requires : tie.Need-lacks-numbers-requires
 lacks-numbers-requires c κs = let s = stood _ _ _ _ (c .before .before .before .before .before .before .before .before .before .standing-row .ensures) (c .before .before .before .before .before .before .before .before .if1 .left) .headed in (s, few-candidates _ _ s (c .before .before .before .before .before .before .before .count-candidates .ensures))
 
--- src/rows.rt:196:9
 returns-5 : tie.Need-returns-5
 returns-5 c = pass-room _ _ _ _ _ _ _ _ (c .before .before .before .before .before .before .before .before .before .before .before .standing-row .ensures) (c .before .before .before .before .before .before .before .before .before .before .if1 .left) (c .before .before .before .before .before .before .before .before .before .count-candidates .ensures) (c .before .before .before .before .before .before .before .before .is-other-length .ensures) _ (c .before .before .before .before .before .before .before .if2 .left) (c .before .before .before .before .before .before .header .ensures) (c .before .before .before .before .before .has-misfit .ensures) (c .before .before .before .before .if3 .left) (c .before .before .before .some-gone .ensures) 18 (c .before .before .if4 .left) (c .before .lacks-numbers .ensures) (fits-here _ 18 _ (c .if5 .taken))
 
--- src/rows.rt:170:1
 returns-6 : tie.Need-returns-6
 returns-6 c = pass-room _ _ _ _ _ _ _ _ (c .before .before .before .before .before .before .before .before .before .before .before .standing-row .ensures) (c .before .before .before .before .before .before .before .before .before .before .if1 .left) (c .before .before .before .before .before .before .before .before .before .count-candidates .ensures) (c .before .before .before .before .before .before .before .before .is-other-length .ensures) _ (c .before .before .before .before .before .before .before .if2 .left) (c .before .before .before .before .before .before .header .ensures) (c .before .before .before .before .before .has-misfit .ensures) (c .before .before .before .before .if3 .left) (c .before .before .before .some-gone .ensures) 0 (c .before .before .if4 .left) (c .before .lacks-numbers .ensures) (fits-next _ 18 0 _ (c .if5 .left) fits-none)
 

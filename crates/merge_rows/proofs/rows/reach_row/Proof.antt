@@ -8,34 +8,27 @@ use borrow.Author.Needs.{needs}
 use Rattle.merge_rows.proofs.rows.reach_row.Statement.{statement}
 use Rattle.merge_rows.proofs.rows.reach_row.Tie as tie
 
--- src/rows.rt:133:9
 standing-row-requires : tie.Need-standing-row-requires
 standing-row-requires c κs = search needs
 
--- src/rows.rt:135:9
 returns : tie.Need-returns
 unfolding over-lists bad-lists
 returns c = early _ _ _ (c .before .standing-row .ensures) (c .if1 .taken)
 
--- src/rows.rt:137:8
 is-unmade-requires : tie.Need-is-unmade-requires
 is-unmade-requires c κs = stood _ _ _ _ (c .before .standing-row .ensures) (c .if1 .left) .headed
 
--- src/rows.rt:138:9
 returns-2 : tie.Need-returns-2
 unfolding over-lists bad-lists later
 returns-2 c = late _ _ _ _ _ (c .before .before .before .standing-row .ensures) (c .before .before .if1 .left) (fits-here _ _ _ (or-left _ _ (sym (c .before .is-unmade .ensures) ∙ c .if2 .taken)))
 
--- src/rows.rt:140:8
 is-unmade-requires-2 : tie.Need-is-unmade-requires-2
 is-unmade-requires-2 c κs = stood _ _ _ _ (c .before .before .before .standing-row .ensures) (c .before .before .if1 .left) .headed
 
--- src/rows.rt:141:9
 returns-3 : tie.Need-returns-3
 unfolding over-lists bad-lists later
 returns-3 c = late _ _ _ _ _ (c .before .before .before .before .before .standing-row .ensures) (c .before .before .before .before .if1 .left) (fits-here _ _ _ (or-right (unmade (read (c .before .before .before .before .before .before .before .args .sizes) (c .before .before .before .before .before .before .before .args .area .now)) (c .before .before .before .before .before .before .before .args .from .0)) _ (sym (c .before .is-unmade2 .ensures) ∙ c .if3 .taken)))
 
--- src/rows.rt:130:1
 returns-4 : tie.Need-returns-4
 unfolding over-lists bad-lists later
 returns-4 c = late _ _ _ _ _ (c .before .before .before .before .before .standing-row .ensures) (c .before .before .before .before .if1 .left) (fits-next _ _ _ [] (or-false _ _ (sym (c .before .before .before .is-unmade .ensures) ∙ c .before .before .if2 .left) (sym (c .before .is-unmade2 .ensures) ∙ c .if3 .left)) fits-none)

@@ -3,11 +3,9 @@ use borrow.Author.Tests.{eq-eqb, ne-eqb}
 use Rattle.merge_warning.proofs.counted.is_named.Statement.{statement}
 use Rattle.merge_warning.proofs.counted.is_named.Tie as tie
 
--- src/counted.rt:21:9
 returns : tie.Need-returns
 returns c = rw (eq-eqb _ 0 (c .if1 .taken))
 
--- src/counted.rt:17:1
 returns-2 : tie.Need-returns-2
 returns-2 c = rw (ne-eqb _ 0 (c .if1 .left))
 

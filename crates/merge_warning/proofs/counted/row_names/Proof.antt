@@ -15,55 +15,42 @@ Inv-loop flags c n ends source i from j₀ j = (j ≤ n) × (some-below (names f
 abbrev μ-loop : tie.MeasureT-loop
 μ-loop flags c n ends source i from j₀ j = n - j
 
--- src/counted.rt:31:16
 mul-from : tie.Need-mul-from Inv-loop μ-loop
 mul-from c = omega (arith, c .before .before .pre .0)
 
--- src/counted.rt:33:5
 loop-holds : tie.Need-loop-holds Inv-loop μ-loop
 loop-holds c = (omega arith, some-zero _)
 
--- src/counted.rt:34:27
 add-is-named : tie.Need-add-is-named Inv-loop μ-loop
 add-is-named c = omega (arith, c .before .before .before .before .pre .0)
 
--- src/counted.rt:34:21
 mul-is-named : tie.Need-mul-is-named Inv-loop μ-loop
 mul-is-named c = omega (arith, c .before .before .before .before .pre .0)
 
--- src/counted.rt:34:21
 shared-slice-read-is-named : tie.Need-shared-slice-read-is-named Inv-loop μ-loop
 shared-slice-read-is-named c = omega (arith, c .before .before .before .before .before .pre .0)
 
--- src/counted.rt:34:38
 mul-is-named-2 : tie.Need-mul-is-named-2 Inv-loop μ-loop
 mul-is-named-2 c = omega (arith, c .before .before .before .before .before .pre .1)
 
--- src/counted.rt:34:38
 shared-slice-read-is-named-2 : tie.Need-shared-slice-read-is-named-2 Inv-loop μ-loop
 shared-slice-read-is-named-2 c = omega (arith, c .before .before .before .before .before .before .pre .1)
 
--- src/counted.rt:34:12
 is-named-requires : tie.Need-is-named-requires Inv-loop μ-loop
 is-named-requires c κs = search needs
 
--- src/counted.rt:35:13
 returns : tie.Need-returns Inv-loop μ-loop
 returns c = some-found _ _ _ (c .before .before .before .before .loop-test .taken) (sym (c .before .is-named .ensures ∙ names-at _ _ _ _ _ _ _) ∙ c .if1 .taken)
 
--- src/counted.rt:37:9
 add-j : tie.Need-add-j Inv-loop μ-loop
 add-j c = omega arith
 
--- src/counted.rt:33:5
 loop-less : tie.Need-loop-less Inv-loop μ-loop
 loop-less c = omega arith
 
--- src/counted.rt:33:5
 loop-again : tie.Need-loop-again Inv-loop μ-loop
 loop-again c = (omega arith, none-more _ _ (c .before .before .before .before .before .loop .inv .1) (sym (c .before .is-named .ensures ∙ names-at _ _ _ _ _ _ _) ∙ c .if1 .left))
 
--- src/counted.rt:27:1
 returns-2 : tie.Need-returns-2 Inv-loop μ-loop
 returns-2 c = none-left _ _ _ (c .before .loop .inv .1) (omega arith)
 

@@ -14,31 +14,24 @@ Inv-loop flags c n ends source target marks i₀ i = (i ≤ n) × (some-below (e
 abbrev μ-loop : tie.MeasureT-loop
 μ-loop flags c n ends source target marks i₀ i = n - i
 
--- src/counted.rt:80:5
 loop-holds : tie.Need-loop-holds Inv-loop μ-loop
 loop-holds c = (omega arith, some-zero _)
 
--- src/counted.rt:81:12
 end-hits-requires : tie.Need-end-hits-requires Inv-loop μ-loop
 end-hits-requires c κs = (c .before .before .before .before .before .pre .0, c .before .before .before .before .before .pre .1, c .loop-test .taken)
 
--- src/counted.rt:82:13
 returns : tie.Need-returns Inv-loop μ-loop
 returns c = some-found _ _ _ (c .before .before .loop-test .taken) (sym (c .before .end-hits .ensures) ∙ c .if1 .taken)
 
--- src/counted.rt:84:9
 add-i : tie.Need-add-i Inv-loop μ-loop
 add-i c = omega arith
 
--- src/counted.rt:80:5
 loop-less : tie.Need-loop-less Inv-loop μ-loop
 loop-less c = omega arith
 
--- src/counted.rt:80:5
 loop-again : tie.Need-loop-again Inv-loop μ-loop
 loop-again c = (omega arith, none-more _ _ (c .before .before .before .loop .inv .1) (sym (c .before .end-hits .ensures) ∙ c .if1 .left))
 
--- src/counted.rt:67:1
 returns-2 : tie.Need-returns-2 Inv-loop μ-loop
 returns-2 c = none-left _ _ _ (c .before .loop .inv .1) (omega arith)
 

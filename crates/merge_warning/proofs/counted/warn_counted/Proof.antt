@@ -8,39 +8,30 @@ use borrow.Author.Needs.{needs}
 use Rattle.merge_warning.proofs.counted.warn_counted.Statement.{statement}
 use Rattle.merge_warning.proofs.counted.warn_counted.Tie as tie
 
--- src/counted.rt:111:9
 slice-aggregate-closure-ends : tie.Need-slice-aggregate-closure-ends
 slice-aggregate-closure-ends c = search needs
 
--- src/counted.rt:112:9
 slice-aggregate-closure-ends-2 : tie.Need-slice-aggregate-closure-ends-2
 slice-aggregate-closure-ends-2 c = search needs
 
--- src/counted.rt:103:5
 closure-ends-requires : tie.Need-closure-ends-requires
 closure-ends-requires c κs = record { rows = end-rows (c .before .before .before .before .pre); cells = omega (arith, c .before .before .before .before .pre .ask .narrow, c .before .before .before .before .pre .ask .few); room = omega (arith, c .before .before .before .before .pre .ask .narrow, c .before .before .before .before .pre .ask .few); first = c .before .before .before .before .pre .ask .first; second = c .before .before .before .before .pre .ask .second; fresh = λ x h. omega (arith, zeros 1024 x) }
 
--- src/counted.rt:114:8
 mul-if1 : tie.Need-mul-if1
 mul-if1 c = search needs
 
--- src/counted.rt:114:8
 array-read-if1 : tie.Need-array-read-if1
 array-read-if1 c = search needs
 
--- src/counted.rt:115:9
 returns : tie.Need-returns
 returns c = warns-target _ _ _ _ _ _ (c .before .before .before .before .before .before .before .before .pre .ask .second) (λ x h. zeros 1024 x) (omega (arith, c .before .before .before .before .before .before .before .before .pre .ask .narrow, c .before .before .before .before .before .before .before .before .pre .ask .few)) (c .before .before .before .closure-ends .ensures) (c .if1 .taken)
 
--- src/counted.rt:117:53
 slice-aggregate-some-end-hit : tie.Need-slice-aggregate-some-end-hit
 slice-aggregate-some-end-hit c = search needs
 
--- src/counted.rt:117:5
 some-end-hit-requires : tie.Need-some-end-hit-requires
 some-end-hit-requires c κs = search needs
 
--- src/counted.rt:90:1
 returns-2 : tie.Need-returns-2
 returns-2 c = warns-member _ _ _ _ _ _ (c .before .before .before .before .before .before .before .before .before .before .pre .ask .second) (λ x h. zeros 1024 x) (omega (arith, c .before .before .before .before .before .before .before .before .before .before .pre .ask .narrow, c .before .before .before .before .before .before .before .before .before .before .pre .ask .few)) (c .before .before .before .before .before .closure-ends .ensures) (c .before .before .if1 .left) (c .some-end-hit .ensures ∙ end-hits-are _ _ _ _ _ _ _ (c .before .before .before .before .before .before .before .before .before .before .pre .each))
 

@@ -15,51 +15,39 @@ Inv-loop area at stride r counts e out₀ x₀ out x = (x ≤ r) × Written (λ 
 abbrev μ-loop : tie.MeasureT-loop
 μ-loop area at stride r counts e out₀ x₀ out x = r - x
 
--- src/fronts.rt:46:5
 fill-with-requires : tie.Need-fill-with-requires Inv-loop μ-loop
 fill-with-requires c κs = omega arith
 
--- src/fronts.rt:48:5
 loop-holds : tie.Need-loop-holds Inv-loop μ-loop
 loop-holds c = (omega arith, fronts-none (c .before .before .before .before .before .before .before .pre) (c .before .before .fill-with .ensures))
 
--- src/fronts.rt:49:21
 add-front : tie.Need-add-front Inv-loop μ-loop
 add-front c = omega arith
 
--- src/fronts.rt:49:37
 mul-front : tie.Need-mul-front Inv-loop μ-loop
 mul-front c = omega arith
 
--- src/fronts.rt:49:37
 shared-slice-read-front : tie.Need-shared-slice-read-front Inv-loop μ-loop
 shared-slice-read-front c = omega arith
 
--- src/fronts.rt:49:48
 cast-front : tie.Need-cast-front Inv-loop μ-loop
 cast-front c = omega arith
 
--- src/fronts.rt:49:9
 front-requires : tie.Need-front-requires Inv-loop μ-loop
 front-requires c κs = fronts-can (c .before .before .before .before .before .before .before .before .before .before .before .pre) (c .before .before .before .before .before .before .fill-with .ensures) (c .before .before .before .loop .inv .1) (c .before .before .loop-test .taken)
 
--- src/fronts.rt:50:9
 add-x : tie.Need-add-x Inv-loop μ-loop
 add-x c = omega arith
 
--- src/fronts.rt:48:5
 loop-less : tie.Need-loop-less Inv-loop μ-loop
 loop-less c = omega arith
 
--- src/fronts.rt:48:5
 loop-again : tie.Need-loop-again Inv-loop μ-loop
 loop-again c = (omega arith, fronts-more (c .before .before .before .before .before .before .before .before .before .before .before .before .before .before .pre) (c .before .before .before .before .before .before .before .before .before .fill-with .ensures) (c .before .before .before .before .before .before .loop .inv .1) (c .before .before .before .before .before .loop-test .taken) (c .before .before .front .ensures))
 
--- src/fronts.rt:34:1
 same-length : tie.Need-same-length Inv-loop μ-loop
 same-length c = c .before .loop .inv .1 .long ∙ c .before .before .before .before .fill-with .kept .0
 
--- src/fronts.rt:34:1
 returns : tie.Need-returns Inv-loop μ-loop
 returns c = fronts-done (c .before .before .before .before .before .before .before .before .before .pre) (c .before .before .before .before .fill-with .ensures) (c .before .loop .inv .1) (omega arith)
 

@@ -7,35 +7,27 @@ use borrow.Author.Needs.{needs}
 use Rattle.move_slots.proofs.fronts.front.Statement.{statement}
 use Rattle.move_slots.proofs.fronts.front.Tie as tie
 
--- src/fronts.rt:24:9
 returns : tie.Need-returns
 returns c = front-empty _ (c .if1 .taken)
 
--- src/fronts.rt:26:35
 read-lanes-requires : tie.Need-read-lanes-requires
 read-lanes-requires c κs = search needs
 
--- src/fronts.rt:26:9
 single-bit-requires : tie.Need-single-bit-requires
 single-bit-requires c κs = search needs
 
--- src/fronts.rt:28:9
 returns-2 : tie.Need-returns-2
 returns-2 c = front-other (c .before .single-bit .ensures ∙ ap singleBit (c .before .before .read-lanes .ensures .value)) _ (c .before .before .before .before .before .before .pre .bits) (c .if2 .taken)
 
--- src/fronts.rt:30:5
 mul-out : tie.Need-mul-out
 mul-out c = search needs
 
--- src/fronts.rt:30:5
 slice-write-out : tie.Need-slice-write-out
 slice-write-out c = search needs
 
--- src/fronts.rt:11:1
 same-length : tie.Need-same-length
 same-length c = search needs
 
--- src/fronts.rt:11:1
 returns-3 : tie.Need-returns-3
 returns-3 c =
     front-found (c .before .single-bit .ensures ∙ ap singleBit (c .before .before .read-lanes .ensures .value)) _ (c .before .before .before .before .before .before .pre .bits) (omega arith) (omega arith)

@@ -13,47 +13,36 @@ Inv-loop nodes dependencies d targets₀ k₀ targets k = (k ≤ d) × Written (
 abbrev μ-loop : tie.MeasureT-loop
 μ-loop nodes dependencies d targets₀ k₀ targets k = d - k
 
--- src/slots.rt:69:5
 loop-holds : tie.Need-loop-holds Inv-loop μ-loop
 loop-holds c = (omega arith, written-none _ _ _)
 
--- src/slots.rt:70:32
 mul-at : tie.Need-mul-at Inv-loop μ-loop
 mul-at c = omega arith
 
--- src/slots.rt:70:32
 shared-slice-read-at : tie.Need-shared-slice-read-at Inv-loop μ-loop
 shared-slice-read-at c = omega arith
 
--- src/slots.rt:70:22
 at-requires : tie.Need-at-requires Inv-loop μ-loop
 at-requires c κs = c .before .before .before .before .before .before .pre .within (c .before .before .loop .k) (c .before .loop-test .taken)
 
--- src/slots.rt:70:9
 mul-targets : tie.Need-mul-targets Inv-loop μ-loop
 mul-targets c = omega arith
 
--- src/slots.rt:70:9
 slice-write-targets : tie.Need-slice-write-targets Inv-loop μ-loop
 slice-write-targets c = omega arith
 
--- src/slots.rt:71:9
 add-k : tie.Need-add-k Inv-loop μ-loop
 add-k c = omega arith
 
--- src/slots.rt:69:5
 loop-less : tie.Need-loop-less Inv-loop μ-loop
 loop-less c = omega arith
 
--- src/slots.rt:69:5
 loop-again : tie.Need-loop-again Inv-loop μ-loop
 loop-again c = (omega arith, written-more (c .before .before .before .loop .inv .1) (omega arith) (omega arith) (c .at .ensures))
 
--- src/slots.rt:64:1
 same-length : tie.Need-same-length Inv-loop μ-loop
 same-length c = c .before .loop .inv .1 .long
 
--- src/slots.rt:64:1
 returns : tie.Need-returns Inv-loop μ-loop
 returns c = written-upto (c .before .loop .inv .1) (omega arith)
 

@@ -8,35 +8,27 @@ use borrow.Author.Needs.{needs}
 use Rattle.move_slots.proofs.slots.facade_slot.Statement.{statement}
 use Rattle.move_slots.proofs.slots.facade_slot.Tie as tie
 
--- src/slots.rt:90:13
 mul-sources : tie.Need-mul-sources
 mul-sources c = search needs
 
--- src/slots.rt:90:13
 slice-write-sources : tie.Need-slice-write-sources
 slice-write-sources c = search needs
 
--- src/slots.rt:91:26
 at-requires : tie.Need-at-requires
 at-requires c κs = c .before .before .before .before .before .pre .host (c .if2 .taken)
 
--- src/slots.rt:91:13
 mul-targets : tie.Need-mul-targets
 mul-targets c = search needs
 
--- src/slots.rt:91:13
 slice-write-targets : tie.Need-slice-write-targets
 slice-write-targets c = search needs
 
--- src/slots.rt:92:13
 same-length : tie.Need-same-length
 same-length c = search needs
 
--- src/slots.rt:92:13
 same-length-2 : tie.Need-same-length-2
 same-length-2 c = search needs
 
--- src/slots.rt:92:13
 returns : tie.Need-returns
 unfolding face-source face-target
 returns c =
@@ -44,31 +36,24 @@ returns c =
     let y = faced-yes (g .f) (g .h) (c .before .before .if1 .taken) (c .before .if2 .taken) in
     (rw y refl, rw y (ap (set (g .targets .now) (g .k)) (c .at .ensures)))
 
--- src/slots.rt:95:5
 mul-sources-2 : tie.Need-mul-sources-2
 mul-sources-2 c = search needs
 
--- src/slots.rt:95:5
 slice-write-sources-2 : tie.Need-slice-write-sources-2
 slice-write-sources-2 c = search needs
 
--- src/slots.rt:96:5
 mul-targets-2 : tie.Need-mul-targets-2
 mul-targets-2 c = search needs
 
--- src/slots.rt:96:5
 slice-write-targets-2 : tie.Need-slice-write-targets-2
 slice-write-targets-2 c = search needs
 
--- src/slots.rt:76:1
 same-length-3 : tie.Need-same-length-3
 same-length-3 c = search needs
 
--- src/slots.rt:76:1
 same-length-4 : tie.Need-same-length-4
 same-length-4 c = search needs
 
--- src/slots.rt:76:1
 returns-2 : tie.Need-returns-2
 unfolding face-source face-target
 returns-2 c =

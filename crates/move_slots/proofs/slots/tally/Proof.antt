@@ -14,43 +14,33 @@ Inv-loop counts₀ n nodes a i₀ counts i = (i ≤ a) × Written (atoms nodes i
 abbrev μ-loop : tie.MeasureT-loop
 μ-loop counts₀ n nodes a i₀ counts i = a - i
 
--- src/slots.rt:31:5
 fill-with-requires : tie.Need-fill-with-requires Inv-loop μ-loop
 fill-with-requires c κs = omega arith
 
--- src/slots.rt:33:5
 loop-holds : tie.Need-loop-holds Inv-loop μ-loop
 loop-holds c = (omega arith, tally-none (c .before .before .before .before .before .before .pre) (c .before .before .fill-with .ensures))
 
--- src/slots.rt:34:22
 mul-bump : tie.Need-mul-bump Inv-loop μ-loop
 mul-bump c = omega arith
 
--- src/slots.rt:34:22
 shared-slice-read-bump : tie.Need-shared-slice-read-bump Inv-loop μ-loop
 shared-slice-read-bump c = omega arith
 
--- src/slots.rt:34:9
 bump-requires : tie.Need-bump-requires Inv-loop μ-loop
 bump-requires c κs = tally-can (c .before .before .before .before .before .before .before .before .before .before .pre) (c .before .before .before .before .before .before .fill-with .ensures) (c .before .before .before .loop .inv .1) (c .before .before .loop-test .taken)
 
--- src/slots.rt:35:9
 add-i : tie.Need-add-i Inv-loop μ-loop
 add-i c = omega arith
 
--- src/slots.rt:33:5
 loop-less : tie.Need-loop-less Inv-loop μ-loop
 loop-less c = omega arith
 
--- src/slots.rt:33:5
 loop-again : tie.Need-loop-again Inv-loop μ-loop
 loop-again c = (omega arith, tally-more (c .before .before .before .before .before .before .before .before .before .before .before .before .before .pre) (c .before .before .before .before .before .before .before .before .before .fill-with .ensures) (c .before .before .before .before .before .before .loop .inv .1) (c .before .before .before .before .before .loop-test .taken) (c .before .before .bump .ensures))
 
--- src/slots.rt:27:1
 same-length : tie.Need-same-length Inv-loop μ-loop
 same-length c = c .before .loop .inv .1 .long ∙ c .before .before .before .before .fill-with .kept .0
 
--- src/slots.rt:27:1
 returns : tie.Need-returns Inv-loop μ-loop
 returns c = tally-done (c .before .before .before .before .before .before .before .before .pre) (c .before .before .before .before .fill-with .ensures) (c .before .loop .inv .1) (omega arith)
 

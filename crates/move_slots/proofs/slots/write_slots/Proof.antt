@@ -4,27 +4,21 @@ use borrow.Author.Needs.{needs}
 use Rattle.move_slots.proofs.slots.write_slots.Statement.{statement}
 use Rattle.move_slots.proofs.slots.write_slots.Tie as tie
 
--- src/slots.rt:138:5
 entry-sources-requires : tie.Need-entry-sources-requires
 entry-sources-requires c κs = slots-sources (c .before .before .before .before .before .before .before .before .pre)
 
--- src/slots.rt:139:5
 entry-targets-requires : tie.Need-entry-targets-requires
 entry-targets-requires c κs = slots-targets (c .before .before .before .before .before .before .before .before .before .before .before .before .pre)
 
--- src/slots.rt:140:5
 facade-slots-requires : tie.Need-facade-slots-requires
 facade-slots-requires c κs = slots-facades (c .before .before .before .before .before .before .before .before .before .before .before .before .before .before .before .before .before .pre) (c .before .before .before .before .before .before .before .before .entry-sources .ensures) (c .before .before .before .before .entry-targets .ensures)
 
--- src/slots.rt:122:1
 same-length : tie.Need-same-length
 same-length c = search needs
 
--- src/slots.rt:122:1
 same-length-2 : tie.Need-same-length-2
 same-length-2 c = search needs
 
--- src/slots.rt:122:1
 returns : tie.Need-returns
 returns c =
     let v = c .before .before .before .before .before .before .before .before .before .before .before .before .before .entry-sources .ensures in
