@@ -1,17 +1,21 @@
 /* nidskalm.h: trial moves and merge warnings over script chunks.
  *
- * Two state machines. The move graph (reduced_chunk_graph_*) holds atoms, each in one set of entry bits; it tries to
+ * Two state machines and a choice. The move graph (reduced_chunk_graph_*) holds atoms, each in one set of entry bits; it tries to
  * move an atom to another set and accepts exactly when the chunk graph then has no cycle. The merge graph
  * (chunk_optimization_graph_*) holds chunks, their modules and their dependencies; it warns of a merge exactly when the
- * source depends directly on the target, or the two fused lie on a cycle with another chunk (chunks merged away are not
- * followed), merges, and runs the pass that decides about every chunk needing creation.
+ * source depends directly on the target, or the two fused lie on a cycle with another chunk, merges, and runs the pass
+ * that decides about every chunk needing creation. Chunks merged away are not followed, unless they stand for their
+ * target (a mode chosen by chunk_optimization_graph_new), where a direct dependency alone doesn't warn. The choice of a
+ * merge target reads lent lists alone.
  *
  * All state lies in a work area of 32-bit numbers that the caller lends. Between calls nobody else may write there.
  * Every list is a pointer and the count of its items. A pointer must be valid for that many items (any pointer for 0);
  * the area and the pass's answer lists must not overlap other lists. Nothing else is asked of the caller: whatever the
  * numbers, a call ends and answers, or is refused. A refused call writes nothing.
  *
- * A reply's `refusal` is 0, or the number of the first fitting row; where it isn't 0, the other fields are 0. The rows:
+ * A reply's `refusal` is 0, or the number of the first fitting row; where it isn't 0, the other fields are 0. Rows are
+ * checked as listed, but merge calls check 14, 15; at loading then 16, 17, 19; later 21, the pass's lists by 15, then 16,
+ * 20, 28, 18, 19. The rows:
  *    1  A > 512, D > 8,192, E > 256, N < A + 1 or N > 1,024
  *    2  a list of the load hasn't the length called for
  *    3  the area is too short

@@ -6,7 +6,8 @@
 //!   move of an atom to another set is accepted exactly when the chunk graph then has no cycle.
 //! - [`MergeGraph`] holds chunks with modules and dependencies. It warns of a merge exactly when the source depends
 //!   directly on the target, or the two fused lie on a cycle with another chunk; chunks merged away are not followed,
-//!   unless they stand for their target ([`Mode`]). It merges, and runs the pass that decides about each chunk that needs creation.
+//!   unless they stand for their target ([`Mode`]), where a direct dependency alone doesn't warn. It merges, and runs the
+//!   pass that decides about each chunk that needs creation.
 //!
 //! [`Entries`] chooses the chunk that such a chunk may be merged into.
 //!

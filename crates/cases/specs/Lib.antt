@@ -1,4 +1,4 @@
--- The bench cases: what a case is, the cases, and the one test of them all. Assumes nothing.
+-- The bench cases: what a case is, the cases, and the one test of them all; choices of a merge target with theirs. Assumes nothing.
 pub mod Run
 pub mod Moves
 pub mod MergeRun

@@ -1,1 +1,1 @@
-// The bench cases as one table, and its test: no code.
+// The bench cases as one table with its test, and choices of a merge target with theirs: no code.

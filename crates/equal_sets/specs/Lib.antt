@@ -1,1 +1,2 @@
+-- Sets laid into lanes, and whether they repeat. Assumes nothing.
 pub mod Laid

@@ -1,4 +1,4 @@
--- The laws that the proofs of `components` cite. Assumes nothing.
+-- The laws that the proofs of `graph_components` cite. Assumes nothing.
 pub mod Parts
 pub mod Gathering
 pub mod Labels

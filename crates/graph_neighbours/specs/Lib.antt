@@ -1,4 +1,4 @@
--- The definitions that the contracts of `neighbours` cite, and their laws. Assumes nothing.
+-- The definitions that the contracts of `graph_neighbours` cite, and their laws. Assumes nothing.
 pub mod Groups
 pub mod Steps
 pub mod Parts

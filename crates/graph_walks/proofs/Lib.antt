@@ -1,4 +1,4 @@
--- The laws that the proofs of `walks` cite. Assumes nothing.
+-- The laws that the proofs of `graph_walks` cite. Assumes nothing.
 pub mod Moves
 pub mod Layer
 pub mod Ends

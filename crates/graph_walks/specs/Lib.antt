@@ -1,4 +1,4 @@
--- The definitions that the contracts of `walks` cite. Assumes nothing.
+-- The definitions that the contracts of `graph_walks` cite. Assumes nothing.
 pub mod Marks
 pub mod Spread
 pub mod Closed

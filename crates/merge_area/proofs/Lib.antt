@@ -1,2 +1,3 @@
+-- The laws that the proofs of `merge_area` cite. Assumes nothing.
 pub mod Laws
 pub mod Merging

@@ -33,7 +33,7 @@ need z x = z .chunks * z .chunks + 32 + 19 * z .chunks + x
 abbrev pub key : Sizes → ℕ → ℕ
 key z k = z .chunks * z .chunks + 32 + 20 * z .chunks + k
 
--- the chunk that chunk x was merged into, or None; looked at and written only where merged chunks stand for their target
+-- the chunk that chunk x was merged into, or None; looked at only where merged chunks stand for their target, and written None by a loading in either mode
 abbrev pub into : Sizes → ℕ → ℕ
 into z x = z .chunks * z .chunks + 32 + 21 * z .chunks + x
 

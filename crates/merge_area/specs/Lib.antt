@@ -1,3 +1,4 @@
+-- The area of a merge graph: its places, what it holds, its writes, when it is consistent, and calls on it. Assumes nothing.
 pub mod Layout
 pub mod Read
 pub mod Writes

@@ -1,4 +1,4 @@
-// What `calc_chunk_dependencies` and `merge_chunk_dependencies` write: the dependency flags, and a merged chunk's side effects.
+// What `calc_chunk_dependencies` and `merge_chunk_dependencies` write: the dependency flags, the target's side effects and, in the mode, the merge.
 use merge_area::places::entry_chunk_place;
 use merge_area::places::entry_module_place;
 use merge_area::places::home_place;

@@ -1,1 +1,2 @@
+-- The laws that the proofs of `merge_loading` cite. Assumes nothing.
 pub mod Laws

@@ -1,3 +1,4 @@
+-- What the turns of the pass ask and show. Assumes nothing.
 pub mod Turns
 pub mod Placing
 pub mod Lists

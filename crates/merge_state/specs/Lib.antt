@@ -1,3 +1,4 @@
+-- The state of a merge graph, its methods and its table, and their laws. Assumes nothing.
 pub mod State
 pub mod Merges
 pub mod Methods

@@ -1,4 +1,4 @@
--- What the call answers, in document 01's terms. Assumes nothing.
+-- What the calls answer, in document 01's terms. Assumes nothing.
 use Rattle.merge_state.specs.Table.{Answer, refused, chunk, nothing}
 use Rattle.merge_target.specs.declared.TargetAnswer as a
 

@@ -1,2 +1,2 @@
--- What the call answers, in document 01's terms. Assumes nothing.
+-- What the calls answer, in document 01's terms. Assumes nothing.
 pub mod Answers

@@ -1,2 +1,3 @@
+-- What the two questions find. Assumes nothing.
 pub mod Hits
 pub mod EndHits

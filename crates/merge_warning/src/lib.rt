@@ -1,4 +1,4 @@
-// The two questions over the dependency flags: would a merge close a cycle, and does one chunk reach another.
+// The two questions over the dependency flags: would a merge close a cycle, and does one chunk reach another; in counted.rt the same where merged chunks stand for their target.
 pub mod counted; // counted.rt: where merged chunks stand for the end of their merges
 
 ghost use mathlib.Core.Path.{_≡_};

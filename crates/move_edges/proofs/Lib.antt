@@ -1,3 +1,3 @@
--- The laws that the proofs of `node_edges` cite. Assumes nothing.
+-- The laws that the proofs of `move_edges` cite. Assumes nothing.
 pub mod Following
 pub mod Checking

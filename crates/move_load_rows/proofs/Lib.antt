@@ -1,4 +1,4 @@
--- The laws that the proofs of `load_checks` cite. Assumes nothing.
+-- The laws that the proofs of `move_load_rows` cite. Assumes nothing.
 pub mod Spans
 pub mod Rows
 pub mod SetLaws

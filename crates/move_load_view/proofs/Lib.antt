@@ -1,3 +1,3 @@
--- What the proofs of `load_view` share. Assumes nothing.
+-- What the proofs of `move_load_view` share. Assumes nothing.
 pub mod Lists
 pub mod Views

@@ -1,4 +1,4 @@
--- The laws that the proofs of `loading` cite. Assumes nothing.
+-- The laws that the proofs of `move_loading` cite. Assumes nothing.
 pub mod Tabbing
 pub mod Starting
 pub mod Reading

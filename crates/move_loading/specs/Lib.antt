@@ -1,4 +1,4 @@
--- The definitions that the contracts of `loading` cite. Assumes nothing.
+-- The definitions that the contracts of `move_loading` cite. Assumes nothing.
 pub mod Start
 pub mod Steps
 pub mod New

@@ -1,3 +1,3 @@
--- The laws that the proofs of `listing` cite. Assumes nothing.
+-- The laws that the proofs of `move_questions` cite. Assumes nothing.
 pub mod Asking
 pub mod Listing

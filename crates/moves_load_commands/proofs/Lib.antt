@@ -1,2 +1,2 @@
--- The laws that the proofs of `load_commands` cite. Assumes nothing.
+-- The laws that the proofs of `moves_load_commands` cite. Assumes nothing.
 pub mod Lists

@@ -1,2 +1,2 @@
--- The laws that the proofs of `replies` cite. Assumes nothing.
+-- The laws that the proofs of `moves_replies` cite. Assumes nothing.
 pub mod Writing

@@ -1,4 +1,4 @@
-// The C interface of both graphs, as include/nidskalm.h declares it. A list is a pointer and a length; a reply is returned by value (crates/nidskalm_replies).
+// The C interface of both graphs and of the choice of a merge target, as include/nidskalm.h declares it. A list is a pointer and a length; a reply is returned by value (crates/nidskalm_replies).
 mod merges;
 mod moves;
 mod targets;

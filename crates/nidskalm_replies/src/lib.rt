@@ -1,4 +1,4 @@
-// The replies of the C interface, and what each is of the answers of both graphs.
+// The replies of the C interface, and what each is of the answers of both graphs and of the choice of a merge target.
 ghost use mathlib.Core.Path.{_≡_};
 ghost use Rattle.reduced_chunk_graph.specs.Answers.{ofLoad, ofMove, ofSet, ofNumber, ofEdge};
 ghost use Rattle.chunk_optimizer.specs.Answers.{done-told, temp-told, said-told};
