@@ -10,7 +10,7 @@ enum {
     MADE = 17,
     SETS = 19,
     ENTRIES = 20,
-    NO_FIELD = 21,
+    NO_FIELD = 22,
     EFFECTS = 48 + 18 * 4,
     NEEDS = 48 + 19 * 4,
     KEYS = 48 + 20 * 4,
