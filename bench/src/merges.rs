@@ -26,6 +26,7 @@ fn input(c: u64, each: u64) -> Input {
     let numbers: Vec<u32> = (0..c as u32).collect();
     let load = MergeLoad {
         initial,
+        mode: 0,
         module_starts: (0..=initial as u32).collect(),
         modules: numbers[..initial as usize].to_vec(),
         sets: vec![],
