@@ -64,12 +64,13 @@ pub fn atom_set(
     starts: &[u32],
     dependencies: &[u32],
     hosts: &[u32],
+    fixed: &[u32],
     area: &[u32],
     atom: u32,
 ) -> SetAnswer
-    ensures { λ r. ⌜ ofSet r ≡ asked (lent a d e (now (starts .entry)) (now (dependencies .entry)) (now (hosts .entry))) n (now (area .entry)) (ledger.atom-set atom) ⌝ }
+    ensures { λ r. ⌜ ofSet r ≡ asked (lent a d e (now (starts .entry)) (now (dependencies .entry)) (now (hosts .entry))) (now (fixed .entry)) n (now (area .entry)) (ledger.atom-set atom) ⌝ }
 {
-    let q = later_row(a, d, e, n, starts, dependencies, hosts, area);
+    let q = later_row(a, d, e, n, starts, dependencies, hosts, fixed, area);
     if q != 0 {
         return SetAnswer::Refused(q);
     }
@@ -90,12 +91,13 @@ pub fn atom_count(
     starts: &[u32],
     dependencies: &[u32],
     hosts: &[u32],
+    fixed: &[u32],
     area: &[u32],
     bits: &[u64],
 ) -> NumberAnswer
-    ensures { λ r. ⌜ ofNumber r ≡ asked (lent a d e (now (starts .entry)) (now (dependencies .entry)) (now (hosts .entry))) n (now (area .entry)) (ledger.atom-count (now (bits .entry))) ⌝ }
+    ensures { λ r. ⌜ ofNumber r ≡ asked (lent a d e (now (starts .entry)) (now (dependencies .entry)) (now (hosts .entry))) (now (fixed .entry)) n (now (area .entry)) (ledger.atom-count (now (bits .entry))) ⌝ }
 {
-    let q = later_row(a, d, e, n, starts, dependencies, hosts, area);
+    let q = later_row(a, d, e, n, starts, dependencies, hosts, fixed, area);
     if q != 0 {
         return NumberAnswer::Refused(q);
     }
@@ -117,13 +119,14 @@ pub fn multiplicity(
     starts: &[u32],
     dependencies: &[u32],
     hosts: &[u32],
+    fixed: &[u32],
     area: &[u32],
     from: &[u64],
     to: &[u64],
 ) -> NumberAnswer
-    ensures { λ r. ⌜ ofNumber r ≡ asked (lent a d e (now (starts .entry)) (now (dependencies .entry)) (now (hosts .entry))) n (now (area .entry)) (ledger.multiplicity (now (from .entry)) (now (to .entry))) ⌝ }
+    ensures { λ r. ⌜ ofNumber r ≡ asked (lent a d e (now (starts .entry)) (now (dependencies .entry)) (now (hosts .entry))) (now (fixed .entry)) n (now (area .entry)) (ledger.multiplicity (now (from .entry)) (now (to .entry))) ⌝ }
 {
-    let q = later_row(a, d, e, n, starts, dependencies, hosts, area);
+    let q = later_row(a, d, e, n, starts, dependencies, hosts, fixed, area);
     if q != 0 {
         return NumberAnswer::Refused(q);
     }
@@ -149,9 +152,10 @@ pub fn edge_count(
     starts: &[u32],
     dependencies: &[u32],
     hosts: &[u32],
+    fixed: &[u32],
     area: &[u32],
 ) -> NumberAnswer
-    ensures { λ r. ⌜ ofNumber r ≡ asked (lent a d e (now (starts .entry)) (now (dependencies .entry)) (now (hosts .entry))) n (now (area .entry)) ledger.edge-count ⌝ }
+    ensures { λ r. ⌜ ofNumber r ≡ asked (lent a d e (now (starts .entry)) (now (dependencies .entry)) (now (hosts .entry))) (now (fixed .entry)) n (now (area .entry)) ledger.edge-count ⌝ }
 {
     let mut degrees = [0u32; 1024];
     let mut order = [0u32; 1024];
@@ -163,6 +167,7 @@ pub fn edge_count(
         starts,
         dependencies,
         hosts,
+        fixed,
         area,
         &mut degrees,
         &mut order,
@@ -183,10 +188,11 @@ pub fn edge_at(
     starts: &[u32],
     dependencies: &[u32],
     hosts: &[u32],
+    fixed: &[u32],
     area: &[u32],
     k: u64,
 ) -> EdgeAnswer
-    ensures { λ r. ⌜ ofEdge r ≡ asked (lent a d e (now (starts .entry)) (now (dependencies .entry)) (now (hosts .entry))) n (now (area .entry)) (ledger.edge-at k) ⌝ }
+    ensures { λ r. ⌜ ofEdge r ≡ asked (lent a d e (now (starts .entry)) (now (dependencies .entry)) (now (hosts .entry))) (now (fixed .entry)) n (now (area .entry)) (ledger.edge-at k) ⌝ }
 {
     let mut degrees = [0u32; 1024];
     let mut order = [0u32; 1024];
@@ -198,6 +204,7 @@ pub fn edge_at(
         starts,
         dependencies,
         hosts,
+        fixed,
         area,
         &mut degrees,
         &mut order,
