@@ -1,7 +1,7 @@
 -- The flags of fixed atoms stand behind every field: what a state writes leaves them, and they leave the state. Assumes nothing.
 use mathlib.Core.Path.{_≡_, refl, sym, ap, _∙_}
 use mathlib.Core.List.{List, [], _∷_}
-use Prim.Native.Nat.{ℕ, _+_, _≤_, _<_}
+use Prim.Native.Nat.{ℕ, _+_, _≤_}
 use native.Mathlib.Omega.{arith}
 use lib.ListN.{length}
 use Rattle.graphs.specs.Tab.{tab-length}

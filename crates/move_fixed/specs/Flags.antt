@@ -1,16 +1,16 @@
 -- The flags of lent marks, in a list and in an area. Assumes nothing.
-use mathlib.Core.Path.{_≡_, refl, sym, ap, subst, _∙_}
+use mathlib.Core.Path.{_≡_, refl, sym, ap, _∙_}
 use mathlib.Core.Bool.{Bool, true, false}
 use mathlib.Core.List.{List, []}
 use Prim.Native.Nat.{ℕ, _+_, _≤_, _<_}
 use native.Mathlib.Omega.{arith}
 use native.Mathlib.Decide.{ℕ-discrete}
 use native.Mathlib.Nat.{zero-add}
-use lib.ListN.{length, getD, set, length-set}
+use lib.ListN.{length, getD, set}
 use lib.Seq.{ext-getD, getD-set-same, getD-set-other}
 use Rattle.graphs.specs.Bools.{Decides, alike}
 use Rattle.graphs.specs.Count.{ind}
-use Rattle.graphs.specs.Tab.{tab-length, tab-at, is-tab}
+use Rattle.graphs.specs.Tab.{is-tab}
 use Rattle.layout.specs.Patch.{patch, part, part-long, part-at}
 use Rattle.layout.specs.Compare.{SamePart}
 use Rattle.move_ledger.specs.Graph.{Load, lent}

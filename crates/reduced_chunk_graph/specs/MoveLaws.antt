@@ -17,7 +17,7 @@ use Rattle.move_ledger.specs.Ledger.{decide, move}
 use Rattle.move_ledger.specs.LoadLaws.{refusal-none, refusal-marks}
 use Rattle.move_ledger.specs.NodeLaws.{placed-at}
 use Rattle.move_area.specs.Bodies.{laneAt, atomAt}
-use Rattle.move_area.specs.Area.{State, encode, decode, consistent, setsIn}
+use Rattle.move_area.specs.Area.{State, encode, decode, setsIn}
 use Rattle.move_area.specs.Held.{consistent-whole}
 use Rattle.move_area.specs.Checked.{nodesIn, Ranged, consistent-ranged, ranged-placing, sets-at}
 use Rattle.move_area.specs.Calls.{after}

@@ -10,7 +10,6 @@ use move_rows::listed::listed_row;
 use move_rows::registered;
 ghost use mathlib.Core.Path.{_≡_};
 ghost use Prim.Native.Nat.{_*_, _<_};
-ghost use lib.ListN.{length, getD};
 ghost use Rattle.entry_set.specs.Sets.{Holds};
 ghost use Rattle.move_ledger.specs.Graph.{lent};
 ghost use Rattle.move_ledger.specs.Ledger as ledger;
