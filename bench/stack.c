@@ -1,5 +1,5 @@
 /* Measures how much stack each call of the library uses: runs it on a painted stack and looks how far the paint is gone.
-   Fails where a call uses 512 KiB or more, or is refused. */
+   Fails where a call uses more than NIDSKALM_STACK bytes, or is refused. */
 #include <pthread.h>
 #include <stdio.h>
 #include <stdlib.h>
@@ -11,62 +11,62 @@ enum { STACK = 4 << 20, A = 512, D = 8192, E = 256, N = 1024, C = 1024, M = 4096
 /* Sets named at loading: above 128 of them a merge call takes its longer local arrays. */
 enum { NAMED = 200 };
 
-static uint32_t starts[A + 1], dependencies[D], hosts[E];
+static uint32_t starts[A + 1], dependencies[D], hosts[E], fixed[A];
 static uint64_t sets[A * 4], bits[4];
 static uint32_t area[NIDSKALM_MOVE_AREA(A, D, E, N)], merge_area[NIDSKALM_MERGE_AREA(C, M, L)];
 static uint32_t module_starts[2], list[NAMED], calc_starts[M + 1], effects[M], proposals[C], numbers[C], kinds[C];
 static uint64_t a, d, n, refusal;
 
-#define LOAD a, d, E, n, starts, a + 1, dependencies, d, hosts, E, area, sizeof area / sizeof *area
+#define LOAD a, d, E, n, starts, a + 1, dependencies, d, hosts, E, fixed, a, area, sizeof area / sizeof *area
 #define SIZE C, M, L, E, merge_area, sizeof merge_area / sizeof *merge_area
 
 static void nothing(void) { refusal = 0; }
 static void move_new(void) {
-    refusal = reduced_chunk_graph_new(
-        a, d, E, n, starts, a + 1, dependencies, d, hosts, E, sets, 4 * a, area, sizeof area / sizeof *area).refusal;
+    refusal = nidskalm_reduced_chunk_graph_new(
+        a, d, E, n, starts, a + 1, dependencies, d, hosts, E, fixed, a, sets, 4 * a, area, sizeof area / sizeof *area).refusal;
 }
-static void try_move(void) { refusal = reduced_chunk_graph_try_move(LOAD, 0, bits, 4).refusal; }
-static void atom_set(void) { refusal = reduced_chunk_graph_atom_set(LOAD, 0).refusal; }
-static void atom_count(void) { refusal = reduced_chunk_graph_atom_count(LOAD, bits, 4).refusal; }
-static void multiplicity(void) { refusal = reduced_chunk_graph_multiplicity(LOAD, bits, 4, bits, 4).refusal; }
-static void edge_count(void) { refusal = reduced_chunk_graph_edge_count(LOAD).refusal; }
-static void edge_at(void) { refusal = reduced_chunk_graph_edge_at(LOAD, 3).refusal; }
+static void try_move(void) { refusal = nidskalm_reduced_chunk_graph_try_move(LOAD, 0, bits, 4).refusal; }
+static void atom_set(void) { refusal = nidskalm_reduced_chunk_graph_atom_set(LOAD, 0).refusal; }
+static void atom_count(void) { refusal = nidskalm_reduced_chunk_graph_atom_count(LOAD, bits, 4).refusal; }
+static void multiplicity(void) { refusal = nidskalm_reduced_chunk_graph_multiplicity(LOAD, bits, 4, bits, 4).refusal; }
+static void edge_count(void) { refusal = nidskalm_reduced_chunk_graph_edge_count(LOAD).refusal; }
+static void edge_at(void) { refusal = nidskalm_reduced_chunk_graph_edge_at(LOAD, 3).refusal; }
 
 static void merge_new(void) {
-    refusal = chunk_optimization_graph_new(C, M, L, E, 1, 0, module_starts, 2, list, 1, sets, 4 * NAMED, list, NAMED,
+    refusal = nidskalm_chunk_optimization_graph_new(C, M, L, E, 1, 0, module_starts, 2, list, 1, sets, 4 * NAMED, list, NAMED,
         effects, M, merge_area, sizeof merge_area / sizeof *merge_area).refusal;
 }
 static void init_module(void) {
     static uint64_t next;
     const uint64_t set[4] = {++next, 0, 0, 7};
-    refusal = chunk_optimization_graph_init_module_assignment(SIZE, 1, set, 4, effects, M).refusal;
+    refusal = nidskalm_chunk_optimization_graph_init_module_assignment(SIZE, 1, set, 4, effects, M).refusal;
 }
-static void add_module(void) { refusal = chunk_optimization_graph_add_module_to_chunk(SIZE, 2, 0, effects, M).refusal; }
+static void add_module(void) { refusal = nidskalm_chunk_optimization_graph_add_module_to_chunk(SIZE, 2, 0, effects, M).refusal; }
 static void register_index(void) {
-    refusal = chunk_optimization_graph_register_chunk_graph_index(SIZE, 5, 0).refusal;
+    refusal = nidskalm_chunk_optimization_graph_register_chunk_graph_index(SIZE, 5, 0).refusal;
 }
-static void to_temp_idx(void) { refusal = chunk_optimization_graph_to_temp_idx(SIZE, 5).refusal; }
+static void to_temp_idx(void) { refusal = nidskalm_chunk_optimization_graph_to_temp_idx(SIZE, 5).refusal; }
 /* Module 2, of chunk 0, depends on module 1, of chunk 1. */
 static void calc(void) {
     const uint32_t one = 1;
     for (int m = 3; m <= M; m++) calc_starts[m] = 1;
-    refusal = chunk_optimization_graph_calc_chunk_dependencies(SIZE, calc_starts, M + 1, &one, 1).refusal;
+    refusal = nidskalm_chunk_optimization_graph_calc_chunk_dependencies(SIZE, calc_starts, M + 1, &one, 1).refusal;
 }
 static void warning(void) {
-    refusal = chunk_optimization_graph_would_create_circular_dependency(SIZE, 1, 0).refusal;
+    refusal = nidskalm_chunk_optimization_graph_would_create_circular_dependency(SIZE, 1, 0).refusal;
 }
-static void is_reachable(void) { refusal = chunk_optimization_graph_is_reachable(SIZE, 1, 0).refusal; }
-static void merge(void) { refusal = chunk_optimization_graph_merge_chunk_dependencies(SIZE, 0, 1).refusal; }
+static void is_reachable(void) { refusal = nidskalm_chunk_optimization_graph_is_reachable(SIZE, 1, 0).refusal; }
+static void merge(void) { refusal = nidskalm_chunk_optimization_graph_merge_chunk_dependencies(SIZE, 0, 1).refusal; }
 static void pass(void) {
     uint64_t count = merge_area[C * C + 1] - 1;
-    refusal = chunk_optimization_graph_pass(SIZE, proposals, count, effects, count, kinds, count, numbers, count).refusal;
+    refusal = nidskalm_chunk_optimization_graph_pass(SIZE, proposals, count, effects, count, kinds, count, numbers, count).refusal;
 }
 
 /* Every bit names a user entry, all of one module: all guards are asked. */
 static void merge_target(void) {
     static uint32_t zeros[M + 1], users[C];
     for (int i = 0; i < C; i++) users[i] = 1;
-    refusal = chunk_optimization_graph_merge_target(
+    refusal = nidskalm_chunk_optimization_graph_merge_target(
         C, M, users, C, zeros, C, zeros, C + 1, zeros, 0, zeros, M + 1, zeros, 0, zeros, M + 1, zeros, 0,
         zeros, C + 1, zeros, 0, zeros, C, zeros, M, zeros, M, UINT64_MAX, UINT64_MAX, UINT64_MAX, UINT64_MAX).refusal;
 }
@@ -153,5 +153,5 @@ int main(void) {
     tell("pass", pass);
     tell("`merge_target`", merge_target);
     printf("\nmost: %.1f KiB\n", most / 1024.0);
-    return most < 512 * 1024 && !any_refused ? 0 : 1;
+    return most <= NIDSKALM_STACK && !any_refused ? 0 : 1;
 }

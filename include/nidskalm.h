@@ -1,12 +1,14 @@
 /* nidskalm.h: trial moves and merge warnings over script chunks.
  *
- * Two state machines and a choice. The move graph (reduced_chunk_graph_*) holds atoms, each in one set of entry bits; it tries to
+ * Two state machines and a choice. The move graph (nidskalm_reduced_chunk_graph_*) holds atoms, each in one set of entry bits; it tries to
  * move an atom to another set and accepts exactly when the chunk graph then has no cycle. The merge graph
- * (chunk_optimization_graph_*) holds chunks, their modules and their dependencies; it warns of a merge exactly when the
+ * (nidskalm_chunk_optimization_graph_*) holds chunks, their modules and their dependencies; it warns of a merge exactly when the
  * source depends directly on the target, or the two fused lie on a cycle with another chunk, merges, and runs the pass
  * that decides about every chunk needing creation. Chunks merged away are not followed, unless they stand for their
- * target (a mode chosen by chunk_optimization_graph_new), where a direct dependency alone doesn't warn. The choice of a
+ * target (a mode chosen by nidskalm_chunk_optimization_graph_new), where a direct dependency alone doesn't warn. The choice of a
  * merge target reads lent lists alone.
+ *
+ * The library is one archive, libnidskalm.a, which needs nothing but memcpy and memset: link with -lnidskalm.
  *
  * All state lies in a work area of 32-bit numbers that the caller lends. Between calls nobody else may write there.
  * Every list is a pointer and the count of its items. A pointer must be valid for that many items (any pointer for 0);
@@ -24,7 +26,7 @@
  *    6  a host is neither NIDSKALM_NONE nor an atom
  *    7  an entry set has a bit at or above E (loading)
  *    8  two atoms have equal sets (loading)
- *    9  the move area is inconsistent (later calls)
+ *    9  the move area is inconsistent, or keeps another mark of an atom than is lent (later calls)
  *   10  no such atom
  *   11  a set isn't w numbers, or has a bit at or above E
  *   12  the target is the atom's present set
@@ -40,6 +42,7 @@
  *   21  the merge area is inconsistent, or its merges run in a ring (later calls)
  *   23  over 1,024 kinds or 4,096 modules, a list of the wrong length, faulty starts, or a kind or index out of range
  *       (choice of a merge target)
+ *   24  the atom is fixed: comes right after 10, whatever the set and the graph
  *   25  there aren't eight classes, one is neither 0 nor 1, or an odd one isn't 1; after 23
  *   28  source, target or a proposed chunk has been merged away, where merged chunks stand for their target; right after
  *       20
@@ -55,6 +58,14 @@
 #ifdef __cplusplus
 extern "C" {
 #endif
+
+/* The library's version. */
+#define NIDSKALM_VERSION_MAJOR 0
+#define NIDSKALM_VERSION_MINOR 1
+#define NIDSKALM_VERSION_PATCH 0
+
+/* Bytes of stack that a call needs at most: what the calls at the limits were measured to use, rounded up. */
+#define NIDSKALM_STACK 393216
 
 /* No host, no proposal, no chunk. */
 #define NIDSKALM_NONE UINT32_C(4294967295)
@@ -85,70 +96,78 @@ typedef struct {
  *
  * Every call is lent the load: A atoms, D dependencies, E entry bits, room for N sets; `starts` (A + 1) and
  * `dependencies` (D): atom i depends on dependencies[starts[i]] up to dependencies[starts[i + 1] - 1]; `hosts` (E): the
- * atom that hosts an entry bit, or NIDSKALM_NONE. The area has at least NIDSKALM_MOVE_AREA(a, d, e, n) numbers. N is at
- * least A + 1: when N sets are registered and another is needed, the smallest empty one, as a number, gives up its place.
+ * atom that hosts an entry bit, or NIDSKALM_NONE; `fixed` (A): a mark for each atom, nonzero where it is fixed: it
+ * stays in its entry set. The area has at least NIDSKALM_MOVE_AREA(a, d, e, n) numbers. N is at least A + 1: when N sets
+ * are registered and another is needed, the smallest empty one, as a number, gives up its place.
  */
 
 /* Loads: `sets` holds the A entry sets, w numbers each, no two equal. Value 0 acyclic, 1 cyclic. */
-nidskalm_reply reduced_chunk_graph_new(
+nidskalm_reply nidskalm_reduced_chunk_graph_new(
     uint64_t a, uint64_t d, uint64_t e, uint64_t n,
     const uint32_t *starts, size_t starts_length,
     const uint32_t *dependencies, size_t dependencies_length,
     const uint32_t *hosts, size_t hosts_length,
+    const uint32_t *fixed, size_t fixed_length,
     const uint64_t *sets, size_t sets_length,
     uint32_t *area, size_t area_length);
 
 /* Tries to move an atom to the set `bits`. Value 1 accepted, 0 rejected: the atom stays where it was. */
-nidskalm_reply reduced_chunk_graph_try_move(
+nidskalm_reply nidskalm_reduced_chunk_graph_try_move(
     uint64_t a, uint64_t d, uint64_t e, uint64_t n,
     const uint32_t *starts, size_t starts_length,
     const uint32_t *dependencies, size_t dependencies_length,
     const uint32_t *hosts, size_t hosts_length,
+    const uint32_t *fixed, size_t fixed_length,
     uint32_t *area, size_t area_length,
     uint32_t atom, const uint64_t *bits, size_t bits_length);
 
 /* The set that an atom is in. */
-nidskalm_set_reply reduced_chunk_graph_atom_set(
+nidskalm_set_reply nidskalm_reduced_chunk_graph_atom_set(
     uint64_t a, uint64_t d, uint64_t e, uint64_t n,
     const uint32_t *starts, size_t starts_length,
     const uint32_t *dependencies, size_t dependencies_length,
     const uint32_t *hosts, size_t hosts_length,
+    const uint32_t *fixed, size_t fixed_length,
     const uint32_t *area, size_t area_length,
     uint32_t atom);
 
 /* The number of atoms in a set, 0 where it was never seen. */
-nidskalm_reply reduced_chunk_graph_atom_count(
+nidskalm_reply nidskalm_reduced_chunk_graph_atom_count(
     uint64_t a, uint64_t d, uint64_t e, uint64_t n,
     const uint32_t *starts, size_t starts_length,
     const uint32_t *dependencies, size_t dependencies_length,
     const uint32_t *hosts, size_t hosts_length,
+    const uint32_t *fixed, size_t fixed_length,
     const uint32_t *area, size_t area_length,
     const uint64_t *bits, size_t bits_length);
 
 /* How many dependencies and facade edges lead from one set's chunk to another's; 0 where there is none. */
-nidskalm_reply reduced_chunk_graph_multiplicity(
+nidskalm_reply nidskalm_reduced_chunk_graph_multiplicity(
     uint64_t a, uint64_t d, uint64_t e, uint64_t n,
     const uint32_t *starts, size_t starts_length,
     const uint32_t *dependencies, size_t dependencies_length,
     const uint32_t *hosts, size_t hosts_length,
+    const uint32_t *fixed, size_t fixed_length,
     const uint32_t *area, size_t area_length,
     const uint64_t *from, size_t from_length,
     const uint64_t *to, size_t to_length);
 
 /* The number of distinct edges. */
-nidskalm_reply reduced_chunk_graph_edge_count(
+nidskalm_reply nidskalm_reduced_chunk_graph_edge_count(
     uint64_t a, uint64_t d, uint64_t e, uint64_t n,
     const uint32_t *starts, size_t starts_length,
     const uint32_t *dependencies, size_t dependencies_length,
     const uint32_t *hosts, size_t hosts_length,
+    const uint32_t *fixed, size_t fixed_length,
     const uint32_t *area, size_t area_length);
 
 /* The k-th edge, from 0, by rising source set, then target set. */
-nidskalm_edge_reply reduced_chunk_graph_edge_at(
+nidskalm_edge_reply nidskalm_reduced_chunk_graph_edge_at(
     uint64_t a, uint64_t d, uint64_t e, uint64_t n,
     const uint32_t *starts, size_t starts_length,
     const uint32_t *dependencies, size_t dependencies_length,
     const uint32_t *hosts, size_t hosts_length,
+    const uint32_t *fixed, size_t fixed_length,
     const uint32_t *area, size_t area_length,
     uint64_t k);
 
@@ -165,7 +184,7 @@ nidskalm_edge_reply reduced_chunk_graph_edge_at(
  * resolves an import of a merged chunk to its target: the warning then sees through what was merged away. With mode 0
  * it doesn't, as in the original. The smallest loop that this lets through: 0 depends on 1, and 3 on 2; merge 2 into 0,
  * then 3 into 1. Neither is warned of; then 0 depends on 1, and 1 on 2, which is 0. */
-nidskalm_reply chunk_optimization_graph_new(
+nidskalm_reply nidskalm_chunk_optimization_graph_new(
     uint64_t c, uint64_t m, uint64_t l, uint64_t e,
     uint64_t initial, uint32_t mode,
     const uint32_t *module_starts, size_t module_starts_length,
@@ -176,34 +195,34 @@ nidskalm_reply chunk_optimization_graph_new(
     uint32_t *area, size_t area_length);
 
 /* Appends a module to the chunk of the set `bits`, or to a new chunk of that set, which then needs creation. */
-nidskalm_reply chunk_optimization_graph_init_module_assignment(
+nidskalm_reply nidskalm_chunk_optimization_graph_init_module_assignment(
     uint64_t c, uint64_t m, uint64_t l, uint64_t e,
     uint32_t *area, size_t area_length,
     uint32_t module, const uint64_t *bits, size_t bits_length,
     const uint32_t *side_effects, size_t side_effects_length);
 
 /* Appends a module to a chunk. */
-nidskalm_reply chunk_optimization_graph_add_module_to_chunk(
+nidskalm_reply nidskalm_chunk_optimization_graph_add_module_to_chunk(
     uint64_t c, uint64_t m, uint64_t l, uint64_t e,
     uint32_t *area, size_t area_length,
     uint32_t module, uint32_t chunk,
     const uint32_t *side_effects, size_t side_effects_length);
 
 /* Registers a chunk under a key below C, in the place of an older one. */
-nidskalm_reply chunk_optimization_graph_register_chunk_graph_index(
+nidskalm_reply nidskalm_chunk_optimization_graph_register_chunk_graph_index(
     uint64_t c, uint64_t m, uint64_t l, uint64_t e,
     uint32_t *area, size_t area_length,
     uint32_t key, uint32_t chunk);
 
 /* The chunk registered under a key, or NIDSKALM_NONE. */
-nidskalm_reply chunk_optimization_graph_to_temp_idx(
+nidskalm_reply nidskalm_chunk_optimization_graph_to_temp_idx(
     uint64_t c, uint64_t m, uint64_t l, uint64_t e,
     const uint32_t *area, size_t area_length,
     uint32_t key);
 
 /* Adds to each chunk's dependencies the other chunks that its modules' dependencies are in: module i depends on
  * dependencies[starts[i]] up to dependencies[starts[i + 1] - 1]. `starts` has M + 1 numbers. */
-nidskalm_reply chunk_optimization_graph_calc_chunk_dependencies(
+nidskalm_reply nidskalm_chunk_optimization_graph_calc_chunk_dependencies(
     uint64_t c, uint64_t m, uint64_t l, uint64_t e,
     uint32_t *area, size_t area_length,
     const uint32_t *starts, size_t starts_length,
@@ -213,21 +232,21 @@ nidskalm_reply chunk_optimization_graph_calc_chunk_dependencies(
  * fused lie on a cycle with another chunk. It follows the dependencies that chunks have now. A merge takes those of its
  * source away, so no cycle through a chunk that was merged away is seen. Where merged chunks stand for their target:
  * value 1 exactly when the two fused lie on a cycle with another chunk, by the dependencies that count then. */
-nidskalm_reply chunk_optimization_graph_would_create_circular_dependency(
+nidskalm_reply nidskalm_chunk_optimization_graph_would_create_circular_dependency(
     uint64_t c, uint64_t m, uint64_t l, uint64_t e,
     const uint32_t *area, size_t area_length,
     uint32_t source, uint32_t target);
 
 /* Value 1 where `from` reaches `to` in one step or more. Where merged chunks stand for their target, each of the two
  * stands for the end of its merges, and the dependencies that count are followed. */
-nidskalm_reply chunk_optimization_graph_is_reachable(
+nidskalm_reply nidskalm_chunk_optimization_graph_is_reachable(
     uint64_t c, uint64_t m, uint64_t l, uint64_t e,
     const uint32_t *area, size_t area_length,
     uint32_t from, uint32_t to);
 
 /* Gives target the dependencies of source, which loses them, whatever the warning would say. Where merged chunks stand
- * for their target (see chunk_optimization_graph_new for when to choose this), the merge is recorded. */
-nidskalm_reply chunk_optimization_graph_merge_chunk_dependencies(
+ * for their target (see nidskalm_chunk_optimization_graph_new for when to choose this), the merge is recorded. */
+nidskalm_reply nidskalm_chunk_optimization_graph_merge_chunk_dependencies(
     uint64_t c, uint64_t m, uint64_t l, uint64_t e,
     uint32_t *area, size_t area_length,
     uint32_t target, uint32_t source);
@@ -238,7 +257,7 @@ nidskalm_reply chunk_optimization_graph_merge_chunk_dependencies(
  * else created. Value: how many chunks needed creation. Where merged chunks stand for their target, a chunk that was
  * merged away is none of these, and warnings see through it: choose this mode, at loading, where imports of a merged
  * chunk are resolved to its target. */
-nidskalm_reply chunk_optimization_graph_pass(
+nidskalm_reply nidskalm_chunk_optimization_graph_pass(
     uint64_t c, uint64_t m, uint64_t l, uint64_t e,
     uint32_t *area, size_t area_length,
     const uint32_t *proposals, size_t proposals_length,
@@ -260,7 +279,7 @@ nidskalm_reply chunk_optimization_graph_pass(
  * or be a module of the candidate that nobody imports dynamically. A dynamic entry is barred where the candidate holds the
  * entry module of another named dynamic entry that has observable exports. No other entry is tried then. Refusal 23 only.
  * Where the kinds are those of the initial chunks, the pass can take the answer as proposal. */
-nidskalm_reply chunk_optimization_graph_merge_target(
+nidskalm_reply nidskalm_chunk_optimization_graph_merge_target(
     uint64_t k, uint64_t m,
     const uint32_t *kinds, size_t kinds_length,                       /* k */
     const uint32_t *entry_modules, size_t entry_modules_length,       /* k */
@@ -279,7 +298,7 @@ nidskalm_reply chunk_optimization_graph_merge_target(
 
 /* The same by the bank's own classes of the entry kinds 0 to 7, in the place of 0 1 0 1 1 1 1 1: 0 dynamic, 1 user; odd kinds are user
  * entries. Refusals 23, then 25. */
-nidskalm_reply chunk_optimization_graph_merge_target_by_classes(
+nidskalm_reply nidskalm_chunk_optimization_graph_merge_target_by_classes(
     uint64_t k, uint64_t m,
     const uint32_t *kinds, size_t kinds_length,                       /* k */
     const uint32_t *entry_modules, size_t entry_modules_length,       /* k */

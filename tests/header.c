@@ -3,9 +3,9 @@
 
 #include "nidskalm.h"
 
-#define LOAD 3, 2, 2, 8, starts, 4, dependencies, 2, hosts, 2
+#define LOAD 3, 2, 2, 8, starts, 4, dependencies, 2, hosts, 2, fixed, 3
 
-static const uint32_t starts[] = {0, 0, 1, 2}, dependencies[] = {0, 0}, hosts[] = {1, 2};
+static const uint32_t starts[] = {0, 0, 1, 2}, dependencies[] = {0, 0}, hosts[] = {1, 2}, fixed[] = {0, 0, 1};
 static uint32_t area[NIDSKALM_MOVE_AREA(3, 2, 2, 8)];
 
 static int failed;
@@ -20,25 +20,27 @@ static void expect(const char *what, uint64_t refusal, uint64_t value, uint64_t 
 static void moves(void) {
     const uint64_t sets[] = {3, 1, 2};
     const size_t length = sizeof area / sizeof *area;
-    nidskalm_reply reply = reduced_chunk_graph_new(LOAD, sets, 3, area, length);
+    nidskalm_reply reply = nidskalm_reduced_chunk_graph_new(LOAD, sets, 3, area, length);
     expect("loading", reply.refusal, reply.value, 0, 0);
-    reply = reduced_chunk_graph_try_move(LOAD, area, length, 0, &sets[1], 1);
+    reply = nidskalm_reduced_chunk_graph_try_move(LOAD, area, length, 0, &sets[1], 1);
     expect("a move", reply.refusal, reply.value, 0, 1);
-    reply = reduced_chunk_graph_try_move(LOAD, area, length, 1, &sets[0], 1);
+    reply = nidskalm_reduced_chunk_graph_try_move(LOAD, area, length, 1, &sets[0], 1);
     expect("a move that closes a cycle", reply.refusal, reply.value, 0, 0);
-    reply = reduced_chunk_graph_try_move(LOAD, area, length, 3, &sets[0], 1);
+    reply = nidskalm_reduced_chunk_graph_try_move(LOAD, area, length, 3, &sets[0], 1);
     expect("a move of no atom", reply.refusal, reply.value, 10, 0);
-    nidskalm_set_reply set = reduced_chunk_graph_atom_set(LOAD, area, length, 0);
+    reply = nidskalm_reduced_chunk_graph_try_move(LOAD, area, length, 2, &sets[0], 1);
+    expect("a move of a fixed atom", reply.refusal, reply.value, 24, 0);
+    nidskalm_set_reply set = nidskalm_reduced_chunk_graph_atom_set(LOAD, area, length, 0);
     expect("an atom's set", set.refusal, set.set0, 0, 1);
-    reply = reduced_chunk_graph_atom_count(LOAD, area, length, &sets[1], 1);
+    reply = nidskalm_reduced_chunk_graph_atom_count(LOAD, area, length, &sets[1], 1);
     expect("a count", reply.refusal, reply.value, 0, 2);
-    reply = reduced_chunk_graph_multiplicity(LOAD, area, length, &sets[2], 1, &sets[1], 1);
+    reply = nidskalm_reduced_chunk_graph_multiplicity(LOAD, area, length, &sets[2], 1, &sets[1], 1);
     expect("a multiplicity", reply.refusal, reply.value, 0, 1);
-    reply = reduced_chunk_graph_edge_count(LOAD, area, length);
+    reply = nidskalm_reduced_chunk_graph_edge_count(LOAD, area, length);
     expect("the number of edges", reply.refusal, reply.value, 0, 1);
-    nidskalm_edge_reply edge = reduced_chunk_graph_edge_at(LOAD, area, length, 0);
+    nidskalm_edge_reply edge = nidskalm_reduced_chunk_graph_edge_at(LOAD, area, length, 0);
     expect("an edge", edge.refusal, edge.from0 * 100 + edge.to0 * 10 + edge.multiplicity, 0, 211);
-    edge = reduced_chunk_graph_edge_at(LOAD, area, length, 1);
+    edge = nidskalm_reduced_chunk_graph_edge_at(LOAD, area, length, 1);
     expect("past the last edge", edge.refusal, edge.found, 0, 0);
 }
 
@@ -50,27 +52,27 @@ static void merges(void) {
     const uint32_t from[] = {0, 1, 1, 1}, to[] = {2}, proposal[] = {0}, bar[] = {0};
     const uint64_t set = 3;
     uint32_t kind[1] = {9}, number[1] = {9};
-    nidskalm_reply reply = chunk_optimization_graph_new(
+    nidskalm_reply reply = nidskalm_chunk_optimization_graph_new(
         4, 3, 4, 2, 2, 0, module_starts, 3, modules, 2, &set, 0, modules, 0, effects, 3,
         merge_area, sizeof merge_area / sizeof *merge_area);
     expect("loading chunks", reply.refusal, reply.value, 0, 0);
-    reply = chunk_optimization_graph_init_module_assignment(SIZE, 2, &set, 1, effects, 3);
+    reply = nidskalm_chunk_optimization_graph_init_module_assignment(SIZE, 2, &set, 1, effects, 3);
     expect("assigning a module", reply.refusal, reply.value, 0, 0);
-    reply = chunk_optimization_graph_add_module_to_chunk(SIZE, 2, 3, effects, 3);
+    reply = nidskalm_chunk_optimization_graph_add_module_to_chunk(SIZE, 2, 3, effects, 3);
     expect("adding to no chunk", reply.refusal, reply.value, 16, 0);
-    reply = chunk_optimization_graph_calc_chunk_dependencies(SIZE, from, 4, to, 1);
+    reply = nidskalm_chunk_optimization_graph_calc_chunk_dependencies(SIZE, from, 4, to, 1);
     expect("dependencies", reply.refusal, reply.value, 0, 0);
-    reply = chunk_optimization_graph_is_reachable(SIZE, 0, 2);
+    reply = nidskalm_chunk_optimization_graph_is_reachable(SIZE, 0, 2);
     expect("a walk", reply.refusal, reply.value, 0, 1);
-    reply = chunk_optimization_graph_would_create_circular_dependency(SIZE, 0, 2);
+    reply = nidskalm_chunk_optimization_graph_would_create_circular_dependency(SIZE, 0, 2);
     expect("a warning", reply.refusal, reply.value, 0, 1);
-    reply = chunk_optimization_graph_pass(SIZE, proposal, 1, bar, 1, kind, 1, number, 1);
+    reply = nidskalm_chunk_optimization_graph_pass(SIZE, proposal, 1, bar, 1, kind, 1, number, 1);
     expect("the pass", reply.refusal, reply.value * 100 + kind[0] * 10 + number[0], 0, 100);
-    reply = chunk_optimization_graph_register_chunk_graph_index(SIZE, 3, 2);
+    reply = nidskalm_chunk_optimization_graph_register_chunk_graph_index(SIZE, 3, 2);
     expect("registering", reply.refusal, reply.value, 0, 0);
-    reply = chunk_optimization_graph_to_temp_idx(SIZE, 3);
+    reply = nidskalm_chunk_optimization_graph_to_temp_idx(SIZE, 3);
     expect("a registered chunk", reply.refusal, reply.value, 0, 2);
-    reply = chunk_optimization_graph_merge_chunk_dependencies(SIZE, 1, 1);
+    reply = nidskalm_chunk_optimization_graph_merge_chunk_dependencies(SIZE, 1, 1);
     expect("merging with itself", reply.refusal, reply.value, 20, 0);
 }
 
@@ -78,24 +80,24 @@ static void merges(void) {
 static void targets(void) {
     const uint32_t kinds[] = {1, 1}, entries[] = {0, 1}, module_starts[] = {0, 1, 2}, importer_starts[] = {0, 1, 1, 1};
     const uint32_t importers[] = {1}, none[] = {0, 0, 0, 0}, candidate[] = {2};
-    nidskalm_reply reply = chunk_optimization_graph_merge_target(
+    nidskalm_reply reply = nidskalm_chunk_optimization_graph_merge_target(
         2, 3, kinds, 2, entries, 2, module_starts, 3, entries, 2, importer_starts, 4, importers, 1, none, 4, none, 0,
         none, 3, none, 0, none, 2, none, 3, candidate, 1, 3, 0, 0, 0);
     expect("a merge target", reply.refusal, reply.value, 0, 0);
-    reply = chunk_optimization_graph_merge_target(
+    reply = nidskalm_chunk_optimization_graph_merge_target(
         2, 3, kinds, 2, entries, 2, module_starts, 3, entries, 2, importer_starts, 4, importers, 1, none, 4, none, 0,
         none, 3, none, 0, none, 2, none, 3, candidate, 1, 0, 0, 0, 0);
     expect("no merge target", reply.refusal, reply.value, 0, NIDSKALM_NONE);
-    reply = chunk_optimization_graph_merge_target(
+    reply = nidskalm_chunk_optimization_graph_merge_target(
         2, 3, kinds, 1, entries, 2, module_starts, 3, entries, 2, importer_starts, 4, importers, 1, none, 4, none, 0,
         none, 3, none, 0, none, 2, none, 3, candidate, 1, 3, 0, 0, 0);
     expect("a list too short", reply.refusal, reply.value, 23, 0);
     const uint32_t classes[] = {0, 1, 0, 1, 1, 1, 1, 1};
-    reply = chunk_optimization_graph_merge_target_by_classes(
+    reply = nidskalm_chunk_optimization_graph_merge_target_by_classes(
         2, 3, kinds, 2, entries, 2, module_starts, 3, entries, 2, importer_starts, 4, importers, 1, none, 4, none, 0,
         none, 3, none, 0, none, 2, none, 3, candidate, 1, 3, 0, 0, 0, classes, 8);
     expect("a merge target by classes", reply.refusal, reply.value, 0, 0);
-    reply = chunk_optimization_graph_merge_target_by_classes(
+    reply = nidskalm_chunk_optimization_graph_merge_target_by_classes(
         2, 3, kinds, 2, entries, 2, module_starts, 3, entries, 2, importer_starts, 4, importers, 1, none, 4, none, 0,
         none, 3, none, 0, none, 2, none, 3, candidate, 1, 3, 0, 0, 0, classes, 7);
     expect("seven classes", reply.refusal, reply.value, 25, 0);

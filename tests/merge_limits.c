@@ -40,16 +40,16 @@ static void begin(void) {
     const uint32_t starts[] = {0, 1, 2}, modules[] = {0, 1}, chunks[] = {0};
     const uint64_t sets[] = {1};
     fill(AREA, 7);
-    done("two initial chunks", chunk_optimization_graph_new(FOUR, 2, 0, starts, 3, modules, 2, sets, 1, chunks, 1, effects, 4, AREA));
+    done("two initial chunks", nidskalm_chunk_optimization_graph_new(FOUR, 2, 0, starts, 3, modules, 2, sets, 1, chunks, 1, effects, 4, AREA));
 }
 
 /* Modules 2 and 3 in chunks that need creation; 0 depends on 1, and 3 on 2. */
 static void two_candidates(void) {
     const uint64_t third = 4, fourth = 8;
     const uint32_t starts[] = {0, 1, 1, 1, 2}, dependencies[] = {1, 2};
-    done("a set of its own", chunk_optimization_graph_init_module_assignment(FOUR, AREA, 2, &third, 1, effects, 4));
-    done("another", chunk_optimization_graph_init_module_assignment(FOUR, AREA, 3, &fourth, 1, effects, 4));
-    done("dependencies", chunk_optimization_graph_calc_chunk_dependencies(FOUR, AREA, starts, 5, dependencies, 2));
+    done("a set of its own", nidskalm_chunk_optimization_graph_init_module_assignment(FOUR, AREA, 2, &third, 1, effects, 4));
+    done("another", nidskalm_chunk_optimization_graph_init_module_assignment(FOUR, AREA, 3, &fourth, 1, effects, 4));
+    done("dependencies", nidskalm_chunk_optimization_graph_calc_chunk_dependencies(FOUR, AREA, starts, 5, dependencies, 2));
 }
 
 /* The warning says no although a loop runs through a chunk that was merged away: 2 is merged into 0, then 3 into 1, while 0 depends on 1
@@ -57,18 +57,18 @@ static void two_candidates(void) {
 static void merges(void) {
     begin();
     two_candidates();
-    said("2 into 0 warns", chunk_optimization_graph_would_create_circular_dependency(FOUR, AREA, 2, 0));
-    done("2 into 0", chunk_optimization_graph_merge_chunk_dependencies(FOUR, AREA, 0, 2));
-    said("3 into 1 warns", chunk_optimization_graph_would_create_circular_dependency(FOUR, AREA, 3, 1));
-    done("3 into 1", chunk_optimization_graph_merge_chunk_dependencies(FOUR, AREA, 1, 3));
-    said("0 reaches 2, which it took over", chunk_optimization_graph_is_reachable(FOUR, AREA, 0, 2));
+    said("2 into 0 warns", nidskalm_chunk_optimization_graph_would_create_circular_dependency(FOUR, AREA, 2, 0));
+    done("2 into 0", nidskalm_chunk_optimization_graph_merge_chunk_dependencies(FOUR, AREA, 0, 2));
+    said("3 into 1 warns", nidskalm_chunk_optimization_graph_would_create_circular_dependency(FOUR, AREA, 3, 1));
+    done("3 into 1", nidskalm_chunk_optimization_graph_merge_chunk_dependencies(FOUR, AREA, 1, 3));
+    said("0 reaches 2, which it took over", nidskalm_chunk_optimization_graph_is_reachable(FOUR, AREA, 0, 2));
 }
 
 /* A pass's answer lists. */
 static uint32_t kinds[2], numbers[2];
 
 static nidskalm_reply pass(const uint32_t *proposals, size_t proposals_length, const uint32_t *bars) {
-    return chunk_optimization_graph_pass(FOUR, AREA, proposals, proposals_length, bars, 2, kinds, 2, numbers, 2);
+    return nidskalm_chunk_optimization_graph_pass(FOUR, AREA, proposals, proposals_length, bars, 2, kinds, 2, numbers, 2);
 }
 
 static void say_lists(void) {
@@ -106,15 +106,15 @@ static void lists(void) {
     const uint64_t set = 4;
     const uint32_t starts[] = {0, 1, 1, 2, 2}, dependencies[] = {2, 0};
     begin();
-    done("module 0 in chunk 1 too", chunk_optimization_graph_add_module_to_chunk(FOUR, AREA, 0, 1, effects, 4));
+    done("module 0 in chunk 1 too", nidskalm_chunk_optimization_graph_add_module_to_chunk(FOUR, AREA, 0, 1, effects, 4));
     done("the last list entry, module 2 in chunk 2",
-         chunk_optimization_graph_init_module_assignment(FOUR, AREA, 2, &set, 1, effects, 4));
-    done("each depends on the other", chunk_optimization_graph_calc_chunk_dependencies(FOUR, AREA, starts, 5, dependencies, 2));
+         nidskalm_chunk_optimization_graph_init_module_assignment(FOUR, AREA, 2, &set, 1, effects, 4));
+    done("each depends on the other", nidskalm_chunk_optimization_graph_calc_chunk_dependencies(FOUR, AREA, starts, 5, dependencies, 2));
     say("0 depends on 2", area[4 * 0 + 2]);
     say("1 depends on 2", area[4 * 1 + 2]);
     say("2 depends on 0", area[4 * 2 + 0]);
     say("2 depends on 1", area[4 * 2 + 1]);
-    done("one entry past the last", chunk_optimization_graph_init_module_assignment(FOUR, AREA, 3, &set, 1, effects, 4));
+    done("one entry past the last", nidskalm_chunk_optimization_graph_init_module_assignment(FOUR, AREA, 3, &set, 1, effects, 4));
 }
 
 #define ONE 1, 1, 1, 1
@@ -126,12 +126,12 @@ static void smallest(void) {
     const uint32_t starts[] = {0, 0}, none[] = {0};
     const uint64_t set = 1;
     fill(SMALL, 7);
-    done("C = 1", chunk_optimization_graph_new(ONE, 1, 0, starts, 2, none, 0, &set, 0, none, 0, none, 1, SMALL));
-    done("a set of its own", chunk_optimization_graph_init_module_assignment(ONE, SMALL, 0, &set, 1, none, 1));
-    done("a module in the chunk", chunk_optimization_graph_add_module_to_chunk(ONE, SMALL, 0, 0, none, 1));
-    said("it reaches itself", chunk_optimization_graph_is_reachable(ONE, SMALL, 0, 0));
-    said("it is merged into itself", chunk_optimization_graph_would_create_circular_dependency(ONE, SMALL, 0, 0));
-    passed("a pass over no candidate", chunk_optimization_graph_pass(ONE, SMALL, none, 0, none, 0, kinds, 0, numbers, 0));
+    done("C = 1", nidskalm_chunk_optimization_graph_new(ONE, 1, 0, starts, 2, none, 0, &set, 0, none, 0, none, 1, SMALL));
+    done("a set of its own", nidskalm_chunk_optimization_graph_init_module_assignment(ONE, SMALL, 0, &set, 1, none, 1));
+    done("a module in the chunk", nidskalm_chunk_optimization_graph_add_module_to_chunk(ONE, SMALL, 0, 0, none, 1));
+    said("it reaches itself", nidskalm_chunk_optimization_graph_is_reachable(ONE, SMALL, 0, 0));
+    said("it is merged into itself", nidskalm_chunk_optimization_graph_would_create_circular_dependency(ONE, SMALL, 0, 0));
+    passed("a pass over no candidate", nidskalm_chunk_optimization_graph_pass(ONE, SMALL, none, 0, none, 0, kinds, 0, numbers, 0));
 }
 
 /* All four chunks are initial, without a module or a set. */
@@ -139,12 +139,12 @@ static void whole(void) {
     const uint32_t starts[5] = {0}, none[] = {0};
     const uint64_t set = 4;
     fill(AREA, 7);
-    done("initial = C", chunk_optimization_graph_new(FOUR, 4, 0, starts, 5, none, 0, &set, 0, none, 0, no_effects, 4, AREA));
-    done("a set of its own", chunk_optimization_graph_init_module_assignment(FOUR, AREA, 0, &set, 1, no_effects, 4));
-    done("the last key", chunk_optimization_graph_register_chunk_graph_index(FOUR, AREA, 3, 0));
-    done("one past it", chunk_optimization_graph_register_chunk_graph_index(FOUR, AREA, 4, 0));
+    done("initial = C", nidskalm_chunk_optimization_graph_new(FOUR, 4, 0, starts, 5, none, 0, &set, 0, none, 0, no_effects, 4, AREA));
+    done("a set of its own", nidskalm_chunk_optimization_graph_init_module_assignment(FOUR, AREA, 0, &set, 1, no_effects, 4));
+    done("the last key", nidskalm_chunk_optimization_graph_register_chunk_graph_index(FOUR, AREA, 3, 0));
+    done("one past it", nidskalm_chunk_optimization_graph_register_chunk_graph_index(FOUR, AREA, 4, 0));
     area[NEEDS] = 1;
-    done("an initial chunk that needs creation", chunk_optimization_graph_register_chunk_graph_index(FOUR, AREA, 3, 0));
+    done("an initial chunk that needs creation", nidskalm_chunk_optimization_graph_register_chunk_graph_index(FOUR, AREA, 3, 0));
 }
 
 /* Module 3 is listed with both chunks, and has side effects. */
@@ -152,7 +152,7 @@ static void loaded(void) {
     const uint32_t starts[] = {0, 2, 3}, modules[] = {3, 0, 3}, chunks[] = {0, 1};
     const uint64_t sets[] = {1, 2};
     fill(AREA, 7);
-    done("a loading", chunk_optimization_graph_new(FOUR, 2, 0, starts, 3, modules, 3, sets, 2, chunks, 2, effects, 4, AREA));
+    done("a loading", nidskalm_chunk_optimization_graph_new(FOUR, 2, 0, starts, 3, modules, 3, sets, 2, chunks, 2, effects, 4, AREA));
     say("chunks made", area[MADE]);
     say("sets", area[SETS]);
     say("list entries", area[ENTRIES]);
@@ -164,7 +164,7 @@ static void loaded(void) {
     say("chunk of module 1", area[MODULE_CHUNKS + 1]);
     say("chunk of module 3, listed twice", area[MODULE_CHUNKS + 3]);
     say("a number of no field", area[NO_FIELD]);
-    said("0 reaches 1", chunk_optimization_graph_is_reachable(FOUR, AREA, 0, 1));
+    said("0 reaches 1", nidskalm_chunk_optimization_graph_is_reachable(FOUR, AREA, 0, 1));
 }
 
 /* A loading's lists, without side effects. */
@@ -179,7 +179,7 @@ typedef struct {
 } load;
 
 static void load_into(const char *name, load x, uint32_t *into, size_t length) {
-    nidskalm_reply reply = chunk_optimization_graph_new(
+    nidskalm_reply reply = nidskalm_chunk_optimization_graph_new(
         FOUR, x.initial, 0, x.starts, x.initial + 1, x.modules, x.modules_length, x.sets, x.sets_length, x.chunks, x.chunks_length,
         no_effects, 4, into, length);
     done(name, reply);

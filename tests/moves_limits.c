@@ -5,10 +5,10 @@
 /* The sizes and lists that every call is lent, each list as long as it has to be. */
 typedef struct {
     uint64_t a, d, e, n;
-    const uint32_t *starts, *dependencies, *hosts;
+    const uint32_t *starts, *dependencies, *hosts, *fixed;
 } load;
 
-#define LENT(x) (x).a, (x).d, (x).e, (x).n, (x).starts, (x).a + 1, (x).dependencies, (x).d, (x).hosts, (x).e
+#define LENT(x) (x).a, (x).d, (x).e, (x).n, (x).starts, (x).a + 1, (x).dependencies, (x).d, (x).hosts, (x).e, (x).fixed, (x).a
 
 static const uint32_t zeros[514];
 static const uint32_t nobody[10] = {
@@ -18,12 +18,12 @@ static const uint32_t nobody[10] = {
 
 /* Loads, and says what is answered. */
 static void loaded(const char *name, load x, const uint64_t *sets, size_t sets_length, uint32_t *area, size_t length) {
-    nidskalm_reply reply = reduced_chunk_graph_new(LENT(x), sets, sets_length, area, length);
+    nidskalm_reply reply = nidskalm_reduced_chunk_graph_new(LENT(x), sets, sets_length, area, length);
     say(name, reply.refusal != 0 ? row(reply) : 100 + 100 * reply.value);
 }
 
 static void moved(const char *name, load x, uint32_t *area, size_t length, uint32_t atom, const uint64_t *bits, size_t w) {
-    nidskalm_reply reply = reduced_chunk_graph_try_move(LENT(x), area, length, atom, bits, w);
+    nidskalm_reply reply = nidskalm_reduced_chunk_graph_try_move(LENT(x), area, length, atom, bits, w);
     say(name, reply.refusal != 0 ? row(reply) : 200 - 100 * reply.value);
 }
 
@@ -42,7 +42,7 @@ static void most_atoms(void) {
     static uint64_t sets[512];
     const uint64_t targets[] = {0, 600, 601, 511};
     const uint32_t *first_words = area + 513 * 513 + 24;
-    const load x = {512, 0, 10, 513, zeros, zeros, nobody}, narrow = {512, 0, 10, 512, zeros, zeros, nobody};
+    const load x = {512, 0, 10, 513, zeros, zeros, nobody, zeros}, narrow = {512, 0, 10, 512, zeros, zeros, nobody, zeros};
     number(sets, LENGTH(sets));
     loaded("512 atoms with room for 512 sets", narrow, sets, LENGTH(sets), area, LENGTH(area));
     loaded("512 atoms", x, sets, LENGTH(sets), area, LENGTH(area));
@@ -60,12 +60,12 @@ static void most_atoms(void) {
 static void month_of_moves(void) {
     static uint32_t area[NIDSKALM_MOVE_AREA(4, 0, 10, 5)];
     const uint64_t sets[] = {0, 1, 2, 3};
-    const load x = {4, 0, 10, 5, zeros, zeros, nobody};
+    const load x = {4, 0, 10, 5, zeros, zeros, nobody, zeros};
     uint64_t refused = 0, accepted = 0;
     loaded("four atoms with room for five sets", x, sets, LENGTH(sets), area, LENGTH(area));
     for (uint32_t k = 0; k < 10000; k++) {
         const uint64_t target = 4 + k % 1000;
-        nidskalm_reply reply = reduced_chunk_graph_try_move(LENT(x), area, LENGTH(area), k % 4, &target, 1);
+        nidskalm_reply reply = nidskalm_reduced_chunk_graph_try_move(LENT(x), area, LENGTH(area), k % 4, &target, 1);
         refused += reply.refusal != 0;
         accepted += reply.value;
     }
@@ -76,7 +76,7 @@ static void month_of_moves(void) {
 static void too_many_atoms(void) {
     static uint32_t area[NIDSKALM_MOVE_AREA(513, 0, 10, 513)];
     static uint64_t sets[513];
-    const load x = {513, 0, 10, 513, zeros, zeros, nobody};
+    const load x = {513, 0, 10, 513, zeros, zeros, nobody, zeros};
     number(sets, LENGTH(sets));
     loaded("513 atoms", x, sets, LENGTH(sets), area, LENGTH(area));
 }
@@ -86,7 +86,7 @@ static void too_many_atoms(void) {
 static void most_chunks(const char *name, uint64_t n) {
     uint32_t area[24] = {0};
     const uint64_t set = 0;
-    const load x = {1, 0, 1, n, zeros, zeros, nobody};
+    const load x = {1, 0, 1, n, zeros, zeros, nobody, zeros};
     loaded(name, x, &set, 1, area, LENGTH(area));
 }
 
@@ -94,7 +94,7 @@ static void most_chunks(const char *name, uint64_t n) {
 static void no_atoms(void) {
     uint32_t area[49] = {0};
     const uint64_t set = 0;
-    const load x = {0, 0, 0, 1, zeros, zeros, nobody}, narrow = {0, 0, 0, 0, zeros, zeros, nobody};
+    const load x = {0, 0, 0, 1, zeros, zeros, nobody, zeros}, narrow = {0, 0, 0, 0, zeros, zeros, nobody, zeros};
     loaded("no atoms with room for no set", narrow, &set, 0, area, LENGTH(area));
     loaded("no atoms", x, &set, 0, area, LENGTH(area));
     moved("none of them moves", x, area, LENGTH(area), 0, &set, 0);
@@ -105,7 +105,7 @@ static void all_bits(void) {
     static uint32_t area[NIDSKALM_MOVE_AREA(2, 0, 256, 3)];
     static uint32_t hosts[256];
     const uint64_t sets[] = {0, 0, 0, UINT64_C(1) << 63, 1, 1, 1, 1};
-    const load x = {2, 0, 256, 3, zeros, zeros, hosts};
+    const load x = {2, 0, 256, 3, zeros, zeros, hosts, zeros};
     fill(hosts, LENGTH(hosts), NIDSKALM_NONE);
     hosts[255] = 1;
     loaded("256 bits", x, sets, LENGTH(sets), area, LENGTH(area));
@@ -120,7 +120,7 @@ static void all_bits(void) {
 static void sizes(void) {
     uint32_t area[127];
     const uint64_t set = 1;
-    const load x = {1, 0, 1, 2, zeros, zeros, nobody};
+    const load x = {1, 0, 1, 2, zeros, zeros, nobody, zeros};
     fill(area, LENGTH(area), 7);
     loaded("one number short", x, &set, 1, area, 123);
     loaded("three numbers too many", x, &set, 1, area, LENGTH(area));
@@ -135,7 +135,7 @@ static void last_mark(void) {
     uint32_t area[NIDSKALM_MOVE_AREA(2, 1, 2, 3)] = {0};
     const uint32_t starts[] = {0, 1, 1}, dependencies[] = {1};
     const uint64_t sets[] = {1, 2}, target = 3;
-    const load x = {2, 1, 2, 3, starts, dependencies, nobody};
+    const load x = {2, 1, 2, 3, starts, dependencies, nobody, zeros};
     loaded("two atoms", x, sets, LENGTH(sets), area, LENGTH(area));
     area[10] = UINT32_MAX;
     area[60] = 5;
@@ -148,6 +148,44 @@ static void last_mark(void) {
     say("the mark of node 2", area[62]);
 }
 
+/* Fixed atoms: row 24, the marks' number, and the flags, which stand in the atoms' second lane from 107 = 3×3 + 24 + 24×3 + 2 on. */
+static void fixed_atoms(void) {
+    uint32_t area[NIDSKALM_MOVE_AREA(2, 2, 2, 3)] = {0};
+    const uint32_t starts[] = {0, 1, 2}, dependencies[] = {1, 0}, marks[] = {0, 7, 0}, other[] = {0, 1}, swapped[] = {7, 0};
+    const uint64_t sets[] = {1, 2, 4}, target = 3;
+    uint32_t *flags = area + 3 * 3 + 24 + 24 * 3 + 2;
+    const load x = {2, 2, 2, 3, starts, dependencies, nobody, marks}, alike = {2, 2, 2, 3, starts, dependencies, nobody, other};
+    const load changed = {2, 2, 2, 3, starts, dependencies, nobody, swapped};
+    const size_t length = LENGTH(area);
+    for (size_t count = 1; count <= 3; count++) {
+        nidskalm_reply reply = nidskalm_reduced_chunk_graph_new(
+            2, 2, 2, 3, starts, 3, dependencies, 2, nobody, 2, marks, count, sets, 2, area, length);
+        say("a loading with 1, 2, 3 marks", reply.refusal != 0 ? row(reply) : 100 + 100 * reply.value);
+    }
+    say("the flag of atom 0", flags[0]);
+    say("of atom 1, whose mark is 7", flags[1]);
+    moved("atom 1 to another set", x, area, length, 1, sets, 1);
+    moved("to its own", x, area, length, 1, sets + 1, 1);
+    moved("to none", x, area, length, 1, sets + 2, 1);
+    moved("to a list of no numbers", x, area, length, 1, sets, 0);
+    moved("to a new one, in a cyclic graph", alike, area, length, 1, &target, 1);
+    moved("atom 2", x, area, length, 2, sets, 1);
+    moved("the marks the other way round", changed, area, length, 0, sets + 1, 1);
+    for (size_t count = 1; count <= 3; count++) {
+        nidskalm_reply reply = nidskalm_reduced_chunk_graph_edge_count(
+            2, 2, 2, 3, starts, 3, dependencies, 2, nobody, 2, marks, count, area, length);
+        say("a question with 1, 2, 3 marks", reply.refusal != 0 ? row(reply) : 100 + reply.value);
+    }
+    for (uint32_t kept = 0; kept <= 7; kept += kept == 0 ? 1 : 6) {
+        flags[1] = kept;
+        moved("with the flag 0, 1, 7", x, area, length, 1, sets, 1);
+    }
+    flags[1] = 1;
+    moved("atom 0 joins it", x, area, length, 0, sets + 1, 1);
+    say("the flag of atom 0", flags[0]);
+    say("of atom 1", flags[1]);
+}
+
 int main(void) {
     most_atoms();
     month_of_moves();
@@ -158,5 +196,6 @@ int main(void) {
     all_bits();
     sizes();
     last_mark();
+    fixed_atoms();
     return 0;
 }

@@ -31,14 +31,14 @@ static bool same_list(const uint32_t *list, uint64_t length) {
 static void init_module_assignment(const graph *x) {
     uint32_t module = small();
     const uint64_t *bits = wides(x->w);
-    done_told(chunk_optimization_graph_init_module_assignment(LENT(x), module, bits, x->w, x->effects, x->m));
+    done_told(nidskalm_chunk_optimization_graph_init_module_assignment(LENT(x), module, bits, x->w, x->effects, x->m));
 }
 
 static void calc_chunk_dependencies(const graph *x) {
     uint64_t count = one();
     const uint32_t *starts = smalls(x->m + 1);
     const uint32_t *dependencies = smalls(count);
-    done_told(chunk_optimization_graph_calc_chunk_dependencies(LENT(x), starts, x->m + 1, dependencies, count));
+    done_told(nidskalm_chunk_optimization_graph_calc_chunk_dependencies(LENT(x), starts, x->m + 1, dependencies, count));
 }
 
 /* The answer lists are lent with 7 everywhere. They are recorded whether the pass is refused or not. */
@@ -51,7 +51,7 @@ static void pass(const graph *x) {
     for (uint64_t i = 0; i < count; i++) {
         kinds[i] = numbers[i] = 7;
     }
-    nidskalm_reply reply = chunk_optimization_graph_pass(LENT(x), proposals, count, bars, count, kinds, count, numbers, count);
+    nidskalm_reply reply = nidskalm_chunk_optimization_graph_pass(LENT(x), proposals, count, bars, count, kinds, count, numbers, count);
     const uint64_t *recorded = wides(2);
     bool same_kinds = same_list(kinds, count);
     bool same_numbers = same_list(numbers, count);
@@ -63,11 +63,11 @@ static void pair(const graph *x, uint64_t kind) {
     uint32_t first = small();
     uint32_t second = small();
     switch (kind) {
-    case 2: done_told(chunk_optimization_graph_add_module_to_chunk(LENT(x), first, second, x->effects, x->m)); break;
-    case 3: done_told(chunk_optimization_graph_register_chunk_graph_index(LENT(x), first, second)); break;
-    case 6: reply_told(chunk_optimization_graph_would_create_circular_dependency(LENT(x), first, second)); break;
-    case 7: reply_told(chunk_optimization_graph_is_reachable(LENT(x), first, second)); break;
-    default: done_told(chunk_optimization_graph_merge_chunk_dependencies(LENT(x), first, second)); break;
+    case 2: done_told(nidskalm_chunk_optimization_graph_add_module_to_chunk(LENT(x), first, second, x->effects, x->m)); break;
+    case 3: done_told(nidskalm_chunk_optimization_graph_register_chunk_graph_index(LENT(x), first, second)); break;
+    case 6: reply_told(nidskalm_chunk_optimization_graph_would_create_circular_dependency(LENT(x), first, second)); break;
+    case 7: reply_told(nidskalm_chunk_optimization_graph_is_reachable(LENT(x), first, second)); break;
+    default: done_told(nidskalm_chunk_optimization_graph_merge_chunk_dependencies(LENT(x), first, second)); break;
     }
 }
 
@@ -186,7 +186,7 @@ static void call(const graph *x) {
     switch (kind) {
     case 1: init_module_assignment(x); break;
     case 2: case 3: case 6: case 7: case 8: pair(x, kind); break;
-    case 4: reply_told(chunk_optimization_graph_to_temp_idx(LENT(x), small())); break;
+    case 4: reply_told(nidskalm_chunk_optimization_graph_to_temp_idx(LENT(x), small())); break;
     case 5: calc_chunk_dependencies(x); break;
     case 9: pass(x); break;
     case 10: chunk_told(x); break;
@@ -207,7 +207,7 @@ static void load(graph *x) {
     const uint64_t *sets = wides(pairs * x->w);
     const uint32_t *chunks = smalls(pairs);
     x->effects = smalls(x->m);
-    done_told(chunk_optimization_graph_new(
+    done_told(nidskalm_chunk_optimization_graph_new(
         SIZES(x), initial, 0, starts, initial + 1, modules, count, sets, pairs * x->w, chunks, pairs, x->effects, x->m,
         x->area, x->length));
 }

@@ -3,7 +3,7 @@
 
 #include "replay.h"
 
-/* What every call is lent, and w, the numbers of a set. */
+/* What every call is lent, and w, the numbers of a set. The recorded cases have no fixed atoms. */
 typedef struct {
     uint64_t a, d, e, n, w;
     const uint32_t *starts, *dependencies, *hosts;
@@ -11,8 +11,10 @@ typedef struct {
     size_t length;
 } load;
 
-#define LENT(x) (x)->a, (x)->d, (x)->e, (x)->n, (x)->starts, (x)->a + 1, (x)->dependencies, (x)->d, (x)->hosts, (x)->e
+#define LENT(x) (x)->a, (x)->d, (x)->e, (x)->n, (x)->starts, (x)->a + 1, (x)->dependencies, (x)->d, (x)->hosts, (x)->e, unmarked, (x)->a
 #define AREA(x) (x)->area, (x)->length
+
+static const uint32_t unmarked[512];
 
 /* The set of w numbers that comes next in the record is this one of four. */
 static bool same_set(uint64_t w, const uint64_t set[4]) {
@@ -42,28 +44,28 @@ static void edge_told(uint64_t w, nidskalm_edge_reply reply) {
 static void try_move(const load *x) {
     uint32_t atom = small();
     const uint64_t *bits = wides(x->w);
-    reply_told(reduced_chunk_graph_try_move(LENT(x), AREA(x), atom, bits, x->w));
+    reply_told(nidskalm_reduced_chunk_graph_try_move(LENT(x), AREA(x), atom, bits, x->w));
 }
 
 static void atom_count(const load *x) {
     const uint64_t *bits = wides(x->w);
-    reply_told(reduced_chunk_graph_atom_count(LENT(x), AREA(x), bits, x->w));
+    reply_told(nidskalm_reduced_chunk_graph_atom_count(LENT(x), AREA(x), bits, x->w));
 }
 
 static void multiplicity(const load *x) {
     const uint64_t *from = wides(x->w);
     const uint64_t *to = wides(x->w);
-    reply_told(reduced_chunk_graph_multiplicity(LENT(x), AREA(x), from, x->w, to, x->w));
+    reply_told(nidskalm_reduced_chunk_graph_multiplicity(LENT(x), AREA(x), from, x->w, to, x->w));
 }
 
 static void call(const load *x) {
     switch (one()) {
     case 1: try_move(x); break;
-    case 2: set_told(x->w, reduced_chunk_graph_atom_set(LENT(x), AREA(x), small())); break;
+    case 2: set_told(x->w, nidskalm_reduced_chunk_graph_atom_set(LENT(x), AREA(x), small())); break;
     case 3: atom_count(x); break;
     case 4: multiplicity(x); break;
-    case 5: reply_told(reduced_chunk_graph_edge_count(LENT(x), AREA(x))); break;
-    case 6: edge_told(x->w, reduced_chunk_graph_edge_at(LENT(x), AREA(x), one())); break;
+    case 5: reply_told(nidskalm_reduced_chunk_graph_edge_count(LENT(x), AREA(x))); break;
+    case 6: edge_told(x->w, nidskalm_reduced_chunk_graph_edge_at(LENT(x), AREA(x), one())); break;
     default: readable(false);
     }
 }
@@ -81,7 +83,7 @@ void replay_moves(void) {
     x.length = NIDSKALM_MOVE_AREA(x.a, x.d, x.e, x.n);
     x.area = lent(x.length);
     const uint64_t *sets = wides(x.a * x.w);
-    reply_told(reduced_chunk_graph_new(LENT(&x), sets, x.a * x.w, AREA(&x)));
+    reply_told(nidskalm_reduced_chunk_graph_new(LENT(&x), sets, x.a * x.w, AREA(&x)));
     for (uint64_t left = one(); left > 0; left--) {
         call(&x);
     }

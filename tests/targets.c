@@ -84,7 +84,7 @@ static bool replay(void) {
     uint64_t set0 = one(), set1 = one(), set2 = one(), set3 = one();
     uint64_t refusal = one(), value = one();
     readable(at == size);
-    nidskalm_reply reply = chunk_optimization_graph_merge_target(
+    nidskalm_reply reply = nidskalm_chunk_optimization_graph_merge_target(
         k, m, kinds.items, kinds.length, entries.items, entries.length,
         module_starts.items, module_starts.length, modules.items, modules.length,
         importer_starts.items, importer_starts.length, importers.items, importers.length,

@@ -10,7 +10,7 @@ fn bits(set: EntrySet) -> String {
 
 fn main() -> Result<(), Refusal> {
     // Atom 0 is code shared by the entries 0 and 1, which atoms 1 and 2 hold; both need it.
-    let load = Load { starts: &[0, 0, 1, 2], dependencies: &[0, 0], hosts: &[1, 2] };
+    let load = Load { starts: &[0, 0, 1, 2], dependencies: &[0, 0], hosts: &[1, 2], fixed: &[0, 0, 0] };
     let sets = [EntrySet::from(3), EntrySet::from(1), EntrySet::from(2)];
     let mut moves = MoveGraph::new(load, 8, &sets)?;
     println!("loaded, {}", if moves.cyclic_at_loading() { "cyclic" } else { "acyclic" });

@@ -39,7 +39,8 @@ macro_rules! with_load {
                 load.atoms() as u64, load.dependencies.len() as u64, load.hosts.len() as u64, sets,
                 load.starts.as_ptr(), load.starts.len(),
                 load.dependencies.as_ptr(), load.dependencies.len(),
-                load.hosts.as_ptr(), load.hosts.len()
+                load.hosts.as_ptr(), load.hosts.len(),
+                load.fixed.as_ptr(), load.fixed.len()
                 $(, $more)*
             )
         }
@@ -57,39 +58,49 @@ macro_rules! with_size {
 
 /// Loads a move graph with room for `n` sets; value 0 acyclic, 1 cyclic.
 pub fn reduced_chunk_graph_new(load: &Load, n: u64, sets: &[u64], area: &mut [u32]) -> Reply {
-    with_load!(reduced_chunk_graph_new, load, n, sets.as_ptr(), sets.len(), area.as_mut_ptr(), area.len())
+    with_load!(nidskalm_reduced_chunk_graph_new, load, n, sets.as_ptr(), sets.len(), area.as_mut_ptr(), area.len())
 }
 
 /// Tries a move; value 1 accepted, 0 rejected.
 pub fn reduced_chunk_graph_try_move(load: &Load, n: u64, area: &mut [u32], atom: u32, bits: &[u64]) -> Reply {
     let (lent, length) = (area.as_mut_ptr(), area.len());
-    with_load!(reduced_chunk_graph_try_move, load, n, lent, length, atom, bits.as_ptr(), bits.len())
+    with_load!(nidskalm_reduced_chunk_graph_try_move, load, n, lent, length, atom, bits.as_ptr(), bits.len())
 }
 
 /// An atom's set.
 pub fn reduced_chunk_graph_atom_set(load: &Load, n: u64, area: &[u32], atom: u32) -> SetReply {
-    with_load!(reduced_chunk_graph_atom_set, load, n, area.as_ptr(), area.len(), atom)
+    with_load!(nidskalm_reduced_chunk_graph_atom_set, load, n, area.as_ptr(), area.len(), atom)
 }
 
 /// The number of atoms in a set.
 pub fn reduced_chunk_graph_atom_count(load: &Load, n: u64, area: &[u32], bits: &[u64]) -> Reply {
-    with_load!(reduced_chunk_graph_atom_count, load, n, area.as_ptr(), area.len(), bits.as_ptr(), bits.len())
+    with_load!(nidskalm_reduced_chunk_graph_atom_count, load, n, area.as_ptr(), area.len(), bits.as_ptr(), bits.len())
 }
 
 /// An edge's multiplicity.
 pub fn reduced_chunk_graph_multiplicity(load: &Load, n: u64, area: &[u32], from: &[u64], to: &[u64]) -> Reply {
     let (lent, length, from, from_length) = (area.as_ptr(), area.len(), from.as_ptr(), from.len());
-    with_load!(reduced_chunk_graph_multiplicity, load, n, lent, length, from, from_length, to.as_ptr(), to.len())
+    with_load!(
+        nidskalm_reduced_chunk_graph_multiplicity,
+        load,
+        n,
+        lent,
+        length,
+        from,
+        from_length,
+        to.as_ptr(),
+        to.len()
+    )
 }
 
 /// The number of distinct edges.
 pub fn reduced_chunk_graph_edge_count(load: &Load, n: u64, area: &[u32]) -> Reply {
-    with_load!(reduced_chunk_graph_edge_count, load, n, area.as_ptr(), area.len())
+    with_load!(nidskalm_reduced_chunk_graph_edge_count, load, n, area.as_ptr(), area.len())
 }
 
 /// The k-th edge, from 0, by rising source set, then target set.
 pub fn reduced_chunk_graph_edge_at(load: &Load, n: u64, area: &[u32], k: u64) -> EdgeReply {
-    with_load!(reduced_chunk_graph_edge_at, load, n, area.as_ptr(), area.len(), k)
+    with_load!(nidskalm_reduced_chunk_graph_edge_at, load, n, area.as_ptr(), area.len(), k)
 }
 
 /// Loads a merge graph. `sets` holds the named sets' numbers, as many for each as the entry bits need.
@@ -102,7 +113,7 @@ pub fn chunk_optimization_graph_new(
     area: &mut [u32],
 ) -> Reply {
     with_size!(
-        chunk_optimization_graph_new,
+        nidskalm_chunk_optimization_graph_new,
         size,
         initial.module_starts.len().saturating_sub(1) as u64,
         mode as u32,
@@ -132,7 +143,7 @@ pub fn chunk_optimization_graph_init_module_assignment(
     let (lent, length, bits, bits_length) = (area.as_mut_ptr(), area.len(), bits.as_ptr(), bits.len());
     let (effects, count) = (side_effects.as_ptr(), side_effects.len());
     with_size!(
-        chunk_optimization_graph_init_module_assignment,
+        nidskalm_chunk_optimization_graph_init_module_assignment,
         size,
         lent,
         length,
@@ -154,7 +165,7 @@ pub fn chunk_optimization_graph_add_module_to_chunk(
 ) -> Reply {
     let (lent, length) = (area.as_mut_ptr(), area.len());
     let (effects, count) = (side_effects.as_ptr(), side_effects.len());
-    with_size!(chunk_optimization_graph_add_module_to_chunk, size, lent, length, module, chunk, effects, count)
+    with_size!(nidskalm_chunk_optimization_graph_add_module_to_chunk, size, lent, length, module, chunk, effects, count)
 }
 
 /// Registers a chunk under a key.
@@ -165,12 +176,12 @@ pub fn chunk_optimization_graph_register_chunk_graph_index(
     chunk: u32,
 ) -> Reply {
     let (lent, length) = (area.as_mut_ptr(), area.len());
-    with_size!(chunk_optimization_graph_register_chunk_graph_index, size, lent, length, key, chunk)
+    with_size!(nidskalm_chunk_optimization_graph_register_chunk_graph_index, size, lent, length, key, chunk)
 }
 
 /// The chunk registered under a key, or 4,294,967,295.
 pub fn chunk_optimization_graph_to_temp_idx(size: Size, area: &[u32], key: u32) -> Reply {
-    with_size!(chunk_optimization_graph_to_temp_idx, size, area.as_ptr(), area.len(), key)
+    with_size!(nidskalm_chunk_optimization_graph_to_temp_idx, size, area.as_ptr(), area.len(), key)
 }
 
 /// Adds the chunk dependencies that module dependencies give.
@@ -182,7 +193,16 @@ pub fn chunk_optimization_graph_calc_chunk_dependencies(
 ) -> Reply {
     let (lent, length, starts, starts_length) = (area.as_mut_ptr(), area.len(), starts.as_ptr(), starts.len());
     let (list, count) = (dependencies.as_ptr(), dependencies.len());
-    with_size!(chunk_optimization_graph_calc_chunk_dependencies, size, lent, length, starts, starts_length, list, count)
+    with_size!(
+        nidskalm_chunk_optimization_graph_calc_chunk_dependencies,
+        size,
+        lent,
+        length,
+        starts,
+        starts_length,
+        list,
+        count
+    )
 }
 
 /// Value 1: merging source into target is warned of.
@@ -193,12 +213,12 @@ pub fn chunk_optimization_graph_would_create_circular_dependency(
     target: u32,
 ) -> Reply {
     let (lent, length) = (area.as_ptr(), area.len());
-    with_size!(chunk_optimization_graph_would_create_circular_dependency, size, lent, length, source, target)
+    with_size!(nidskalm_chunk_optimization_graph_would_create_circular_dependency, size, lent, length, source, target)
 }
 
 /// Value 1: `from` reaches `to` in one step or more.
 pub fn chunk_optimization_graph_is_reachable(size: Size, area: &[u32], from: u32, to: u32) -> Reply {
-    with_size!(chunk_optimization_graph_is_reachable, size, area.as_ptr(), area.len(), from, to)
+    with_size!(nidskalm_chunk_optimization_graph_is_reachable, size, area.as_ptr(), area.len(), from, to)
 }
 
 /// Merges the dependencies of source into target.
@@ -209,7 +229,7 @@ pub fn chunk_optimization_graph_merge_chunk_dependencies(
     source: u32,
 ) -> Reply {
     let (lent, length) = (area.as_mut_ptr(), area.len());
-    with_size!(chunk_optimization_graph_merge_chunk_dependencies, size, lent, length, target, source)
+    with_size!(nidskalm_chunk_optimization_graph_merge_chunk_dependencies, size, lent, length, target, source)
 }
 
 /// The pass; value is the number of candidates, one entry each in the four lists.
@@ -222,7 +242,7 @@ pub fn chunk_optimization_graph_pass(
     numbers: &mut [u32],
 ) -> Reply {
     with_size!(
-        chunk_optimization_graph_pass,
+        nidskalm_chunk_optimization_graph_pass,
         size,
         area.as_mut_ptr(),
         area.len(),
@@ -267,7 +287,7 @@ macro_rules! with_entries {
 
 /// The chunk that a candidate of these modules and this set may be merged into, or 4,294,967,295.
 pub fn chunk_optimization_graph_merge_target(entries: &Entries, candidate: &[u32], set: [u64; 4]) -> Reply {
-    with_entries!(chunk_optimization_graph_merge_target, entries, candidate, set)
+    with_entries!(nidskalm_chunk_optimization_graph_merge_target, entries, candidate, set)
 }
 
 /// The same by eight classes of the entry kinds.
@@ -278,5 +298,5 @@ pub fn chunk_optimization_graph_merge_target_by_classes(
     classes: &[u32],
 ) -> Reply {
     let (list, count) = (classes.as_ptr(), classes.len());
-    with_entries!(chunk_optimization_graph_merge_target_by_classes, entries, candidate, set, list, count)
+    with_entries!(nidskalm_chunk_optimization_graph_merge_target_by_classes, entries, candidate, set, list, count)
 }

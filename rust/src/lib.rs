@@ -18,7 +18,7 @@
 //! use nidskalm::{EntrySet, Load, MoveGraph, NONE};
 //!
 //! // Atoms 1 and 2 depend on atom 0; no entry bit has a host.
-//! let load = Load { starts: &[0, 0, 1, 2], dependencies: &[0, 0], hosts: &[NONE, NONE] };
+//! let load = Load { starts: &[0, 0, 1, 2], dependencies: &[0, 0], hosts: &[NONE, NONE], fixed: &[0, 0, 0] };
 //! let sets = [EntrySet::from(3), EntrySet::from(1), EntrySet::from(2)];
 //! let mut graph = MoveGraph::new(load, 8, &sets)?;
 //! assert!(graph.try_move(0, EntrySet::from(1))?);

@@ -2,7 +2,7 @@
 use crate::entry_set::flat;
 use crate::{lent, EntrySet, Refusal};
 
-/// Atoms' dependencies and entry bits' hosts, borrowed by every call.
+/// Atoms' dependencies, entry bits' hosts and which atoms are fixed, borrowed by every call.
 #[derive(Clone, Copy, Debug)]
 pub struct Load<'a> {
     /// One more than there are atoms: atom i depends on `dependencies[starts[i]..starts[i + 1]]`.
@@ -11,6 +11,8 @@ pub struct Load<'a> {
     pub dependencies: &'a [u32],
     /// For each entry bit the atom that hosts it, or [`NONE`](crate::NONE).
     pub hosts: &'a [u32],
+    /// For each atom a mark, nonzero where it is fixed: it stays in its entry set, and a move of it is refused by row 24.
+    pub fixed: &'a [u32],
 }
 
 impl Load<'_> {
@@ -37,7 +39,7 @@ pub struct Edge {
 /// use nidskalm::{EntrySet, Load, MoveGraph, NONE};
 ///
 /// // Two atoms that depend on each other: cyclic, until one moves to the other.
-/// let load = Load { starts: &[0, 1, 2], dependencies: &[1, 0], hosts: &[NONE, NONE] };
+/// let load = Load { starts: &[0, 1, 2], dependencies: &[1, 0], hosts: &[NONE, NONE], fixed: &[0, 0] };
 /// let mut graph = MoveGraph::new(load, 4, &[EntrySet::from(1), EntrySet::from(2)])?;
 /// assert!(graph.cyclic_at_loading());
 /// assert!(!graph.try_move(0, EntrySet::from(3))?);
@@ -61,7 +63,7 @@ impl<'a> MoveGraph<'a> {
     /// ```
     /// use nidskalm::{EntrySet, Load, MoveGraph, NONE};
     ///
-    /// let load = Load { starts: &[0, 0], dependencies: &[], hosts: &[NONE; 16] };
+    /// let load = Load { starts: &[0, 0], dependencies: &[], hosts: &[NONE; 16], fixed: &[0] };
     /// assert_eq!(MoveGraph::new(load, 1, &[EntrySet::from(1)]).unwrap_err().row(), 1);
     /// let mut graph = MoveGraph::new(load, 2, &[EntrySet::from(1)])?;
     /// assert!((2..1000).all(|set| graph.try_move(0, EntrySet::from(set)) == Ok(true)));
@@ -82,7 +84,17 @@ impl<'a> MoveGraph<'a> {
         self.cyclic
     }
 
-    /// Moves an atom to another set if the chunk graph then has no cycle: true if so.
+    /// Moves an atom to another set if the chunk graph then has no cycle: true if so. A fixed atom stays.
+    ///
+    /// ```
+    /// use nidskalm::{EntrySet, Load, MoveGraph, NONE};
+    ///
+    /// let load = Load { starts: &[0, 0, 0], dependencies: &[], hosts: &[NONE, NONE], fixed: &[0, 1] };
+    /// let mut graph = MoveGraph::new(load, 3, &[EntrySet::from(1), EntrySet::from(2)])?;
+    /// assert!(graph.try_move(0, EntrySet::from(2))?);
+    /// assert_eq!(graph.try_move(1, EntrySet::from(1)).unwrap_err().row(), 24);
+    /// # Ok::<(), nidskalm::Refusal>(())
+    /// ```
     pub fn try_move(&mut self, atom: u32, target: EntrySet) -> Result<bool, Refusal> {
         let bits = target.lent(self.load.hosts.len());
         let reply = lent::reduced_chunk_graph_try_move(&self.load, self.sets, &mut self.area, atom, bits);

@@ -7,7 +7,7 @@ use std::fmt;
 /// ```
 /// use nidskalm::{EntrySet, Load, MoveGraph};
 ///
-/// let load = Load { starts: &[0, 1], dependencies: &[0], hosts: &[] };
+/// let load = Load { starts: &[0, 1], dependencies: &[0], hosts: &[], fixed: &[0] };
 /// let refusal = MoveGraph::new(load, 2, &[EntrySet::from(0)]).unwrap_err();
 /// assert_eq!(refusal.row(), 5);
 /// assert_eq!(refusal.to_string(), "refused 5: a dependency is no atom, or the atom itself");
@@ -32,7 +32,7 @@ impl Refusal {
             6 => "a host is neither none nor an atom",
             7 => "an entry set has a bit at or above the number of entry bits",
             8 => "two atoms have equal sets",
-            9 => "the move graph's area is inconsistent",
+            9 => "the move graph's area is inconsistent, or keeps another mark than is lent",
             10 => "there is no such atom",
             11 => "the set hasn't the right count of numbers, or has a bit at or above the number of entry bits",
             12 => "the target is the atom's present set",
@@ -45,6 +45,7 @@ impl Refusal {
             20 => "source and target are the same chunk",
             21 => "the merge graph's area is inconsistent",
             23 => "over 1,024 kinds or 4,096 modules, or a list with a wrong length, faulty starts, or a kind or index out of range",
+            24 => "the atom is fixed",
             25 => "the entry classes aren't eight, one is neither 0 nor 1, or an odd one isn't 1",
             28 => "a chunk has been merged away",
             _ => "no row of that number is known",
@@ -88,7 +89,7 @@ mod tests {
         let unknown = Refusal(22).condition();
         assert_eq!(Refusal(13).condition(), unknown, "13 is no row any more");
         let mut seen = BTreeSet::from([unknown]);
-        for row in (1..=12).chain(14..=21).chain([23, 25, 28]) {
+        for row in (1..=12).chain(14..=21).chain([23, 24, 25, 28]) {
             let words = Refusal(row).condition();
             assert!(!words.trim().is_empty(), "row {row} has no words");
             assert!(seen.insert(words), "row {row} has no words of its own");

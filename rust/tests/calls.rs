@@ -1,6 +1,6 @@
 //! Every call once through the safe crate, and the rows that only it can bring about.
 use nidskalm::{
-    Assignment, ChunkIdx, Edge, Entries, EntrySet, InitialChunks, Load, MergeGraph, Mode, ModuleIdx, MoveGraph,
+    lent, Assignment, ChunkIdx, Edge, Entries, EntrySet, InitialChunks, Load, MergeGraph, Mode, ModuleIdx, MoveGraph,
     Refusal, Size, NONE,
 };
 
@@ -13,7 +13,7 @@ fn row<T: std::fmt::Debug>(result: Result<T, Refusal>) -> u64 {
 }
 
 /// Atoms 1 and 2 depend on atom 0 and host bits 0 and 1.
-const LOAD: Load = Load { starts: &[0, 0, 1, 2], dependencies: &[0, 0], hosts: &[1, 2] };
+const LOAD: Load = Load { starts: &[0, 0, 1, 2], dependencies: &[0, 0], hosts: &[1, 2], fixed: &[0, 0, 0] };
 
 #[test]
 fn moves_and_questions() {
@@ -55,6 +55,45 @@ fn empty_sets_give_their_place_back() {
 }
 
 #[test]
+fn fixed_atoms_stay() {
+    let load = Load { fixed: &[7, 0, 0], ..LOAD };
+    let mut graph = MoveGraph::new(load, 8, &[set(3), set(1), set(2)]).unwrap();
+    assert_eq!(row(graph.try_move(0, set(1))), 24);
+    assert_eq!(row(graph.try_move(0, set(3))), 24);
+    assert_eq!(row(graph.try_move(0, set(4))), 24);
+    assert_eq!(row(graph.try_move(3, set(1))), 10);
+    assert_eq!(row(graph.try_move(1, set(4))), 11);
+    assert_eq!(graph.try_move(1, set(2)), Ok(true));
+    assert_eq!(graph.atom_set(0), Ok(set(3)));
+}
+
+#[test]
+fn every_call_is_lent_the_marks_of_the_loading() {
+    let marked = Load { fixed: &[0, 0, 7], ..LOAD };
+    let mut area = vec![0; lent::move_area_length(&LOAD, 4).unwrap()];
+    assert_eq!(lent::reduced_chunk_graph_new(&marked, 4, &[3, 1, 2], &mut area).refusal, 0);
+    let refusal = |fixed: &[u32]| lent::reduced_chunk_graph_edge_count(&Load { fixed, ..LOAD }, 4, &area).refusal;
+    assert_eq!(refusal(&[0, 0, 7]), 0);
+    assert_eq!(refusal(&[0, 0, 1]), 0);
+    assert_eq!(refusal(&[0, 0, 0]), 9);
+    assert_eq!(refusal(&[0, 1, 7]), 9);
+    assert_eq!(refusal(&[0, 0]), 2);
+}
+
+/// The header's three version numbers are this crate's.
+#[test]
+fn the_header_has_this_version() {
+    let header = include_str!("../../include/nidskalm.h");
+    for (name, number) in [
+        ("MAJOR", env!("CARGO_PKG_VERSION_MAJOR")),
+        ("MINOR", env!("CARGO_PKG_VERSION_MINOR")),
+        ("PATCH", env!("CARGO_PKG_VERSION_PATCH")),
+    ] {
+        assert!(header.contains(&format!("#define NIDSKALM_VERSION_{name} {number}\n")), "{name}");
+    }
+}
+
+#[test]
 fn refused_loadings() {
     let sets = [set(3), set(1), set(2)];
     let load = |load: Load, n: u64, sets: &[EntrySet]| row(MoveGraph::new(load, n, sets));
@@ -65,6 +104,8 @@ fn refused_loadings() {
     assert_eq!(load(Load { starts: &[0, 1, 0, 2], ..LOAD }, 4, &sets), 4);
     assert_eq!(load(Load { dependencies: &[1, 0], ..LOAD }, 4, &sets), 5);
     assert_eq!(load(Load { hosts: &[3, NONE], ..LOAD }, 4, &sets), 6);
+    assert_eq!(load(Load { fixed: &[0; 2], ..LOAD }, 4, &sets), 2);
+    assert_eq!(load(Load { fixed: &[0; 4], ..LOAD }, 4, &sets), 2);
     assert_eq!(load(LOAD, 4, &[set(3), set(1), set(6)]), 7);
     assert_eq!(load(LOAD, 4, &[set(3), set(3), EntrySet::from_bits([64])]), 7);
     assert_eq!(load(LOAD, 4, &[set(3), set(1), set(1)]), 8);
@@ -73,7 +114,7 @@ fn refused_loadings() {
 #[test]
 fn moves_without_entry_bits() {
     let load = |starts: &[u32], n: u64, sets: &[EntrySet]| {
-        let load = Load { starts, dependencies: &[], hosts: &[] };
+        let load = Load { starts, dependencies: &[], hosts: &[], fixed: &[0; 2][..starts.len() - 1] };
         MoveGraph::new(load, n, sets).map_or_else(Refusal::row, |_| 0)
     };
     assert_eq!(load(&[0, 0], 2, &[set(0)]), 0);

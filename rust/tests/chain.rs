@@ -22,7 +22,8 @@ fn the_first_atom_of_a_chain_reaches_all_others() {
         let starts: Vec<u32> = (0..=n).map(|atom| atom.min(n - 1)).collect();
         let dependencies: Vec<u32> = (1..n).collect();
         let sets: Vec<EntrySet> = (1..=u64::from(n)).map(EntrySet::from).collect();
-        let load = Load { starts: &starts, dependencies: &dependencies, hosts: &[NONE; 16] };
+        let fixed = vec![0; n as usize];
+        let load = Load { starts: &starts, dependencies: &dependencies, hosts: &[NONE; 16], fixed: &fixed };
         let target = EntrySet::from(u64::from(n) + 1);
         let mut graph = MoveGraph::new(load, u64::from(n) + 1, &sets).unwrap();
         assert!(!graph.cyclic_at_loading());

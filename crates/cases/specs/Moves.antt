@@ -11,6 +11,10 @@ use Rattle.cases.specs.Run.{MoveCase, every, shut}
 abbrev nobody : ℕ → List ℕ
 nobody n = replicate n none
 
+-- no atom is fixed
+abbrev free : ℕ → List ℕ
+free n = replicate n 0
+
 abbrev kept : List ℕ → List ℕ → Ledger
 kept place registered = record { place = place; registered = registered }
 
@@ -23,6 +27,7 @@ abbrev pub P1 : MoveCase
 P1 =
     record {
       load = record { A = 3; D = 2; E = 16; starts = 0 ∷ 0 ∷ 1 ∷ 2 ∷ []; dependencies = 0 ∷ 0 ∷ []; hosts = 1 ∷ 2 ∷ nobody 14 };
+      fixed = free 3;
       N = 96;
       sets = 3 ∷ 1 ∷ 2 ∷ [];
       size = 16384;
@@ -40,6 +45,7 @@ abbrev pub P2 : MoveCase
 P2 =
     record {
       load = record { A = 0; D = 0; E = 0; starts = 0 ∷ []; dependencies = []; hosts = [] };
+      fixed = [];
       N = 1;
       sets = [];
       size = 49;
@@ -52,6 +58,7 @@ abbrev pub P3 : MoveCase
 P3 =
     record {
       load = record { A = 2; D = 2; E = 2; starts = 0 ∷ 1 ∷ 2 ∷ []; dependencies = 1 ∷ 0 ∷ []; hosts = nobody 2 };
+      fixed = free 2;
       N = 3;
       sets = 1 ∷ 2 ∷ [];
       size = 16384;
@@ -65,6 +72,7 @@ abbrev pub P4 : MoveCase
 P4 =
     record {
       load = record { A = 4; D = 4; E = 4; starts = 0 ∷ 1 ∷ 2 ∷ 3 ∷ 4 ∷ []; dependencies = 1 ∷ 0 ∷ 3 ∷ 2 ∷ []; hosts = nobody 4 };
+      fixed = free 4;
       N = 5;
       sets = 1 ∷ 2 ∷ 4 ∷ 8 ∷ [];
       size = 16384;
@@ -82,6 +90,7 @@ abbrev pub P5 : MoveCase
 P5 =
     record {
       load = record { A = 2; D = 1; E = 3; starts = 0 ∷ 0 ∷ 1 ∷ []; dependencies = 0 ∷ []; hosts = none ∷ none ∷ 1 ∷ [] };
+      fixed = free 2;
       N = 3;
       sets = 3 ∷ 5 ∷ [];
       size = 16384;
@@ -94,6 +103,7 @@ abbrev pub P6 : MoveCase
 P6 =
     record {
       load = record { A = 2; D = 1; E = 3; starts = 0 ∷ 0 ∷ 1 ∷ []; dependencies = 0 ∷ []; hosts = nobody 3 };
+      fixed = free 2;
       N = 3;
       sets = 3 ∷ 5 ∷ [];
       size = 16384;
@@ -106,6 +116,7 @@ abbrev pub P7 : MoveCase
 P7 =
     record {
       load = record { A = 2; D = 2; E = 2; starts = 0 ∷ 2 ∷ 2 ∷ []; dependencies = 1 ∷ 1 ∷ []; hosts = nobody 2 };
+      fixed = free 2;
       N = 3;
       sets = 1 ∷ 2 ∷ [];
       size = 16384;
@@ -118,6 +129,7 @@ abbrev pub P8 : MoveCase
 P8 =
     record {
       load = record { A = 2; D = 1; E = 3; starts = 0 ∷ 0 ∷ 1 ∷ []; dependencies = 0 ∷ []; hosts = nobody 3 };
+      fixed = free 2;
       N = 2;
       sets = 3 ∷ 5 ∷ [];
       size = 16384;
@@ -131,6 +143,7 @@ abbrev pub evicting : MoveCase
 evicting =
     record {
       load = record { A = 2; D = 1; E = 3; starts = 0 ∷ 0 ∷ 1 ∷ []; dependencies = 0 ∷ []; hosts = none ∷ none ∷ 1 ∷ [] };
+      fixed = free 2;
       N = 3;
       sets = 3 ∷ 5 ∷ [];
       size = 16384;
@@ -160,6 +173,7 @@ abbrev pub outside : MoveCase
 outside =
     record {
       load = record { A = 3; D = 2; E = 5; starts = 0 ∷ 1 ∷ 2 ∷ 2 ∷ []; dependencies = 1 ∷ 0 ∷ []; hosts = nobody 5 };
+      fixed = free 3;
       N = 4;
       sets = 1 ∷ 2 ∷ 4 ∷ [];
       size = 16384;
@@ -171,11 +185,66 @@ abbrev pub inside : MoveCase
 inside =
     record {
       load = outside .load;
+      fixed = free 3;
       N = 4;
       sets = 1 ∷ 2 ∷ 4 ∷ [];
       size = 16384;
       calls = outside .calls ++ try-move 0 (16 ∷ []) ∷ [];
       expected = record { start = cyclic; replies = outside .expected .replies ++ rejected ∷ []; end = kept (1 ∷ 2 ∷ 4 ∷ []) (1 ∷ 2 ∷ 4 ∷ 16 ∷ []) };
+    }
+
+-- (iii): P3's load with atom 0 fixed, its mark neither 0 nor 1. 24 comes before 11, 12 and the graph, which is cyclic, and registers nothing; 10 comes
+-- before 24; the other atom moves
+abbrev pub fixing : MoveCase
+fixing =
+    record {
+      load = P3 .load;
+      fixed = 7 ∷ 0 ∷ [];
+      N = 3;
+      sets = 1 ∷ 2 ∷ [];
+      size = 16384;
+      calls =
+          try-move 0 (2 ∷ [])
+          ∷ try-move 0 (1 ∷ [])
+          ∷ try-move 0 (4 ∷ [])
+          ∷ try-move 0 []
+          ∷ try-move 0 (3 ∷ [])
+          ∷ try-move 2 (3 ∷ [])
+          ∷ asks (atom-set 0)
+          ∷ try-move 1 (4 ∷ [])
+          ∷ try-move 1 (2 ∷ [])
+          ∷ try-move 1 (1 ∷ [])
+          ∷ [];
+      expected =
+          record {
+            start = cyclic;
+            replies =
+                refused 24
+                ∷ refused 24
+                ∷ refused 24
+                ∷ refused 24
+                ∷ refused 24
+                ∷ refused 10
+                ∷ set (1 ∷ 0 ∷ 0 ∷ 0 ∷ [])
+                ∷ refused 11
+                ∷ refused 12
+                ∷ accepted
+                ∷ [];
+            end = kept (1 ∷ 1 ∷ []) (1 ∷ 2 ∷ []);
+          };
+    }
+
+-- (iii): every atom fixed, in a cyclic graph: a loading asks nothing of the marks but their number
+abbrev pub all-fixed : MoveCase
+all-fixed =
+    record {
+      load = P3 .load;
+      fixed = 1 ∷ 4294967295 ∷ [];
+      N = 3;
+      sets = 1 ∷ 2 ∷ [];
+      size = 16384;
+      calls = try-move 0 (2 ∷ []) ∷ try-move 1 (1 ∷ []) ∷ asks edge-count ∷ [];
+      expected = record { start = cyclic; replies = refused 24 ∷ refused 24 ∷ number 2 ∷ []; end = kept (1 ∷ 2 ∷ []) (1 ∷ 2 ∷ []) };
     }
 
 -- not of 01: edges in the order of their sets, which isn't that of the atoms; and a move that takes a facade edge off with its set's last atom,
@@ -184,6 +253,7 @@ abbrev pub vanishing : MoveCase
 vanishing =
     record {
       load = record { A = 3; D = 3; E = 4; starts = 0 ∷ 1 ∷ 3 ∷ 3 ∷ []; dependencies = 1 ∷ 0 ∷ 2 ∷ []; hosts = none ∷ none ∷ 0 ∷ none ∷ [] };
+      fixed = free 3;
       N = 4;
       sets = 3 ∷ 5 ∷ 4 ∷ [];
       size = 16384;
@@ -201,6 +271,7 @@ abbrev pub two-numbers : MoveCase
 two-numbers =
     record {
       load = record { A = 3; D = 2; E = 65; starts = 0 ∷ 1 ∷ 1 ∷ 2 ∷ []; dependencies = 1 ∷ 1 ∷ []; hosts = nobody 64 ++ 1 ∷ [] };
+      fixed = free 3;
       N = 4;
       sets = 0 ∷ 1 ∷ 5 ∷ 0 ∷ 1 ∷ 1 ∷ [];
       size = 16384;
@@ -240,15 +311,21 @@ two-numbers =
 abbrev lent : List ℕ → List ℕ → List ℕ → Load
 lent starts dependencies hosts = record { A = 2; D = 1; E = 2; starts = starts; dependencies = dependencies; hosts = hosts }
 
+abbrev pub marked : Load → List ℕ → ℕ → List ℕ → ℕ → Answer → MoveCase
+marked load fixed N sets size answer =
+    record { load = load; fixed = fixed; N = N; sets = sets; size = size; calls = []; expected = record { start = answer; replies = []; end = kept sets sets } }
+
 abbrev pub loads : Load → ℕ → List ℕ → ℕ → Answer → MoveCase
-loads load N sets size answer =
-    record { load = load; N = N; sets = sets; size = size; calls = []; expected = record { start = answer; replies = []; end = kept sets sets } }
+loads load N sets size answer = marked load (free 2) N sets size answer
 
 abbrev pub loadings : List MoveCase
 loadings =
     loads (lent (0 ∷ 1 ∷ 1 ∷ []) (1 ∷ []) (none ∷ 1 ∷ [])) 3 (1 ∷ 2 ∷ []) 225 acyclic
     ∷ loads (lent (0 ∷ 1 ∷ 1 ∷ []) (1 ∷ []) (none ∷ 1 ∷ [])) 2 (1 ∷ 2 ∷ []) 225 (refused 1)
     ∷ loads (lent (0 ∷ 1 ∷ 1 ∷ []) (1 ∷ 0 ∷ []) (none ∷ 1 ∷ [])) 3 (1 ∷ 2 ∷ []) 0 (refused 2)
+    ∷ marked (lent (0 ∷ 1 ∷ 1 ∷ []) (1 ∷ []) (none ∷ 1 ∷ [])) (free 1) 3 (1 ∷ 2 ∷ []) 0 (refused 2)
+    ∷ marked (lent (0 ∷ 1 ∷ 1 ∷ []) (1 ∷ []) (none ∷ 1 ∷ [])) (free 3) 3 (1 ∷ 2 ∷ []) 0 (refused 2)
+    ∷ marked (lent (0 ∷ 1 ∷ 1 ∷ []) (1 ∷ []) (none ∷ 1 ∷ [])) (free 1) 2 (1 ∷ 2 ∷ []) 0 (refused 1)
     ∷ loads (lent (0 ∷ 1 ∷ 2 ∷ []) (1 ∷ []) (none ∷ 1 ∷ [])) 3 (1 ∷ 2 ∷ []) 224 (refused 3)
     ∷ loads (lent (0 ∷ 1 ∷ 2 ∷ []) (2 ∷ []) (none ∷ 1 ∷ [])) 3 (1 ∷ 2 ∷ []) 225 (refused 4)
     ∷ loads (lent (0 ∷ 1 ∷ 1 ∷ []) (0 ∷ []) (none ∷ 2 ∷ [])) 3 (1 ∷ 2 ∷ []) 225 (refused 5)
@@ -258,4 +335,4 @@ loadings =
     ∷ []
 
 abbrev pub move-cases : List MoveCase
-move-cases = P1 ∷ P2 ∷ P3 ∷ P4 ∷ P5 ∷ P6 ∷ P7 ∷ P8 ∷ evicting ∷ outside ∷ inside ∷ vanishing ∷ two-numbers ∷ loadings
+move-cases = P1 ∷ P2 ∷ P3 ∷ P4 ∷ P5 ∷ P6 ∷ P7 ∷ P8 ∷ evicting ∷ outside ∷ inside ∷ fixing ∷ all-fixed ∷ vanishing ∷ two-numbers ∷ loadings

@@ -15,9 +15,10 @@ pub record MoveOutcome : Type 0 where
   pub replies : List Answer
   pub end : Ledger
 
--- a load with its N, the lent entry sets and the length of the area; the calls; and what must come out
+-- a load with its marks and N, the lent entry sets and the length of the area; the calls; and what must come out
 pub record MoveCase : Type 0 where
   pub load : Load
+  pub fixed : List ℕ
   pub N : ℕ
   pub sets : List ℕ
   pub size : ℕ
@@ -27,9 +28,9 @@ pub record MoveCase : Type 0 where
 unfoldable pub move-outcome : MoveCase → MoveOutcome
 move-outcome c =
     record {
-      start = loading (c .load) (c .N) (c .sets) (c .size);
-      replies = answers (c .load) (c .N) (loaded (entry-sets (c .load) (c .sets))) (c .calls);
-      end = ledger (c .load) (c .N) (loaded (entry-sets (c .load) (c .sets))) (c .calls);
+      start = loading (c .load) (c .fixed) (c .N) (c .sets) (c .size);
+      replies = answers (c .load) (c .fixed) (c .N) (loaded (entry-sets (c .load) (c .sets))) (c .calls);
+      end = ledger (c .load) (c .fixed) (c .N) (loaded (entry-sets (c .load) (c .sets))) (c .calls);
     }
 
 -- the moves of atom a to each set below t, and of each atom below a

@@ -6,7 +6,7 @@ use mathlib.Core.Path.{_≡_, refl, sym, ap, subst, _∙_}
 use mathlib.Core.Bool.{true, false, not, cond}
 use mathlib.Core.List.{List, [], _∷_}
 use lib.Dec.{eqb}
-use lib.ListN.{length, take, drop, set, length-set, getD-replicate, length-replicate}
+use lib.ListN.{length, take, drop, set, length-set, replicate, getD-replicate, length-replicate}
 use lib.Seq.{getD-set-same, getD-set-other}
 use borrow.Author.Tests.{lt-leb, eq-eqb, ne-eqb, le-ltb, lt-ltb}
 use Rattle.graphs.specs.Bools.{or-false, and-both}
@@ -153,11 +153,15 @@ module _ (n : ℕ) where
   unfolding entry-sets
   entry-sets-are = sym (is-tab (sets n) n _ (tab-length suc n) (λ k h. set-at n k h ∙ sym (lent-at k h)))
 
+-- no atom is fixed: "`moves` sets none" (02, iii)
+abbrev pub unmarked : ℕ → List ℕ
+unmarked n = replicate n 0
+
 -- "With E = 16 and N = n + 1"; `size` is the length of a work area that is long enough
 module _ (n : ℕ) (some : 0 < n) (few : n ≤ 512) (size : ℕ) (enough : row3 (chain n) (n + 1) size ≡ false) where
-  row-none : loading-row (chain n) (n + 1) (sets n) size ≡ 0
+  row-none : loading-row (chain n) (unmarked n) (n + 1) (sets n) size ≡ 0
   unfolding loading-row first-row row4 row5 row6 row7 row8
-  row-none = rw (r1, r2, enough, r4, r5, r6, eq-eqb (length (sets n)) (n * 1) (omega (arith, tab-length suc n)), r7, r8) refl
+  row-none = rw (r1, r2, enough, r4, r5, r6, eq-eqb (length (unmarked n)) n (length-replicate {A = ℕ} n 0), eq-eqb (length (sets n)) (n * 1) (omega (arith, tab-length suc n)), r7, r8) refl
     where
       r1 : row1 (chain n) (n + 1) ≡ false
       r1 =
@@ -191,7 +195,7 @@ module _ (n : ℕ) (some : 0 < n) (few : n ≤ 512) (size : ℕ) (enough : row3 
           (λ e. omega (arith, lent-at n i h, lent-at n j (omega arith)))))
 
   -- "prove that the load is acyclic": no row refuses it
-  pub chain-loads : loading (chain n) (n + 1) (sets n) size ≡ acyclic
+  pub chain-loads : loading (chain n) (unmarked n) (n + 1) (sets n) size ≡ acyclic
   unfolding loading
   chain-loads = rw (row-none, entry-sets-are n, loaded-acyclic n) refl
 
@@ -200,13 +204,14 @@ module _ (n : ℕ) (some : 0 < n) (few : n ≤ 512) (size : ℕ) (enough : row3 
   value-one = omega arith
 
   -- "and that the move is accepted": "20 for atom 0 to set n + 1"
-  pub chain-moves : move (chain n) (n + 1) (loaded (entry-sets (chain n) (sets n))) 0 ((n + 1) ∷ []) .answer ≡ accepted
+  pub chain-moves : move (chain n) (unmarked n) (n + 1) (loaded (entry-sets (chain n) (sets n))) 0 ((n + 1) ∷ []) .answer ≡ accepted
   unfolding move decide
   chain-moves =
       rw (
         entry-sets-are n,
         value-one,
         lt-leb n 0 some,
+        eq-eqb (at (unmarked n) 0) 0 (getD-replicate {A = ℕ} n 0 0 0 some),
         lt-ltb (n + 1) (2 ^ 16) (omega arith),
         ne-eqb (n + 1) (at (sets n) 0) (λ e. omega (arith, set-at n 0 some)),
         loaded-acyclic n,
@@ -215,9 +220,9 @@ module _ (n : ℕ) (some : 0 < n) (few : n ≤ 512) (size : ℕ) (enough : row3 
 
 -- and so answer the calls, on every work area that is long enough
 pub chain-on-areas : (n : ℕ) → 0 < n → n ≤ 512 → (area : List ℕ) → row3 (chain n) (n + 1) (length area) ≡ false
-    → (new (chain n) (n + 1) (sets n) area .answer ≡ acyclic)
-    × (try-move (chain n) (n + 1) (new (chain n) (n + 1) (sets n) area .area) 0 ((n + 1) ∷ []) .answer ≡ accepted)
+    → (new (chain n) (unmarked n) (n + 1) (sets n) area .answer ≡ acyclic)
+    × (try-move (chain n) (unmarked n) (n + 1) (new (chain n) (unmarked n) (n + 1) (sets n) area .area) 0 ((n + 1) ∷ []) .answer ≡ accepted)
 unfolding call call-area area-after ledger new
 chain-on-areas n some few area enough =
-    let l : new (chain n) (n + 1) (sets n) area .answer ≡ acyclic = chain-loads n some few (length area) enough in
-    (l, next-answer (chain n) (n + 1) (sets n) area [] (calls.try-move 0 ((n + 1) ∷ [])) (ap is-refused l) ∙ chain-moves n some few (length area) enough)
+    let l : new (chain n) (unmarked n) (n + 1) (sets n) area .answer ≡ acyclic = chain-loads n some few (length area) enough in
+    (l, next-answer (chain n) (unmarked n) (n + 1) (sets n) area [] (calls.try-move 0 ((n + 1) ∷ [])) (ap is-refused l) ∙ chain-moves n some few (length area) enough)

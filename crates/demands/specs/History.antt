@@ -9,10 +9,11 @@ use Rattle.move_ledger.specs.Loading.{entry-sets}
 use Rattle.move_ledger.specs.LoadLaws.{entry-sets-length}
 use Rattle.move_ledger.specs.MoveLaws.{ledger-length}
 
--- "Its ledger is fed the load, entry sets, N and the calls' arguments, nothing else": `sets` are the entry sets as they are lent
-abbrev pub history : Load → ℕ → List ℕ → List Call → Ledger
-history load N sets calls = ledger load N (loaded (entry-sets load sets)) calls
+-- "Its ledger is fed the load, entry sets, N and the calls' arguments, nothing else": `sets` are the entry sets as they are lent; 02: "The load gains a
+-- list of A marks", `fixed`
+abbrev pub history : Load → List ℕ → ℕ → List ℕ → List Call → Ledger
+history load fixed N sets calls = ledger load fixed N (loaded (entry-sets load sets)) calls
 
 -- every atom has a set at each point
-pub history-length : (load : Load) (N : ℕ) (sets : List ℕ) (calls : List Call) → length (history load N sets calls .place) ≡ load .A
-history-length load N sets calls = ledger-length load N (loaded (entry-sets load sets)) calls (entry-sets-length load sets)
+pub history-length : (load : Load) (fixed : List ℕ) (N : ℕ) (sets : List ℕ) (calls : List Call) → length (history load fixed N sets calls .place) ≡ load .A
+history-length load fixed N sets calls = ledger-length load fixed N (loaded (entry-sets load sets)) calls (entry-sets-length load sets)

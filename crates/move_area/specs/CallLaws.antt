@@ -60,20 +60,20 @@ walked-low load l T counter marks N e h x b =
     go false true = omega arith
     go false false = omega (arith, h x b)
 
-module _ (load : Load) (N : ℕ) (st : State) (a : ℕ) (s : List ℕ) where
+module _ (load : Load) (fixed : List ℕ) (N : ℕ) (st : State) (a : ℕ) (s : List ℕ) where
   -- the ledger after a move is the ledger's own
-  pub after-ledger : after load N st a s .ledger ≡ move load N (st .ledger) a s .after
+  pub after-ledger : after load fixed N st a s .ledger ≡ move load fixed N (st .ledger) a s .after
   unfolding after move
-  after-ledger = go (tried load (st .ledger .place) a s) refl
+  after-ledger = go (tried load fixed (st .ledger .place) a s) refl
     where
-      go : (t : Bool) → tried load (st .ledger .place) a s ≡ t → after load N st a s .ledger ≡ move load N (st .ledger) a s .after
+      go : (t : Bool) → tried load fixed (st .ledger .place) a s ≡ t → after load fixed N st a s .ledger ≡ move load fixed N (st .ledger) a s .after
       go true q = rw q refl
       go false q = rw q refl
 
   -- and the state is one that an area can hold
-  pub after-held : load .A < N → Held load N st → Held load N (after load N st a s)
+  pub after-held : load .A < N → Held load N st → Held load N (after load fixed N st a s)
   unfolding after call
-  after-held more h = go (tried load (st .ledger .place) a s) refl
+  after-held more h = go (tried load fixed (st .ledger .place) a s) refl
     where
       l : Ledger
       l = st .ledger
@@ -98,6 +98,6 @@ module _ (load : Load) (N : ℕ) (st : State) (a : ℕ) (s : List ℕ) where
       under true = low
       under false = walked-low load _ _ (st .counter) m N fit low
 
-      go : (t : Bool) → tried load (st .ledger .place) a s ≡ t → Held load N (after load N st a s)
-      go true q = rw q (record { sound = call-sound load N (st .ledger) (try-move a s) more (h .sound); long = long c; marks = under c })
+      go : (t : Bool) → tried load fixed (st .ledger .place) a s ≡ t → Held load N (after load fixed N st a s)
+      go true q = rw q (record { sound = call-sound load fixed N (st .ledger) (try-move a s) more (h .sound); long = long c; marks = under c })
       go false q = rw q h

@@ -12,7 +12,8 @@ use Rattle.move_ledger.specs.Graph.{Load, at, edge}
 use Rattle.move_ledger.specs.Answer.{Answer, refused, is-refused}
 use Rattle.move_ledger.specs.Ledger.{Ledger, loaded, free-place, step3, tried, move, Question, ask}
 use Rattle.move_ledger.specs.Loading.{refusal, entry-sets, loading}
-use Rattle.move_area.specs.Area.{State, encode, decode, consistent}
+use Rattle.move_area.specs.Area.{State, encode, decode}
+use Rattle.move_area.specs.Fixed.{flag, checks-out}
 
 -- an answer, and the area afterwards
 pub record Called : Type 0 where
@@ -28,18 +29,18 @@ abbrev pub first : Load → ℕ → List ℕ → State
 first load N sets = record { ledger = loaded (entry-sets load sets); counter = 0; marks = replicate N 0 }
 
 -- `new`
-unfoldable pub new : Load → ℕ → List ℕ → List ℕ → Called
-new load N sets area = unless-refused area (loading load N sets (length area)) (encode load N (first load N sets) area)
+unfoldable pub new : Load → List ℕ → ℕ → List ℕ → List ℕ → Called
+new load fixed N sets area = unless-refused area (loading load fixed N sets (length area)) (flag load fixed N (encode load N (first load N sets) area))
 
 -- a later call's rows 1 to 6 and 9 come before its own
-unfoldable pub checked : Load → ℕ → List ℕ → Answer → Answer
-checked load N area answer =
-    let q = refusal load N (length area) in
-    cond (eqb q 0) (cond (consistent load N area) answer (refused 9)) (refused q)
+unfoldable pub checked : Load → List ℕ → ℕ → List ℕ → Answer → Answer
+checked load fixed N area answer =
+    let q = refusal load fixed N (length area) in
+    cond (eqb q 0) (cond (checks-out load fixed N area) answer (refused 9)) (refused q)
 
 -- a question is answered from the atoms' sets
-unfoldable pub asked : Load → ℕ → List ℕ → Question → Answer
-asked load N area q = checked load N area (ask load (decode load N area .ledger .place) q)
+unfoldable pub asked : Load → List ℕ → ℕ → List ℕ → Question → Answer
+asked load fixed N area q = checked load fixed N area (ask load (decode load N area .ledger .place) q)
 
 -- "mark at 4,294,967,295 clears marks and restarts"
 abbrev pub last : ℕ → Bool
@@ -62,21 +63,21 @@ walked load moved T counter marks =
     (length marks)
 
 -- the state after a move. The walk is made where the graph had no cycle before
-unfoldable pub after : Load → ℕ → State → ℕ → List ℕ → State
-after load N st a s =
+unfoldable pub after : Load → List ℕ → ℕ → State → ℕ → List ℕ → State
+after load fixed N st a s =
     let l = st .ledger in
     let T = value s in
     let marks = marks-for load N l T (st .marks) in
-    cond (tried load (l .place) a s)
+    cond (tried load fixed (l .place) a s)
     (record {
-      ledger = move load N l a s .after;
+      ledger = move load fixed N l a s .after;
       counter = cond (cyclic (edge load (l .place)) (l .place)) (st .counter) (next (st .counter));
       marks = cond (cyclic (edge load (l .place)) (l .place)) marks (walked load (step3 load N l a T) T (st .counter) marks);
     })
     st
 
 -- `try_move`
-unfoldable pub try-move : Load → ℕ → List ℕ → ℕ → List ℕ → Called
-try-move load N area a s =
+unfoldable pub try-move : Load → List ℕ → ℕ → List ℕ → ℕ → List ℕ → Called
+try-move load fixed N area a s =
     let st = decode load N area in
-    unless-refused area (checked load N area (move load N (st .ledger) a s .answer)) (encode load N (after load N st a s) area)
+    unless-refused area (checked load fixed N area (move load fixed N (st .ledger) a s .answer)) (encode load N (after load fixed N st a s) area)

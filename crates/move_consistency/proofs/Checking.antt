@@ -7,7 +7,7 @@ use native.Mathlib.Omega.{arith}
 use lib.ListN.{length, getD}
 use Rattle.graphs.specs.Bools.{fails, alike}
 use Rattle.move_ledger.specs.Graph.{Load}
-use Rattle.move_ledger.specs.LoadLaws.{Loadable, first-row-none}
+use Rattle.move_ledger.specs.LoadLaws.{Loadable}
 use Rattle.move_slots.specs.Slots.{bounds}
 use Rattle.move_area.specs.Bodies.{atomAt}
 use Rattle.move_area.specs.Area.{consistent}
@@ -17,7 +17,7 @@ use Rattle.move_consistency.specs.Ready.{CanWorkOn, WorkTold, CanCheck, 
 
 module _ {load : Load} {n : ℕ} {area degrees order : List ℕ} (can : CanCheck load n area degrees order) where
   loadable : Loadable load n true (length area)
-  loadable = first-row-none load n true (length area) (can .passes)
+  loadable = can .loadable
 
   room : atomAt n + load .A ≤ length area
   room = omega (arith, loadable .sizes .area)

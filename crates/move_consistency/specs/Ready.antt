@@ -8,7 +8,6 @@ use Rattle.graphs.specs.Bools.{Decides}
 use Rattle.graphs.specs.Count.{count}
 use Rattle.graph_slots.specs.Asked.{ListRoom, SlotLists}
 use Rattle.move_ledger.specs.Graph.{Load}
-use Rattle.move_ledger.specs.Loading.{refusal}
 use Rattle.move_ledger.specs.LoadLaws.{Loadable}
 use Rattle.move_ledger.specs.Nodes.{node-edge}
 use Rattle.move_area.specs.Area.{setsIn, consistent}
@@ -54,7 +53,7 @@ pub record WorkTold (load : Load) (n : ℕ) (area degrees : List ℕ) (r : Bool)
 
 -- no row from 1 to 6 fits, and the lists are long enough
 pub record CanCheck (load : Load) (n : ℕ) (area degrees order : List ℕ) : Type 0 where
-  pub passes : refusal load n (length area) ≡ 0
+  pub loadable : Loadable load n true (length area)
   pub degrees-long : n ≤ length degrees
   pub order-long : n ≤ length order
 

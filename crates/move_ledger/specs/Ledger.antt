@@ -1,4 +1,4 @@
--- The plain ledger of moves and questions (01, "A move, from its entry", "Where a call turns back", "What a move asks of the graph"; 02, (xi)).
+-- The plain ledger of moves and questions (01, "A move, from its entry", "Where a call turns back", "What a move asks of the graph"; 02, (iii), (xi)).
 -- Assumes nothing.
 use Prim.Native.Nat.{ℕ, zero, suc}
 use mathlib.Core.Bool.{Bool, not, cond, _&&_, _||_}
@@ -68,26 +68,31 @@ step2 load N l T = record { place = l .place; registered = register load N (l .p
 abbrev pub step3 : Load → ℕ → Ledger → ℕ → ℕ → Ledger
 step3 load N l a T = record { place = set (l .place) a T; registered = register load N (l .place) T (l .registered) }
 
--- what a move of atom a to the lent set s is answered, a matter of the load and the placement. "The first fitting row wins"; "Accepted if the result has
--- no cycle"
-unfoldable pub decide : Load → List ℕ → ℕ → List ℕ → Answer
-decide load place a s =
+-- 02: "a list of A marks, nonzero for fixed". The marks are lent beside the load: no question about the graph reads them
+abbrev pub stays : List ℕ → ℕ → Bool
+stays fixed a = not (eqb (at fixed a) 0)
+
+-- what a move of atom a to the lent set s is answered, a matter of the load, the marks and the placement. "The first fitting row wins"; 02: "24 when the
+-- moved atom is fixed, right after 10"; "Accepted if the result has no cycle"
+unfoldable pub decide : Load → List ℕ → List ℕ → ℕ → List ℕ → Answer
+decide load fixed place a s =
     let moved = set place a (value s) in
     cond (leb (load .A) a) (refused 10)
+    (cond (stays fixed a) (refused 24)
     (cond (not (legal (load .E) s)) (refused 11)
     (cond (eqb (value s) (at place a)) (refused 12)
     (cond (step1 load place a || cyclic (edge load moved) moved) rejected
-    accepted)))
+    accepted))))
 
 -- the target is registered and the atom moved on trial, unless a row refuses the move or step 1 rejects it
-abbrev pub tried : Load → List ℕ → ℕ → List ℕ → Bool
-tried load place a s = not (is-refused (decide load place a s) || step1 load place a)
+abbrev pub tried : Load → List ℕ → List ℕ → ℕ → List ℕ → Bool
+tried load fixed place a s = not (is-refused (decide load fixed place a s) || step1 load place a)
 
 -- a move, and what it leaves: "Accepted if the result has no cycle; else the atom goes back"
-unfoldable pub move : Load → ℕ → Ledger → ℕ → List ℕ → Answered
-move load N l a s =
-    let x = decide load (l .place) a s in
-    gives x (cond (tried load (l .place) a s) (cond (is-accepted x) (step3 load N l a (value s)) (step2 load N l (value s))) l)
+unfoldable pub move : Load → List ℕ → ℕ → Ledger → ℕ → List ℕ → Answered
+move load fixed N l a s =
+    let x = decide load fixed (l .place) a s in
+    gives x (cond (tried load fixed (l .place) a s) (cond (is-accepted x) (step3 load N l a (value s)) (step2 load N l (value s))) l)
 
 -- "Public questions also give an atom's set, a set's atom count, one edge's multiplicity (..), the number of distinct edges, and the k-th edge, from 0"
 pub data Question : Type 0 where
@@ -117,15 +122,15 @@ pub data Call : Type 0 where
   asks : Question → Call
 
 -- "A question changes nothing"
-unfoldable pub call : Load → ℕ → Ledger → Call → Answered
-call load N l (try-move a s) = move load N l a s
-call load N l (asks q) = gives (ask load (l .place) q) l
+unfoldable pub call : Load → List ℕ → ℕ → Ledger → Call → Answered
+call load fixed N l (try-move a s) = move load fixed N l a s
+call load fixed N l (asks q) = gives (ask load (l .place) q) l
 
 -- of a list of calls: every answer, and the ledger at the end
-unfoldable pub answers : Load → ℕ → Ledger → List Call → List Answer
-answers load N l [] = []
-answers load N l (c ∷ cs) = call load N l c .answer ∷ answers load N (call load N l c .after) cs
+unfoldable pub answers : Load → List ℕ → ℕ → Ledger → List Call → List Answer
+answers load fixed N l [] = []
+answers load fixed N l (c ∷ cs) = call load fixed N l c .answer ∷ answers load fixed N (call load fixed N l c .after) cs
 
-unfoldable pub ledger : Load → ℕ → Ledger → List Call → Ledger
-ledger load N l [] = l
-ledger load N l (c ∷ cs) = ledger load N (call load N l c .after) cs
+unfoldable pub ledger : Load → List ℕ → ℕ → Ledger → List Call → Ledger
+ledger load fixed N l [] = l
+ledger load fixed N l (c ∷ cs) = ledger load fixed N (call load fixed N l c .after) cs

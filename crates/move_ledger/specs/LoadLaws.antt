@@ -3,9 +3,9 @@ use Prim.Native.Nat.{ℕ, zero, suc, _+_, _*_, _^_, _≤_, _<_}
 use native.Mathlib.Omega.{arith}
 use native.Mathlib.Numerals.{add-one}
 use native.Mathlib.Decide.{ℕ-discrete, decLt}
-use mathlib.Core.Path.{_≡_, refl, sym, ap, _∙_}
+use mathlib.Core.Path.{_≡_, refl, sym, ap, subst, _∙_}
 use mathlib.Core.Logic.{_↔_}
-use mathlib.Core.Bool.{Bool, true, false, not, cond, _||_, true≢false}
+use mathlib.Core.Bool.{Bool, true, false, not, cond, _&&_, _||_, true≢false}
 use mathlib.Core.List.{List}
 use lib.Dec.{leb, ltb, eqb}
 use lib.ListN.{length}
@@ -15,11 +15,10 @@ use Rattle.graphs.specs.Count.{ind, count, count-le}
 use Rattle.graphs.specs.Lists.{some-below, some-none}
 use Rattle.graphs.specs.Tab.{tab-length, tab-at}
 use Rattle.graphs.specs.Walk.{cyclic}
-use Rattle.entry_set.specs.Sets.{width}
 use Rattle.move_ledger.specs.Graph.{Load, none, at, owner, edge}
 use Rattle.move_ledger.specs.Answer.{refused, acyclic, is-refused}
 use Rattle.move_ledger.specs.Answer as answer
-use Rattle.move_ledger.specs.Loading.{row1, row2, row3, row4, row5, row6, first-row, lent-set, entry-sets, row7, row8, loading-row, loading}
+use Rattle.move_ledger.specs.Loading.{row1, row2, row3, row4, row5, row6, first-row, marks-fit, refusal, sets-fit, lent-set, entry-sets, row7, row8, loading-row, loading}
 
 -- how many pass, of a test that holds up to somewhere and fails from there on
 module _ (p : ℕ → Bool) where
@@ -196,40 +195,70 @@ first-row-none load N lists size h =
       order = in-order load (p₄ .0) (p₅ .0) (p₆ .0);
     }
 
+-- of a later call: the marks are as many as atoms
+module _ (load : Load) (fixed : List ℕ) (N size : ℕ) (h : refusal load fixed N size ≡ 0) where
+  pub refusal-marks : length fixed ≡ load .A
+  refusal-marks = eqb-true _ _ (first-row-none load N (marks-fit load fixed) size h .lengths)
+
+  pub refusal-first : first-row load N true size ≡ 0
+  refusal-first = subst (λ t. first-row load N t size ≡ 0) (first-row-none load N (marks-fit load fixed) size h .lengths) h
+
+  pub refusal-none : Loadable load N true size
+  refusal-none = first-row-none load N true size refusal-first
+
 -- the same with the rows 7 and 8
 pub record Loadable-sets (load : Load) (N : ℕ) (sets : List ℕ) (size : ℕ) : Type 0 where
-  pub loadable : Loadable load N (eqb (length sets) (load .A * width (load .E))) size
+  pub loadable : Loadable load N (sets-fit load sets) size
   pub seven : row7 load sets ≡ false
   pub eight : row8 load sets ≡ false
 
-pub loading-row-none : (load : Load) (N : ℕ) (sets : List ℕ) (size : ℕ) → loading-row load N sets size ≡ 0 → Loadable-sets load N sets size
-unfolding loading-row
-loading-row-none load N sets size h = go (eqb (first-row load N lists size) 0) refl h
-  where
-    lists : Bool
-    lists = eqb (length sets) (load .A * width (load .E))
+module _ (load : Load) (fixed : List ℕ) (N : ℕ) (sets : List ℕ) (size : ℕ) where
+  abbrev lists : Bool
+  lists = marks-fit load fixed && sets-fit load sets
 
-    late : ℕ
-    late = cond (row7 load sets) 7 (cond (row8 load sets) 8 0)
+  abbrev late : ℕ
+  late = cond (row7 load sets) 7 (cond (row8 load sets) 8 0)
 
-    go : (t : Bool) → eqb (first-row load N lists size) 0 ≡ t → cond t late (first-row load N lists size) ≡ 0 → Loadable-sets load N sets size
-    go true e f =
-        let p₇ = none-fits (row7 load sets) 7 _ (omega arith) f in
-        let p₈ = none-fits (row8 load sets) 8 _ (omega arith) (p₇ .1) in
-        record { loadable = first-row-none load N lists size (eqb-true _ _ e); seven = p₇ .0; eight = p₈ .0 }
-    go false e f = absurd (eqb-false _ _ e f)
+  -- the rows 1 to 6 don't fit, nor do the rows 7 and 8
+  both-none : loading-row load fixed N sets size ≡ 0 → (first-row load N lists size ≡ 0) × (late ≡ 0)
+  unfolding loading-row
+  both-none h = go (eqb (first-row load N lists size) 0) refl h
+    where
+      go : (t : Bool) → eqb (first-row load N lists size) 0 ≡ t → cond t late (first-row load N lists size) ≡ 0 → (first-row load N lists size ≡ 0) × (late ≡ 0)
+      go true e f = (eqb-true _ _ e, f)
+      go false e f = absurd (eqb-false _ _ e f)
 
--- a loading is refused exactly where a row fits
-pub loading-unrefused : (load : Load) (N : ℕ) (sets : List ℕ) (size : ℕ) → is-refused (loading load N sets size) ≡ false → loading-row load N sets size ≡ 0
-unfolding loading
-loading-unrefused load N sets size h = go (eqb (loading-row load N sets size) 0) refl h
-  where
-    c : Bool
-    c = cyclic (edge load (entry-sets load sets)) (entry-sets load sets)
+  pub loading-row-none : loading-row load fixed N sets size ≡ 0 → Loadable-sets load N sets size
+  loading-row-none h =
+      let b = both-none h in
+      let l = first-row-none load N lists size (b .0) in
+      let p₇ = none-fits (row7 load sets) 7 _ (omega arith) (b .1) in
+      let p₈ = none-fits (row8 load sets) 8 _ (omega arith) (p₇ .1) in
+      record {
+        loadable = record { sizes = l .sizes; lengths = and-right (marks-fit load fixed) _ (l .lengths); order = l .order };
+        seven = p₇ .0;
+        eight = p₈ .0;
+      }
 
-    go : (t : Bool) → eqb (loading-row load N sets size) 0 ≡ t → is-refused (cond t (cond c answer.cyclic acyclic) (refused (loading-row load N sets size))) ≡ false → loading-row load N sets size ≡ 0
-    go true e f = eqb-true _ _ e
-    go false e f = absurd (true≢false f)
+  -- and a later call's rows 1 to 6 don't
+  pub loading-row-later : loading-row load fixed N sets size ≡ 0 → refusal load fixed N size ≡ 0
+  loading-row-later h =
+      let q = both-none h .0 in
+      let l = first-row-none load N lists size q .lengths in
+      subst (λ t. first-row load N t size ≡ 0) (l ∙ sym (and-left (marks-fit load fixed) _ l)) q
+
+  -- a loading is refused exactly where a row fits
+  pub loading-unrefused : is-refused (loading load fixed N sets size) ≡ false → loading-row load fixed N sets size ≡ 0
+  unfolding loading
+  loading-unrefused h = go (eqb (loading-row load fixed N sets size) 0) refl h
+    where
+      c : Bool
+      c = cyclic (edge load (entry-sets load sets)) (entry-sets load sets)
+
+      go : (t : Bool) → eqb (loading-row load fixed N sets size) 0 ≡ t → is-refused (cond t (cond c answer.cyclic acyclic) (refused (loading-row load fixed N sets size))) ≡ false
+          → loading-row load fixed N sets size ≡ 0
+      go true e f = eqb-true _ _ e
+      go false e f = absurd (true≢false f)
 
 -- what the rows 7 and 8 leave, number by number
 module _ (load : Load) (sets : List ℕ) where

@@ -1,6 +1,6 @@
--- Rows 1 to 8 of the table, and the answer to loading (01, "Where a call turns back"). Assumes nothing.
+-- Rows 1 to 8 of the table, and the answer to loading (01, "Where a call turns back"; 02, (iii), (xi)). Assumes nothing.
 use Prim.Native.Nat.{ℕ, suc, _+_, _*_, _^_}
-use mathlib.Core.Bool.{Bool, true, not, cond, _&&_, _||_}
+use mathlib.Core.Bool.{Bool, not, cond, _&&_, _||_}
 use mathlib.Core.List.{List}
 use lib.Dec.{leb, ltb, eqb}
 use lib.ListN.{length, take, drop}
@@ -49,9 +49,13 @@ first-row load N lists size =
     (cond (row6 load) 6
     0)))))
 
+-- 02: "The load gains a list of A marks": as many as atoms
+abbrev pub marks-fit : Load → List ℕ → Bool
+marks-fit load fixed = eqb (length fixed) (load .A)
+
 -- the rows 1 to 6 of a later call, with an area of `size` numbers
-abbrev pub refusal : Load → ℕ → ℕ → ℕ
-refusal load N size = first-row load N true size
+abbrev pub refusal : Load → List ℕ → ℕ → ℕ → ℕ
+refusal load fixed N size = first-row load N (marks-fit load fixed) size
 
 -- "A entry sets are lent too, each w = E/64 rounded up numbers": the set of atom i, and all of them
 abbrev pub lent-set : Load → List ℕ → ℕ → ℕ
@@ -59,6 +63,9 @@ lent-set load sets i = value (take (width (load .E)) (drop (i * width (load .E))
 
 unfoldable pub entry-sets : Load → List ℕ → List ℕ
 entry-sets load sets = tab (lent-set load sets) (load .A)
+
+abbrev pub sets-fit : Load → List ℕ → Bool
+sets-fit load sets = eqb (length sets) (load .A * width (load .E))
 
 -- "bit at or above E"
 unfoldable pub row7 : Load → List ℕ → Bool
@@ -73,13 +80,13 @@ abbrev pub or-else : ℕ → ℕ → ℕ
 or-else q next = cond (eqb q 0) next q
 
 -- the first row that fits at loading, 0 where none does
-unfoldable pub loading-row : Load → ℕ → List ℕ → ℕ → ℕ
-loading-row load N sets size =
-    or-else (first-row load N (eqb (length sets) (load .A * width (load .E))) size) (cond (row7 load sets) 7 (cond (row8 load sets) 8 0))
+unfoldable pub loading-row : Load → List ℕ → ℕ → List ℕ → ℕ → ℕ
+loading-row load fixed N sets size =
+    or-else (first-row load N (marks-fit load fixed && sets-fit load sets) size) (cond (row7 load sets) 7 (cond (row8 load sets) 8 0))
 
 -- "Loading answers acyclic or cyclic"
-unfoldable pub loading : Load → ℕ → List ℕ → ℕ → Answer
-loading load N sets size =
-    let q = loading-row load N sets size in
+unfoldable pub loading : Load → List ℕ → ℕ → List ℕ → ℕ → Answer
+loading load fixed N sets size =
+    let q = loading-row load fixed N sets size in
     let place = entry-sets load sets in
     cond (eqb q 0) (cond (cyclic (edge load place) place) answer.cyclic acyclic) (refused q)

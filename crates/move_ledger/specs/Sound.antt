@@ -84,21 +84,21 @@ module _ {load : Load} {N : ℕ} {l : Ledger} (v : Sound load N l) (more : load 
       pick i c (yes e) = rw (e, getD-set-same (l .place) a T 0 (omega (arith, v .atoms))) (registered load N (l .place) seen (v .distinct) (v .room) more T .has-target)
       pick i c (no d) = rw (getD-set-other (l .place) a i T 0 d) (step2-sound .registered i c)
 
-pub call-sound : (load : Load) (N : ℕ) (l : Ledger) (c : Call) → load .A < N → Sound load N l → Sound load N (call load N l c .after)
+pub call-sound : (load : Load) (fixed : List ℕ) (N : ℕ) (l : Ledger) (c : Call) → load .A < N → Sound load N l → Sound load N (call load fixed N l c .after)
 unfolding call
-call-sound load N l (try-move a s) more v =
-    move-keeps load N l a s (Sound load N) v (λ u. step2-sound v more (value s) (range u))
-    (λ u. step3-sound v more (value s) (range u) a (leb-false _ _ (decide-passed load (l .place) a s u .at10)))
+call-sound load fixed N l (try-move a s) more v =
+    move-keeps load fixed N l a s (Sound load N) v (λ u. step2-sound v more (value s) (range u))
+    (λ u. step3-sound v more (value s) (range u) a (leb-false _ _ (decide-passed load fixed (l .place) a s u .at10)))
   where
-    range : is-refused (decide load (l .place) a s) ≡ false → value s < 2 ^ load .E
-    range u = ltb-true _ _ (and-right (eqb (length s) (width (load .E))) _ (not-false _ (decide-passed load (l .place) a s u .at11)))
-call-sound load N l (asks q) more v = v
+    range : is-refused (decide load fixed (l .place) a s) ≡ false → value s < 2 ^ load .E
+    range u = ltb-true _ _ (and-right (eqb (length s) (width (load .E))) _ (not-false _ (decide-passed load fixed (l .place) a s u .at11)))
+call-sound load fixed N l (asks q) more v = v
 
 -- every ledger after a loading
-pub ledger-sound : (load : Load) (N : ℕ) (l : Ledger) (cs : List Call) → load .A < N → Sound load N l → Sound load N (ledger load N l cs)
+pub ledger-sound : (load : Load) (fixed : List ℕ) (N : ℕ) (l : Ledger) (cs : List Call) → load .A < N → Sound load N l → Sound load N (ledger load fixed N l cs)
 unfolding ledger
-ledger-sound load N l [] more v = v
-ledger-sound load N l (c ∷ cs) more v = ledger-sound load N (call load N l c .after) cs more (call-sound load N l c more v)
+ledger-sound load fixed N l [] more v = v
+ledger-sound load fixed N l (c ∷ cs) more v = ledger-sound load fixed N (call load fixed N l c .after) cs more (call-sound load fixed N l c more v)
 
 -- an unrefused loading gives a sound ledger
 pub loading-sound : {load : Load} {N : ℕ} {sets : List ℕ} {size : ℕ} → Loadable-sets load N sets size → Sound load N (loaded (entry-sets load sets))

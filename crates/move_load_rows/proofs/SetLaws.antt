@@ -2,12 +2,12 @@
 use Prim.Native.Nat.{ℕ, _*_, _≤_, _<_}
 use native.Mathlib.Omega.{arith}
 use mathlib.Core.Path.{_≡_, refl, sym, ap, _∙_}
-use mathlib.Core.Bool.{Bool, true, false, not, cond}
+use mathlib.Core.Bool.{Bool, true, false, not, cond, _&&_}
 use mathlib.Core.List.{List, []}
 use lib.Dec.{leb, ltb, eqb}
 use lib.ListN.{length}
 use borrow.Author.Tests.{ltb-true, ltb-false, le-leb, lt-leb, eq-eqb, ne-eqb, eqb-true}
-use Rattle.graphs.specs.Bools.{Decides}
+use Rattle.graphs.specs.Bools.{Decides, and-right}
 use Rattle.graphs.specs.Square.{row-in}
 use Rattle.entry_set.specs.Sets.{width}
 use Rattle.set_order.specs.Order.{Distinct}
@@ -43,26 +43,26 @@ module _ (a e w : ℕ) (sets : List ℕ) (wide : w ≡ width e) where
   unfolding set-row row7 row8 too-high alike-sets met
   set-is = rw wide refl
 
--- the length of the sets matters only where row 1 doesn't fit
-module _ (a d e : ℕ) (starts dependencies hosts : List ℕ) (n : ℕ) (sets : List ℕ) (size : ℕ) (fit : Bool) (fits : a ≤ 512 → e ≤ 256 → fit ≡ eqb (length sets) (a * width e)) (row : ℕ) (first : row ≡ first-row (lent a d e starts dependencies hosts) n fit size) where
+-- the lengths of the marks and the sets matter only where row 1 doesn't fit
+module _ (a d e : ℕ) (starts dependencies hosts : List ℕ) (fixed : List ℕ) (n : ℕ) (sets : List ℕ) (size : ℕ) (fit : Bool) (fits : a ≤ 512 → e ≤ 256 → fit ≡ (eqb (length fixed) a && eqb (length sets) (a * width e))) (row : ℕ) (first : row ≡ first-row (lent a d e starts dependencies hosts) n fit size) where
   abbrev load : Load
   load = lent a d e starts dependencies hosts
 
-  fit-is : row ≡ first-row load n (eqb (length sets) (a * width e)) size
+  fit-is : row ≡ first-row load n (eqb (length fixed) a && eqb (length sets) (a * width e)) size
   unfolding first-row
   fit-is = go (row1 load n) refl
     where
-      go : (t : Bool) → row1 load n ≡ t → row ≡ first-row load n (eqb (length sets) (a * width e)) size
+      go : (t : Bool) → row1 load n ≡ t → row ≡ first-row load n (eqb (length fixed) a && eqb (length sets) (a * width e)) size
       go true q = first ∙ rw q refl
       go false q = let l = limits a d e n q in first ∙ rw (fits (l .atoms) (l .bits)) refl
 
-  pub loading-early : (row ≡ 0 → ⊥) → row ≡ loading-row load n sets size
+  pub loading-early : (row ≡ 0 → ⊥) → row ≡ loading-row load fixed n sets size
   unfolding loading-row
   loading-early h = rw (← fit-is, ne-eqb row 0 h) refl
 
-  pub loading-late : (r : ℕ) → row ≡ 0 → r ≡ set-row (lent a 0 e [] [] []) sets → r ≡ loading-row load n sets size
+  pub loading-late : (r : ℕ) → row ≡ 0 → r ≡ set-row (lent a 0 e [] [] []) sets → r ≡ loading-row load fixed n sets size
   unfolding loading-row set-row row7 row8
   loading-late r h q = rw (← fit-is, eq-eqb row 0 h) q
 
   pub loading-can : row ≡ 0 → (a ≤ 512) × (e ≤ 256) × (length sets ≡ a * width e)
-  loading-can h = let l = first-row-none load n (eqb (length sets) (a * width e)) size (sym fit-is ∙ h) in (l .sizes .atoms, l .sizes .bits, eqb-true _ _ (l .lengths))
+  loading-can h = let l = first-row-none load n (eqb (length fixed) a && eqb (length sets) (a * width e)) size (sym fit-is ∙ h) in (l .sizes .atoms, l .sizes .bits, eqb-true _ _ (and-right (eqb (length fixed) a) _ (l .lengths)))

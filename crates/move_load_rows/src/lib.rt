@@ -11,7 +11,7 @@ ghost use Rattle.move_ledger.specs.Loading.{row1, row2, row3, row5, first-row, 
 mod alike;
 mod sets;
 
-use sets::sets_fit;
+use sets::lists_fit;
 pub use sets::sets_refusal;
 
 // A number of 32 bits as an index.
@@ -238,12 +238,13 @@ pub fn loading_refusal(
     starts: &[u32],
     dependencies: &[u32],
     hosts: &[u32],
+    fixed: &[u32],
     sets: &[u64],
     size: usize,
 ) -> u32
-    ensures { λ r. ⌜ r ≡ loading-row (lent a d e (now (starts .entry)) (now (dependencies .entry)) (now (hosts .entry))) n (now (sets .entry)) size ⌝ }
+    ensures { λ r. ⌜ r ≡ loading-row (lent a d e (now (starts .entry)) (now (dependencies .entry)) (now (hosts .entry))) (now (fixed .entry)) n (now (sets .entry)) size ⌝ }
 {
-    let fit = sets_fit(a, e, sets);
+    let fit = lists_fit(a, e, fixed, sets);
     let row = refusal(a, d, e, n, starts, dependencies, hosts, fit, size);
     if row != 0 {
         return row;

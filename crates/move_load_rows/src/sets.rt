@@ -1,5 +1,6 @@
 // Rows 7 and 8 of the table: entry sets in range, no two of them equal.
 ghost use mathlib.Core.Path.{_≡_};
+ghost use mathlib.Core.Bool.{_&&_};
 ghost use mathlib.Core.List.{[]};
 ghost use Prim.Native.Nat.{_+_, _*_, _^_, _≤_, _<_};
 ghost use lib.ListN.{length};
@@ -52,7 +53,7 @@ pub fn sets_refusal(a: usize, e: usize, sets: &[u64]) -> u32
 }
 
 // The entry sets of a atoms have their length; any answer where row 1 fits.
-pub fn sets_fit(a: usize, e: usize, sets: &[u64]) -> bool
+fn sets_fit(a: usize, e: usize, sets: &[u64]) -> bool
     ensures { λ r. ⌜ (a ≤ 512 → e ≤ 256 → r ≡ eqb (length (now (sets .entry))) (a * width e)) ⌝ }
 {
     if 512 < a {
@@ -62,4 +63,14 @@ pub fn sets_fit(a: usize, e: usize, sets: &[u64]) -> bool
         return false;
     }
     sets.len() == a * set_width(e)
+}
+
+// The marks of a atoms and their entry sets have their lengths; any answer where row 1 fits.
+pub fn lists_fit(a: usize, e: usize, fixed: &[u32], sets: &[u64]) -> bool
+    ensures { λ r. ⌜ (a ≤ 512 → e ≤ 256 → r ≡ (eqb (length (now (fixed .entry))) a && eqb (length (now (sets .entry))) (a * width e))) ⌝ }
+{
+    if fixed.len() != a {
+        return false;
+    }
+    sets_fit(a, e, sets)
 }

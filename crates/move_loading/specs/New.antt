@@ -11,24 +11,25 @@ use Rattle.move_ledger.specs.Answer.{refused, acyclic}
 use Rattle.move_ledger.specs.Answer as answer
 use Rattle.move_ledger.specs.Loading.{entry-sets, loading-row, loading}
 use Rattle.move_area.specs.Area.{encode}
+use Rattle.move_area.specs.Fixed.{flag}
 use Rattle.move_area.specs.Calls.{first, new}
 
-module _ (load : Load) (N : ℕ) (sets area : List ℕ) where
+module _ (load : Load) (fixed : List ℕ) (N : ℕ) (sets area : List ℕ) where
   -- row q fits
-  pub new-refused : {q : ℕ} → q ≡ loading-row load N sets (length area) → (q ≡ 0 → ⊥) → (refused q ≡ new load N sets area .answer) × (area ≡ new load N sets area .area)
+  pub new-refused : {q : ℕ} → q ≡ loading-row load fixed N sets (length area) → (q ≡ 0 → ⊥) → (refused q ≡ new load fixed N sets area .answer) × (area ≡ new load fixed N sets area .area)
   unfolding new loading
   new-refused {q} e h = rw (← e, ne-eqb q 0 h) (refl, refl)
 
   -- none does
-  module _ (none : loading-row load N sets (length area) ≡ 0) {c : Bool} (h : c ≡ cyclic (edge load (entry-sets load sets)) (entry-sets load sets)) where
-    pub new-answer : cond c answer.cyclic acyclic ≡ new load N sets area .answer
+  module _ (none : loading-row load fixed N sets (length area) ≡ 0) {c : Bool} (h : c ≡ cyclic (edge load (entry-sets load sets)) (entry-sets load sets)) where
+    pub new-answer : cond c answer.cyclic acyclic ≡ new load fixed N sets area .answer
     unfolding new loading
     new-answer = rw (none, ← h) refl
 
-    pub new-area : {l : List ℕ} → l ≡ encode load N (first load N sets) area → l ≡ new load N sets area .area
+    pub new-area : {l : List ℕ} → l ≡ flag load fixed N (encode load N (first load N sets) area) → l ≡ new load fixed N sets area .area
     unfolding new loading
     new-area {l} e = rw (none, ← h) (go c)
       where
-        go : (b : Bool) → l ≡ cond (answer.is-refused (cond b answer.cyclic acyclic)) area (encode load N (first load N sets) area)
+        go : (b : Bool) → l ≡ cond (answer.is-refused (cond b answer.cyclic acyclic)) area (flag load fixed N (encode load N (first load N sets) area))
         go true = e
         go false = e

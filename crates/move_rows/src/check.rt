@@ -12,9 +12,10 @@ pub fn later_row(
     starts: &[u32],
     dependencies: &[u32],
     hosts: &[u32],
+    fixed: &[u32],
     area: &[u32],
 ) -> u32
-    ensures { λ r. ⌜ r ≡ later (lent a d e (now (starts .entry)) (now (dependencies .entry)) (now (hosts .entry))) n (now (area .entry)) ⌝ }
+    ensures { λ r. ⌜ r ≡ later (lent a d e (now (starts .entry)) (now (dependencies .entry)) (now (hosts .entry))) (now (fixed .entry)) n (now (area .entry)) ⌝ }
 {
     let mut degrees = [0u32; 1024];
     let mut order = [0u32; 1024];
@@ -26,6 +27,7 @@ pub fn later_row(
         starts,
         dependencies,
         hosts,
+        fixed,
         area,
         &mut degrees,
         &mut order,

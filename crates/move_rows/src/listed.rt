@@ -11,16 +11,21 @@ pub fn listed_row(
     starts: &[u32],
     dependencies: &[u32],
     hosts: &[u32],
+    fixed: &[u32],
     area: &[u32],
     degrees: &mut [u32],
     order: &mut [u32],
 ) -> u32
     requires { ⌜ NodeLists (now degrees) (now order) ⌝ }
-    ensures { λ r. ⌜ RowTold (lent a d e (now (starts .entry)) (now (dependencies .entry)) (now (hosts .entry))) n (now (area .entry)) (now (degrees .exit)) (now (order .exit)) r ⌝ }
+    ensures { λ r. ⌜ RowTold (lent a d e (now (starts .entry)) (now (dependencies .entry)) (now (hosts .entry))) (now (fixed .entry)) n (now (area .entry)) (now (degrees .exit)) (now (order .exit)) r ⌝ }
 {
-    let q = move_load_rows::refusal(a, d, e, n, starts, dependencies, hosts, true, area.len());
+    let fit = fixed.len() == a;
+    let q = move_load_rows::refusal(a, d, e, n, starts, dependencies, hosts, fit, area.len());
     if q != 0 {
         return q;
+    }
+    if !move_fixed::keeps(area, a, n, fixed) {
+        return 9;
     }
     if move_consistency::consistent(
         a,

@@ -17,7 +17,7 @@ use Rattle.graph_walks.specs.Marks.{marking, marked}
 use Rattle.entry_set.specs.Sets.{value, legal}
 use Rattle.move_ledger.specs.Graph.{Load, at, edge}
 use Rattle.move_ledger.specs.Answer.{accepted, rejected, is-refused, is-accepted}
-use Rattle.move_ledger.specs.Ledger.{Ledger, put, free-place, register, step1, step2, step3, decide, move}
+use Rattle.move_ledger.specs.Ledger.{Ledger, put, free-place, register, step1, step2, step3, stays, decide, move}
 use Rattle.move_ledger.specs.Evict.{place-free, register-old, register-new}
 use Rattle.move_ledger.specs.Evict as evict
 use Rattle.move_ledger.specs.MoveLaws.{Passed, decide-late, decide-unrefused, tried-after}
@@ -136,24 +136,24 @@ module _ {load : Load} {N : ℕ} {s : Nodes} {a T y : ℕ} (v : Trial load N s a
   test-cyclic : cyclic (edge load (set place a T)) (set place a T) ≡ cyclic E (below N)
   test-cyclic = moved-cyclic (v .order) (kept .placing) (kept .placed) a T y (v .node) (v .set) N wide
 
-  module _ (w : List ℕ) (is : value w ≡ T) (r11 : legal (load .E) w ≡ true) (r12 : eqb T (at place a) ≡ false) (s1 : step1 load place a ≡ false) where
-    passed : Passed (leb (load .A) a) (not (legal (load .E) w)) (eqb (value w) (at place a))
-    passed = record { at10 = lt-leb (load .A) a (v .atom); at11 = ap not r11; at12 = rw is r12 }
+  module _ (fixed w : List ℕ) (is : value w ≡ T) (r24 : stays fixed a ≡ false) (r11 : legal (load .E) w ≡ true) (r12 : eqb T (at place a) ≡ false) (s1 : step1 load place a ≡ false) where
+    passed : Passed (leb (load .A) a) (stays fixed a) (not (legal (load .E) w)) (eqb (value w) (at place a))
+    passed = record { at10 = lt-leb (load .A) a (v .atom); at24 = r24; at11 = ap not r11; at12 = rw is r12 }
 
-    decided : decide load place a w ≡ cond (cyclic E (below N)) rejected accepted
-    decided = decide-late load place a w passed ∙ rw (s1, is, test-cyclic) refl
+    decided : decide load fixed place a w ≡ cond (cyclic E (below N)) rejected accepted
+    decided = decide-late load fixed place a w passed ∙ rw (s1, is, test-cyclic) refl
 
-    unrefused : is-refused (decide load place a w) ≡ false
-    unrefused = decide-unrefused load place a w passed
+    unrefused : is-refused (decide load fixed place a w) ≡ false
+    unrefused = decide-unrefused load fixed place a w passed
 
-    late : move load N (ledgerOf s) a w .after ≡ cond (is-accepted (cond (cyclic E (below N)) rejected accepted)) (step3 load N (ledgerOf s) a T) (step2 load N (ledgerOf s) T)
+    late : move load fixed N (ledgerOf s) a w .after ≡ cond (is-accepted (cond (cyclic E (below N)) rejected accepted)) (step3 load N (ledgerOf s) a T) (step2 load N (ledgerOf s) T)
     late =
-        tried-after load N (ledgerOf s) a w unrefused s1
+        tried-after load fixed N (ledgerOf s) a w unrefused s1
         ∙ ap₂ (λ x X. cond (is-accepted x) (step3 load N (ledgerOf s) a X) (step2 load N (ledgerOf s) X)) decided is
 
-    by-sets : after load N (stateOf s) a w
+    by-sets : after load fixed N (stateOf s) a w
         ≡ record {
-          ledger = move load N (ledgerOf s) a w .after;
+          ledger = move load fixed N (ledgerOf s) a w .after;
           counter = cond (cyclic (node-edge load (s .nodes) (s .sets)) (below N)) (s .counter) (next (s .counter));
           marks = cond (cyclic (node-edge load (s .nodes) (s .sets)) (below N)) m (walk-marks load N (with-target load N s T) a y);
         }
@@ -162,13 +162,13 @@ module _ {load : Load} {N : ℕ} {s : Nodes} {a T y : ℕ} (v : Trial load N s a
 
     -- rejected: the target is registered
     pub trial-rejected : cyclic E (below N) ≡ true
-        → (move load N (ledgerOf s) a w .answer ≡ rejected) × (after load N (stateOf s) a w ≡ stateOf (with-test load N (with-target load N s T) a y (cyclic (node-edge load (s .nodes) (s .sets)) (below N))))
+        → (move load fixed N (ledgerOf s) a w .answer ≡ rejected) × (after load fixed N (stateOf s) a w ≡ stateOf (with-test load N (with-target load N s T) a y (cyclic (node-edge load (s .nodes) (s .sets)) (below N))))
     unfolding move
     trial-rejected q = (decided ∙ rw q refl, by-sets ∙ rw (late, q, kept .placed) refl)
 
     -- accepted: and the atom moved
     pub trial-accepted : cyclic E (below N) ≡ false
-        → (move load N (ledgerOf s) a w .answer ≡ accepted) × (after load N (stateOf s) a w ≡ stateOf (with-node (with-test load N (with-target load N s T) a y (cyclic (node-edge load (s .nodes) (s .sets)) (below N))) a y))
+        → (move load fixed N (ledgerOf s) a w .answer ≡ accepted) × (after load fixed N (stateOf s) a w ≡ stateOf (with-node (with-test load N (with-target load N s T) a y (cyclic (node-edge load (s .nodes) (s .sets)) (below N))) a y))
     unfolding move
     trial-accepted q = (decided ∙ rw q refl, by-sets ∙ rw (late, q, moved) refl)
       where
@@ -176,9 +176,9 @@ module _ {load : Load} {N : ℕ} {s : Nodes} {a T y : ℕ} (v : Trial load N s a
         moved = placed-moved (v .order) (kept .placing) (kept .placed) a T y (v .node) (v .set) N wide
 
 -- a move that step 1 rejects writes nothing
-module _ (load : Load) (N : ℕ) (st : State) (a : ℕ) (w : List ℕ) (r10 : a < load .A) (r11 : legal (load .E) w ≡ true) (r12 : eqb (value w) (at (st .ledger .place) a) ≡ false) where
-  pub early-rejected : step1 load (st .ledger .place) a ≡ true → (move load N (st .ledger) a w .answer ≡ rejected) × (after load N st a w ≡ st)
+module _ (load : Load) (fixed : List ℕ) (N : ℕ) (st : State) (a : ℕ) (w : List ℕ) (r10 : a < load .A) (r24 : stays fixed a ≡ false) (r11 : legal (load .E) w ≡ true) (r12 : eqb (value w) (at (st .ledger .place) a) ≡ false) where
+  pub early-rejected : step1 load (st .ledger .place) a ≡ true → (move load fixed N (st .ledger) a w .answer ≡ rejected) × (after load fixed N st a w ≡ st)
   unfolding move after
   early-rejected s1 =
-      let passed : Passed (leb (load .A) a) (not (legal (load .E) w)) (eqb (value w) (at (st .ledger .place) a)) = record { at10 = lt-leb (load .A) a r10; at11 = ap not r11; at12 = r12 } in
-      (decide-late load (st .ledger .place) a w passed ∙ rw s1 refl, rw (decide-unrefused load (st .ledger .place) a w passed, s1) refl)
+      let passed : Passed (leb (load .A) a) (stays fixed a) (not (legal (load .E) w)) (eqb (value w) (at (st .ledger .place) a)) = record { at10 = lt-leb (load .A) a r10; at24 = r24; at11 = ap not r11; at12 = r12 } in
+      (decide-late load fixed (st .ledger .place) a w passed ∙ rw s1 refl, rw (decide-unrefused load fixed (st .ledger .place) a w passed, s1) refl)

@@ -14,7 +14,7 @@ use Rattle.entry_set.specs.Sets.{value, legal}
 use Rattle.entry_set.specs.SetLaws.{below-256}
 use Rattle.move_ledger.specs.Graph.{Load, at}
 use Rattle.move_ledger.specs.Answer.{Answer, accepted, rejected}
-use Rattle.move_ledger.specs.Ledger.{put, step1, move}
+use Rattle.move_ledger.specs.Ledger.{put, step1, stays, move}
 use Rattle.move_ledger.specs.Places.{put-inside, put-behind}
 use Rattle.move_ledger.specs.Evict.{Free, place-free}
 use Rattle.move_ledger.specs.LoadLaws.{Loadable}
@@ -52,10 +52,11 @@ pub record CanTry (load : Load) (n : ℕ) (area : List ℕ) (atom T : ℕ) : Typ
   pub range : T < 2 ^ load .E
   pub other : eqb T (at (decode load n area .ledger .place) atom) ≡ false
 
--- the ledger's answer to a move of the atom to any lent set that is T, and the area that holds the next state
+-- the ledger's answer to a move of the atom to any lent set that is T, whatever the marks are by which it isn't fixed, and the area that holds the next
+-- state
 pub record Answers (load : Load) (n : ℕ) (area : List ℕ) (atom T : ℕ) (r : Answer) (l : List ℕ) : Type 0 where
-  pub of : (w : List ℕ) → value w ≡ T → legal (load .E) w ≡ true
-      → (r ≡ move load n (decode load n area .ledger) atom w .answer) × (l ≡ encode load n (after load n (decode load n area) atom w) area)
+  pub of : (fixed w : List ℕ) → stays fixed atom ≡ false → value w ≡ T → legal (load .E) w ≡ true
+      → (r ≡ move load fixed n (decode load n area .ledger) atom w .answer) × (l ≡ encode load n (after load fixed n (decode load n area) atom w) area)
 
 -- an area that holds a state names it
 module _ {load : Load} {N : ℕ} {s : Nodes} {l₀ l : List ℕ} (v : Stands load N s l₀ l) where
@@ -119,8 +120,8 @@ module _ {load : Load} {n : ℕ} {area : List ℕ} {atom T : ℕ} (can : CanTry 
   pub try-rejected : {r : Bool} → r ≡ step1 load (placed (nodesIn load n area) (setsIn n area)) atom → r ≡ true → Answers load n area atom T (answerOf Rejected) area
   unfolding decode
   try-rejected s1 q = record {
-    of = λ w e legal.
-        let z = early-rejected load n (decode load n area) atom w (can .there) legal (same w e) (sym s1 ∙ q) in
+    of = λ fixed w free e legal.
+        let z = early-rejected load fixed n (decode load n area) atom w (can .there) free legal (same w e) (sym s1 ∙ q) in
         (sym (z .0), sym (consistent-whole load n area (can .sane)) ∙ ap (λ u. encode load n u area) (sym (z .1)));
   }
 
@@ -227,8 +228,8 @@ module _ {load : Load} {n : ℕ} {area : List ℕ} {atom T : ℕ} (can : CanTry 
           pub try-accepted : Settled load n l₁ atom y true l₂ → Answers load n area atom T (answerOf Accepted) l₂
           unfolding decode
           try-accepted z = record {
-            of = λ w e legal.
-                let x = trial-accepted trial w e legal (can .other) (sym s1 ∙ left) says in
+            of = λ fixed w free e legal.
+                let x = trial-accepted trial fixed w e free legal (can .other) (sym s1 ∙ left) says in
                 (sym (x .0), stands-encode held ∙ ap (λ u. encode load n u area) (rw present (sym (x .1))));
           }
             where
@@ -241,8 +242,8 @@ module _ {load : Load} {n : ℕ} {area : List ℕ} {atom T : ℕ} (can : CanTry 
           pub try-stays : Settled load n l₁ atom y false l₂ → Answers load n area atom T (answerOf Rejected) l₂
           unfolding decode
           try-stays z = record {
-            of = λ w e legal.
-                let x = trial-rejected trial w e legal (can .other) (sym s1 ∙ left) says in
+            of = λ fixed w free e legal.
+                let x = trial-rejected trial fixed w e free legal (can .other) (sym s1 ∙ left) says in
                 (sym (x .0), stands-encode held ∙ ap (λ u. encode load n u area) (rw present (sym (x .1))));
           }
             where

@@ -11,14 +11,15 @@ use Rattle.move_ledger.specs.Graph.{Load, edges}
 use Rattle.move_ledger.specs.Answer.{Answer, refused, number}
 use Rattle.move_ledger.specs.Ledger.{Question, edge-count, edge-at, kth, ask}
 use Rattle.move_ledger.specs.Loading.{refusal}
-use Rattle.move_area.specs.Area.{decode, consistent}
+use Rattle.move_area.specs.Area.{decode}
+use Rattle.move_area.specs.Fixed.{checks-out}
 use Rattle.move_area.specs.Calls.{asked, checked}
 use Rattle.move_questions.specs.Answers.{placeIn, Listable}
 use Rattle.reduced_chunk_graph.specs.Asked.{asked-back, head-inside, edges-told, edge-told}
 use Rattle.move_rows.specs.Listed.{RowTold, listable-known, listable-some}
 use Rattle.moves_replies.specs.Words.{reply}
 use Rattle.moves_replies.specs.Room.{Put, put-then, put-none, reply-long}
-use Rattle.moves_commands.specs.Program.{N, areas, lines, lines-of, listing}
+use Rattle.moves_commands.specs.Program.{N, unmarked, areas, lines, lines-of, listing}
 use Rattle.moves_commands.specs.Steps.{CanList, CanListAll}
 use Rattle.moves_commands.specs.Few.{edges-few}
 
@@ -52,14 +53,14 @@ module _ {asks : Question → Answer} {n : ℕ} {l₀ : List ℕ} {at k p : ℕ}
   listing-done h = let e : k ≡ n = omega (arith, v .within) in subst (λ j. Put (lines asks j) l₀ at l p) e (v .put)
 
 -- of a graph of the program's size
-pub asked-few : (load : Load) (N : ℕ) (area : List ℕ) (n : ℕ) → number n ≡ asked load N area edge-count → n ≤ load .D + load .E
+pub asked-few : (load : Load) (fixed : List ℕ) (N : ℕ) (area : List ℕ) (n : ℕ) → number n ≡ asked load fixed N area edge-count → n ≤ load .D + load .E
 unfolding asked checked ask
-asked-few load N area n = go (eqb (refusal load N (length area)) 0) (consistent load N area)
+asked-few load fixed N area n = go (eqb (refusal load fixed N (length area)) 0) (checks-out load fixed N area)
   where
     p : List ℕ
     p = decode load N area .ledger .place
 
-    go : (t u : Bool) → number n ≡ cond t (cond u (number (length (edges load (decode load N area .ledger .place)))) (refused 9)) (refused (refusal load N (length area))) → n ≤ load .D + load .E
+    go : (t u : Bool) → number n ≡ cond t (cond u (number (length (edges load (decode load N area .ledger .place)))) (refused 9)) (refused (refusal load fixed N (length area))) → n ≤ load .D + load .E
     go true true e = let q : n ≡ length (edges load (decode load N area .ledger .place)) = cc in omega (arith, edges-few load (decode load N area .ledger .place))
     go true false e = let z : _≡_ {A = ℕ} 0 1 = cc in absurd (omega arith)
     go false u e = let z : _≡_ {A = ℕ} 0 1 = cc in absurd (omega arith)
@@ -71,20 +72,20 @@ module _ {load : Load} {area order degrees : List ℕ} where
     list-some = listable-some (can .told) refl (can .sets)
 
     pub line-told : (k : ℕ) {x : Answer} → ((l : Load) → Listable l N area known order degrees → x ≡ kth (edges l (placeIn l N area)) k) → reply x ≡ reply (areas .asks load area (edge-at k))
-    line-told k f = ap reply (edge-told load N area 0 (can .told .row) refl k _ (f load (listable-known (can .told) refl (can .sets))))
+    line-told k f = ap reply (edge-told load (unmarked load) N area 0 (can .told .row) refl k _ (f load (listable-known (can .told) refl (can .sets))))
 
   module _ (can : CanListAll load area order degrees) where
     pub list-one : {known : ℕ} → known ≡ getD area (N * N) 0 → CanList load area known order degrees
     list-one e = record { told = can .told; sets = e }
 
     pub head-there : N * N < length area
-    head-there = head-inside load N area 0 (can .told .row) refl
+    head-there = head-inside load (unmarked load) N area 0 (can .told .row) refl
 
     pub count-told : {n : ℕ} → ((l : Load) (a o : List ℕ) (registered : ℕ) → Listable l N a registered o degrees → n ≡ length (edges l (placeIn l N a))) → number n ≡ areas .asks load area edge-count
-    count-told f = edges-told load N area 0 (can .told .row) refl _ (f load area order _ (can .told .listable refl))
+    count-told f = edges-told load (unmarked load) N area 0 (can .told .row) refl _ (f load area order _ (can .told .listable refl))
 
     pub all-few : {n : ℕ} → number n ≡ areas .asks load area edge-count → n ≤ 144
-    all-few e = omega (arith, asked-few load N area _ e, can .few)
+    all-few e = omega (arith, asked-few load (unmarked load) N area _ e, can .few)
 
 -- the lines, and then the count
 pub listing-steps : (asks : Question → Answer) (n : ℕ) {l l′ l″ : List ℕ} {at p q : ℕ} → number n ≡ asks edge-count
@@ -98,9 +99,9 @@ unfolding listing
 listing-refused asks row {l} {l′} {at} {q} e w = subst (λ a. Put (lines-of asks a ++ reply a) l at l′ q) e w
 
 -- the check's answer: a row that fits turns the listing back
-module _ {load : Load} {area order degrees : List ℕ} {q : ℕ} (t : RowTold load N area degrees order q) where
+module _ {load : Load} {area order degrees : List ℕ} {q : ℕ} (t : RowTold load (unmarked load) N area degrees order q) where
   pub listing-back : (q ≡ 0 → ⊥) → {l l′ : List ℕ} {at p : ℕ} → Put (reply (refused q)) l at l′ p → Put (listing (areas .asks load area)) l at l′ p
-  listing-back h w = listing-refused (areas .asks load area) q (asked-back load N area q (t .row) h edge-count) w
+  listing-back h w = listing-refused (areas .asks load area) q (asked-back load (unmarked load) N area q (t .row) h edge-count) w
 
   pub list-all : q ≡ 0 → load .D + load .E ≤ 144 → CanListAll load area order degrees
-  list-all e few = record { told = subst (RowTold load N area degrees order) e t; few = few }
+  list-all e few = record { told = subst (RowTold load (unmarked load) N area degrees order) e t; few = few }

@@ -18,7 +18,7 @@ use Rattle.move_area.specs.History.{Holding, call-area, call-step, loading-hold
 use Rattle.moves_replies.specs.Words.{reply, load-reply}
 use Rattle.moves_load_commands.specs.declared.Machine.{Machine}
 use Rattle.moves_load_commands.specs.Machine.{belongs, operand, taken, done, unnamed, Reading, reading, refuse, add-atom, depend, add-host, read}
-use Rattle.moves_commands.specs.Program.{N, ledgers, areas, Turn, lent, listing, load, move, edges, set-of, execute, step, finish, replies, fresh, printed, started, begun, load-of, with-graph, quiet}
+use Rattle.moves_commands.specs.Program.{N, unmarked, ledgers, areas, Turn, lent, listing, load, move, edges, set-of, execute, step, finish, replies, fresh, printed, started, begun, load-of, with-graph, quiet}
 use Rattle.moves_commands.specs.Program as program
 use Rattle.moves_commands.specs.Fits.{taken-same, either}
 
@@ -31,7 +31,7 @@ the-load s starts = lent (s .machine) (s .dependencies) starts (s .hosts)
 -- the area holds a state of the ledger l
 record Kept (load : Load) (area : List ℕ) (l : Ledger) : Type 0 where
   held : State
-  holding : Holding load N area held
+  holding : Holding load (unmarked load) N area held
   follows : held .ledger ≡ l
 
 abbrev In-phase : Machine → Type 0
@@ -119,7 +119,7 @@ module _ {s : Reading} {starts area : List ℕ} {l : Ledger} (k : Linked s start
       unfolding call-area call
       asks-alike =
           let h = k .after go-on moving in
-          fun-ext (λ q. call-step _ N area (h .held) (asks q) (h .holding) .answers ∙ ap (λ (u : Ledger). ask (the-load s starts) (u .place) q) (h .follows))
+          fun-ext (λ q. call-step _ _ N area (h .held) (asks q) (h .holding) .answers ∙ ap (λ (u : Ledger). ask (the-load s starts) (u .place) q) (h .follows))
 
       -- a question leaves everything
       done-linked : Linked (record { machine = done (s .machine); sets = s .sets; sources = s .sources; dependencies = s .dependencies; hosts = s .hosts }) starts area l
@@ -137,15 +137,15 @@ module _ {s : Reading} {starts area : List ℕ} {l : Ledger} (k : Linked s start
       unfolding move call-area call
       move-alike =
           let h = k .after go-on moving in
-          let q = call-step _ N area (h .held) (try-move (s .machine .x) (s .machine .y ∷ [])) (h .holding) in
+          let q = call-step _ _ N area (h .held) (try-move (s .machine .x) (s .machine .y ∷ [])) (h .holding) in
           record {
-            reply = ap reply (q .answers ∙ ap (λ (u : Ledger). call (the-load s starts) N u (try-move (s .machine .x) (s .machine .y ∷ [])) .answer) (h .follows));
+            reply = ap reply (q .answers ∙ ap (λ (u : Ledger). call (the-load s starts) (unmarked (the-load s starts)) N u (try-move (s .machine .x) (s .machine .y ∷ [])) .answer) (h .follows));
             reading = refl;
             starts = refl;
             linked =
                 record {
                   before = λ e. absurd (true≢false (sym moving ∙ e));
-                  after = λ e f. record { held = q .next; holding = q .holds; follows = q .follows ∙ ap (λ (u : Ledger). call (the-load s starts) N u (try-move (s .machine .x) (s .machine .y ∷ [])) .after) (h .follows) };
+                  after = λ e f. record { held = q .next; holding = q .holds; follows = q .follows ∙ ap (λ (u : Ledger). call (the-load s starts) (unmarked (the-load s starts)) N u (try-move (s .machine .x) (s .machine .y ∷ [])) .after) (h .follows) };
                   phase = λ e. refl;
                 };
           }
@@ -156,7 +156,7 @@ module _ {s : Reading} {starts area : List ℕ} {l : Ledger} (k : Linked s start
     load-alike before =
         let st : program.State (List ℕ) = started (state s starts area) in
         let x : List ℕ = take (s .machine .atoms) (s .sets) in
-        let e : loading (load-of st) N x (length area) ≡ loading (load-of st) N x 16384 = ap (λ n. loading (load-of st) N x n) (k .before before) in
+        let e : loading (load-of st) (unmarked (load-of st)) N x (length area) ≡ loading (load-of st) (unmarked (load-of st)) N x 16384 = ap (λ n. loading (load-of st) (unmarked (load-of st)) N x n) (k .before before) in
         record {
           reply = ap load-reply e;
           reading = ap (λ (a : Answer). with-graph st (begun (s .machine) (is-refused a)) area .reading) e;
@@ -164,7 +164,7 @@ module _ {s : Reading} {starts area : List ℕ} {l : Ledger} (k : Linked s start
           linked =
               record {
                 before = λ f. absurd (true≢false f);
-                after = λ f g. record { held = calls.first (load-of st) N x; holding = loading-holds (load-of st) N x area f; follows = refl };
+                after = λ f g. record { held = calls.first (load-of st) N x; holding = loading-holds (load-of st) (unmarked (load-of st)) N x area f; follows = refl };
                 phase = λ f. refl;
               };
         }

@@ -33,12 +33,16 @@ pub record Graphs (G : Type 0) : Type 0 where
   pub move : Load → G → ℕ → List ℕ → Replied G
   pub asks : Load → G → Question → Answer
 
+-- 02: "`moves` sets none": of 48 marks as many as atoms, each of them 0
+abbrev pub unmarked : Load → List ℕ
+unmarked load = take (load .A) (replicate 48 0)
+
 -- kept as the plain ledger; "The program's work area is one array of 16,384 numbers"
 abbrev pub ledgers : Graphs Ledger
 ledgers =
     record {
-      new = λ load sets l. record { answer = loading load N sets 16384; graph = loaded (entry-sets load sets) };
-      move = λ load l a s. record { answer = ledger.move load N l a s .answer; graph = ledger.move load N l a s .after };
+      new = λ load sets l. record { answer = loading load (unmarked load) N sets 16384; graph = loaded (entry-sets load sets) };
+      move = λ load l a s. record { answer = ledger.move load (unmarked load) N l a s .answer; graph = ledger.move load (unmarked load) N l a s .after };
       asks = λ load l q. ask load (l .place) q;
     }
 
@@ -46,9 +50,9 @@ ledgers =
 abbrev pub areas : Graphs (List ℕ)
 areas =
     record {
-      new = λ load sets area. record { answer = calls.new load N sets area .answer; graph = calls.new load N sets area .area };
-      move = λ load area a s. record { answer = calls.try-move load N area a s .answer; graph = calls.try-move load N area a s .area };
-      asks = λ load area q. asked load N area q;
+      new = λ load sets area. record { answer = calls.new load (unmarked load) N sets area .answer; graph = calls.new load (unmarked load) N sets area .area };
+      move = λ load area a s. record { answer = calls.try-move load (unmarked load) N area a s .answer; graph = calls.try-move load (unmarked load) N area a s .area };
+      asks = λ load area q. asked load (unmarked load) N area q;
     }
 
 -- the program's state; `starts` is worked out at the load

@@ -10,7 +10,7 @@ use Rattle.move_rows.specs.Listed.{RowTold}
 use Rattle.moves_replies.specs.Room.{Put}
 use Rattle.moves_load_commands.specs.declared.Machine.{Machine}
 use Rattle.moves_load_commands.specs.Machine.{reading}
-use Rattle.moves_commands.specs.Program.{N, State, Turn}
+use Rattle.moves_commands.specs.Program.{N, unmarked, State, Turn}
 use Rattle.moves_commands.specs.Fits.{Ready}
 use Rattle.moves_commands.specs.Feed.{reserve, Fed}
 
@@ -29,12 +29,12 @@ pub record CanLoad (m : Machine) (sets sources dependencies starts : List ℕ) :
 
 -- no row from 1 to 6 nor 9 fits, and the edges can be listed by `degrees` and `order`; `known` sets are registered
 pub record CanList (load : Load) (area : List ℕ) (known : ℕ) (order degrees : List ℕ) : Type 0 where
-  pub told : RowTold load N area degrees order 0
+  pub told : RowTold load (unmarked load) N area degrees order 0
   pub sets : known ≡ getD area (N * N) 0
 
 -- and there are few of them
 pub record CanListAll (load : Load) (area order degrees : List ℕ) : Type 0 where
-  pub told : RowTold load N area degrees order 0
+  pub told : RowTold load (unmarked load) N area degrees order 0
   pub few : load .D + load .E ≤ 144
 
 -- the state that the machine and the lent lists hold

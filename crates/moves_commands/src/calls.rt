@@ -1,4 +1,5 @@
-// The calls of the move graph on the lists that the program holds. Of starts, dependencies and sets only the part in use is lent.
+// The calls of the move graph on the lists that the program holds. Of starts, dependencies and sets only the part in use is
+// lent, and no atom is fixed.
 ghost use mathlib.Core.Path.{_≡_};
 ghost use mathlib.Core.List.{[], _∷_};
 ghost use Prim.Native.Nat.{_+_, _≤_};
@@ -6,7 +7,7 @@ ghost use lib.ListN.{length, take};
 ghost use Rattle.move_ledger.specs.Ledger.{atom-set};
 ghost use Rattle.reduced_chunk_graph.specs.Answers.{ofLoad, ofMove, ofSet};
 ghost use Rattle.move_rows.specs.Listed.{NodeLists, RowTold};
-ghost use Rattle.moves_commands.specs.Program.{areas, lent};
+ghost use Rattle.moves_commands.specs.Program.{unmarked, areas, lent};
 ghost use Rattle.moves_commands.specs.Steps.{CanLend};
 use moves_load_commands::Machine;
 use reduced_chunk_graph::LoadAnswer;
@@ -29,6 +30,7 @@ pub(crate) fn new(
     let a = m.atoms;
     let d = m.entries;
     let k = a + 1;
+    let marks = [0u32; 48];
     reduced_chunk_graph::new(
         a,
         d,
@@ -37,6 +39,7 @@ pub(crate) fn new(
         &starts[..k],
         &dependencies[..d],
         hosts,
+        &marks[..a],
         &sets[..a],
         area,
     )
@@ -56,6 +59,7 @@ pub(crate) fn try_move(
     let a = m.atoms;
     let d = m.entries;
     let k = a + 1;
+    let marks = [0u32; 48];
     let bits = [m.y as u64];
     reduced_chunk_graph::try_move(
         a,
@@ -65,6 +69,7 @@ pub(crate) fn try_move(
         &starts[..k],
         &dependencies[..d],
         hosts,
+        &marks[..a],
         area,
         m.x,
         &bits,
@@ -84,6 +89,7 @@ pub(crate) fn atom_set(
     let a = m.atoms;
     let d = m.entries;
     let k = a + 1;
+    let marks = [0u32; 48];
     reduced_chunk_graph::atom_set(
         a,
         d,
@@ -92,6 +98,7 @@ pub(crate) fn atom_set(
         &starts[..k],
         &dependencies[..d],
         hosts,
+        &marks[..a],
         area,
         m.y,
     )
@@ -109,11 +116,12 @@ pub(crate) fn listed_row(
 ) -> u32
     requires { ⌜ CanLend m (now dependencies) (now starts) ⌝ }
     requires { ⌜ NodeLists (now degrees) (now order) ⌝ }
-    ensures { λ r. ⌜ RowTold (lent m (now (dependencies .entry)) (now (starts .entry)) (now (hosts .entry))) 96 (now (area .entry)) (now (degrees .exit)) (now (order .exit)) r ⌝ }
+    ensures { λ r. ⌜ RowTold (lent m (now (dependencies .entry)) (now (starts .entry)) (now (hosts .entry))) (unmarked (lent m (now (dependencies .entry)) (now (starts .entry)) (now (hosts .entry)))) 96 (now (area .entry)) (now (degrees .exit)) (now (order .exit)) r ⌝ }
 {
     let a = m.atoms;
     let d = m.entries;
     let k = a + 1;
+    let marks = [0u32; 48];
     move_rows::listed::listed_row(
         a,
         d,
@@ -122,6 +130,7 @@ pub(crate) fn listed_row(
         &starts[..k],
         &dependencies[..d],
         hosts,
+        &marks[..a],
         area,
         degrees,
         order,

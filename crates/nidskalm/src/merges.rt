@@ -28,7 +28,7 @@ fn sizes(c: u64, m: u64, l: u64, e: u64) -> Sizes
 
 // Loads each initial chunk's modules, and pairs of a set and its chunk; where mode isn't 0, merged chunks stand for their target.
 #[no_mangle]
-pub extern "C" fn chunk_optimization_graph_new(
+pub extern "C" fn nidskalm_chunk_optimization_graph_new(
     c: u64,
     m: u64,
     l: u64,
@@ -60,7 +60,7 @@ pub extern "C" fn chunk_optimization_graph_new(
 
 // Lists a module with the chunk of its set, or with a new chunk that needs creation.
 #[no_mangle]
-pub extern "C" fn chunk_optimization_graph_init_module_assignment(
+pub extern "C" fn nidskalm_chunk_optimization_graph_init_module_assignment(
     c: u64,
     m: u64,
     l: u64,
@@ -84,7 +84,7 @@ pub extern "C" fn chunk_optimization_graph_init_module_assignment(
 
 // Lists a module with a chunk.
 #[no_mangle]
-pub extern "C" fn chunk_optimization_graph_add_module_to_chunk(
+pub extern "C" fn nidskalm_chunk_optimization_graph_add_module_to_chunk(
     c: u64,
     m: u64,
     l: u64,
@@ -108,7 +108,7 @@ pub extern "C" fn chunk_optimization_graph_add_module_to_chunk(
 
 // Records the chunk of a key, in place of any that it has.
 #[no_mangle]
-pub extern "C" fn chunk_optimization_graph_register_chunk_graph_index(
+pub extern "C" fn nidskalm_chunk_optimization_graph_register_chunk_graph_index(
     c: u64,
     m: u64,
     l: u64,
@@ -130,7 +130,7 @@ pub extern "C" fn chunk_optimization_graph_register_chunk_graph_index(
 
 // The chunk registered for a key, or 4,294,967,295.
 #[no_mangle]
-pub extern "C" fn chunk_optimization_graph_to_temp_idx(
+pub extern "C" fn nidskalm_chunk_optimization_graph_to_temp_idx(
     c: u64,
     m: u64,
     l: u64,
@@ -145,7 +145,7 @@ pub extern "C" fn chunk_optimization_graph_to_temp_idx(
 
 // Adds to each chunk's dependencies those that the module dependencies give.
 #[no_mangle]
-pub extern "C" fn chunk_optimization_graph_calc_chunk_dependencies(
+pub extern "C" fn nidskalm_chunk_optimization_graph_calc_chunk_dependencies(
     c: u64,
     m: u64,
     l: u64,
@@ -162,7 +162,7 @@ pub extern "C" fn chunk_optimization_graph_calc_chunk_dependencies(
 
 // 1 where source depends directly on target, or the two fused would lie on a cycle with another chunk, else 0.
 #[no_mangle]
-pub extern "C" fn chunk_optimization_graph_would_create_circular_dependency(
+pub extern "C" fn nidskalm_chunk_optimization_graph_would_create_circular_dependency(
     c: u64,
     m: u64,
     l: u64,
@@ -183,7 +183,7 @@ pub extern "C" fn chunk_optimization_graph_would_create_circular_dependency(
 
 // 1 where a chunk reaches another in one step or more, else 0.
 #[no_mangle]
-pub extern "C" fn chunk_optimization_graph_is_reachable(
+pub extern "C" fn nidskalm_chunk_optimization_graph_is_reachable(
     c: u64,
     m: u64,
     l: u64,
@@ -199,7 +199,7 @@ pub extern "C" fn chunk_optimization_graph_is_reachable(
 
 // The target takes over the source's dependencies and side effects.
 #[no_mangle]
-pub extern "C" fn chunk_optimization_graph_merge_chunk_dependencies(
+pub extern "C" fn nidskalm_chunk_optimization_graph_merge_chunk_dependencies(
     c: u64,
     m: u64,
     l: u64,
@@ -221,7 +221,7 @@ pub extern "C" fn chunk_optimization_graph_merge_chunk_dependencies(
 
 // Decides about each chunk that needs creation, and writes its kind (0 merged, 1 created) and its number; the value is how many there are.
 #[no_mangle]
-pub extern "C" fn chunk_optimization_graph_pass(
+pub extern "C" fn nidskalm_chunk_optimization_graph_pass(
     c: u64,
     m: u64,
     l: u64,

@@ -15,7 +15,7 @@ use nidskalm_replies::of_set;
 
 // Loads a graph: 0 where it is acyclic, 1 where it is cyclic.
 #[no_mangle]
-pub extern "C" fn reduced_chunk_graph_new(
+pub extern "C" fn nidskalm_reduced_chunk_graph_new(
     a: u64,
     d: u64,
     e: u64,
@@ -23,11 +23,12 @@ pub extern "C" fn reduced_chunk_graph_new(
     starts: &[u32],
     dependencies: &[u32],
     hosts: &[u32],
+    fixed: &[u32],
     sets: &[u64],
     area: &mut [u32],
 ) -> Reply
-    ensures { λ r. ⌜ r ≡ move-reply (calls.new (lent a d e (now (starts .entry)) (now (dependencies .entry)) (now (hosts .entry))) n (now (sets .entry)) (now (area .entry)) .answer) ⌝ }
-    ensures { λ _. ⌜ now (area .exit) ≡ calls.new (lent a d e (now (starts .entry)) (now (dependencies .entry)) (now (hosts .entry))) n (now (sets .entry)) (now (area .entry)) .area ⌝ }
+    ensures { λ r. ⌜ r ≡ move-reply (calls.new (lent a d e (now (starts .entry)) (now (dependencies .entry)) (now (hosts .entry))) (now (fixed .entry)) n (now (sets .entry)) (now (area .entry)) .answer) ⌝ }
+    ensures { λ _. ⌜ now (area .exit) ≡ calls.new (lent a d e (now (starts .entry)) (now (dependencies .entry)) (now (hosts .entry))) (now (fixed .entry)) n (now (sets .entry)) (now (area .entry)) .area ⌝ }
 {
     of_load(reduced_chunk_graph::new(
         a as usize,
@@ -37,6 +38,7 @@ pub extern "C" fn reduced_chunk_graph_new(
         starts,
         dependencies,
         hosts,
+        fixed,
         sets,
         area,
     ))
@@ -44,7 +46,7 @@ pub extern "C" fn reduced_chunk_graph_new(
 
 // Moves an atom to a set if no cycle arises: 1 accepted, 0 rejected.
 #[no_mangle]
-pub extern "C" fn reduced_chunk_graph_try_move(
+pub extern "C" fn nidskalm_reduced_chunk_graph_try_move(
     a: u64,
     d: u64,
     e: u64,
@@ -52,12 +54,13 @@ pub extern "C" fn reduced_chunk_graph_try_move(
     starts: &[u32],
     dependencies: &[u32],
     hosts: &[u32],
+    fixed: &[u32],
     area: &mut [u32],
     atom: u32,
     bits: &[u64],
 ) -> Reply
-    ensures { λ r. ⌜ r ≡ move-reply (calls.try-move (lent a d e (now (starts .entry)) (now (dependencies .entry)) (now (hosts .entry))) n (now (area .entry)) atom (now (bits .entry)) .answer) ⌝ }
-    ensures { λ _. ⌜ now (area .exit) ≡ calls.try-move (lent a d e (now (starts .entry)) (now (dependencies .entry)) (now (hosts .entry))) n (now (area .entry)) atom (now (bits .entry)) .area ⌝ }
+    ensures { λ r. ⌜ r ≡ move-reply (calls.try-move (lent a d e (now (starts .entry)) (now (dependencies .entry)) (now (hosts .entry))) (now (fixed .entry)) n (now (area .entry)) atom (now (bits .entry)) .answer) ⌝ }
+    ensures { λ _. ⌜ now (area .exit) ≡ calls.try-move (lent a d e (now (starts .entry)) (now (dependencies .entry)) (now (hosts .entry))) (now (fixed .entry)) n (now (area .entry)) atom (now (bits .entry)) .area ⌝ }
 {
     of_move(reduced_chunk_graph::try_move(
         a as usize,
@@ -67,6 +70,7 @@ pub extern "C" fn reduced_chunk_graph_try_move(
         starts,
         dependencies,
         hosts,
+        fixed,
         area,
         atom,
         bits,
@@ -75,7 +79,7 @@ pub extern "C" fn reduced_chunk_graph_try_move(
 
 // An atom's set.
 #[no_mangle]
-pub extern "C" fn reduced_chunk_graph_atom_set(
+pub extern "C" fn nidskalm_reduced_chunk_graph_atom_set(
     a: u64,
     d: u64,
     e: u64,
@@ -83,10 +87,11 @@ pub extern "C" fn reduced_chunk_graph_atom_set(
     starts: &[u32],
     dependencies: &[u32],
     hosts: &[u32],
+    fixed: &[u32],
     area: &[u32],
     atom: u32,
 ) -> SetReply
-    ensures { λ r. ⌜ r ≡ set-reply (calls.asked (lent a d e (now (starts .entry)) (now (dependencies .entry)) (now (hosts .entry))) n (now (area .entry)) (ledger.atom-set atom)) ⌝ }
+    ensures { λ r. ⌜ r ≡ set-reply (calls.asked (lent a d e (now (starts .entry)) (now (dependencies .entry)) (now (hosts .entry))) (now (fixed .entry)) n (now (area .entry)) (ledger.atom-set atom)) ⌝ }
 {
     of_set(reduced_chunk_graph::atom_set(
         a as usize,
@@ -96,6 +101,7 @@ pub extern "C" fn reduced_chunk_graph_atom_set(
         starts,
         dependencies,
         hosts,
+        fixed,
         area,
         atom,
     ))
@@ -103,7 +109,7 @@ pub extern "C" fn reduced_chunk_graph_atom_set(
 
 // A set's atom count.
 #[no_mangle]
-pub extern "C" fn reduced_chunk_graph_atom_count(
+pub extern "C" fn nidskalm_reduced_chunk_graph_atom_count(
     a: u64,
     d: u64,
     e: u64,
@@ -111,10 +117,11 @@ pub extern "C" fn reduced_chunk_graph_atom_count(
     starts: &[u32],
     dependencies: &[u32],
     hosts: &[u32],
+    fixed: &[u32],
     area: &[u32],
     bits: &[u64],
 ) -> Reply
-    ensures { λ r. ⌜ r ≡ move-reply (calls.asked (lent a d e (now (starts .entry)) (now (dependencies .entry)) (now (hosts .entry))) n (now (area .entry)) (ledger.atom-count (now (bits .entry)))) ⌝ }
+    ensures { λ r. ⌜ r ≡ move-reply (calls.asked (lent a d e (now (starts .entry)) (now (dependencies .entry)) (now (hosts .entry))) (now (fixed .entry)) n (now (area .entry)) (ledger.atom-count (now (bits .entry)))) ⌝ }
 {
     of_number(reduced_chunk_graph::atom_count(
         a as usize,
@@ -124,6 +131,7 @@ pub extern "C" fn reduced_chunk_graph_atom_count(
         starts,
         dependencies,
         hosts,
+        fixed,
         area,
         bits,
     ))
@@ -131,7 +139,7 @@ pub extern "C" fn reduced_chunk_graph_atom_count(
 
 // The multiplicity of the edge from one set to another.
 #[no_mangle]
-pub extern "C" fn reduced_chunk_graph_multiplicity(
+pub extern "C" fn nidskalm_reduced_chunk_graph_multiplicity(
     a: u64,
     d: u64,
     e: u64,
@@ -139,11 +147,12 @@ pub extern "C" fn reduced_chunk_graph_multiplicity(
     starts: &[u32],
     dependencies: &[u32],
     hosts: &[u32],
+    fixed: &[u32],
     area: &[u32],
     from: &[u64],
     to: &[u64],
 ) -> Reply
-    ensures { λ r. ⌜ r ≡ move-reply (calls.asked (lent a d e (now (starts .entry)) (now (dependencies .entry)) (now (hosts .entry))) n (now (area .entry)) (ledger.multiplicity (now (from .entry)) (now (to .entry)))) ⌝ }
+    ensures { λ r. ⌜ r ≡ move-reply (calls.asked (lent a d e (now (starts .entry)) (now (dependencies .entry)) (now (hosts .entry))) (now (fixed .entry)) n (now (area .entry)) (ledger.multiplicity (now (from .entry)) (now (to .entry)))) ⌝ }
 {
     of_number(reduced_chunk_graph::multiplicity(
         a as usize,
@@ -153,6 +162,7 @@ pub extern "C" fn reduced_chunk_graph_multiplicity(
         starts,
         dependencies,
         hosts,
+        fixed,
         area,
         from,
         to,
@@ -161,7 +171,7 @@ pub extern "C" fn reduced_chunk_graph_multiplicity(
 
 // The number of distinct edges.
 #[no_mangle]
-pub extern "C" fn reduced_chunk_graph_edge_count(
+pub extern "C" fn nidskalm_reduced_chunk_graph_edge_count(
     a: u64,
     d: u64,
     e: u64,
@@ -169,9 +179,10 @@ pub extern "C" fn reduced_chunk_graph_edge_count(
     starts: &[u32],
     dependencies: &[u32],
     hosts: &[u32],
+    fixed: &[u32],
     area: &[u32],
 ) -> Reply
-    ensures { λ r. ⌜ r ≡ move-reply (calls.asked (lent a d e (now (starts .entry)) (now (dependencies .entry)) (now (hosts .entry))) n (now (area .entry)) ledger.edge-count) ⌝ }
+    ensures { λ r. ⌜ r ≡ move-reply (calls.asked (lent a d e (now (starts .entry)) (now (dependencies .entry)) (now (hosts .entry))) (now (fixed .entry)) n (now (area .entry)) ledger.edge-count) ⌝ }
 {
     of_number(reduced_chunk_graph::edge_count(
         a as usize,
@@ -181,13 +192,14 @@ pub extern "C" fn reduced_chunk_graph_edge_count(
         starts,
         dependencies,
         hosts,
+        fixed,
         area,
     ))
 }
 
 // The k-th edge, from 0, by rising source set, then target set.
 #[no_mangle]
-pub extern "C" fn reduced_chunk_graph_edge_at(
+pub extern "C" fn nidskalm_reduced_chunk_graph_edge_at(
     a: u64,
     d: u64,
     e: u64,
@@ -195,10 +207,11 @@ pub extern "C" fn reduced_chunk_graph_edge_at(
     starts: &[u32],
     dependencies: &[u32],
     hosts: &[u32],
+    fixed: &[u32],
     area: &[u32],
     k: u64,
 ) -> EdgeReply
-    ensures { λ r. ⌜ r ≡ edge-reply (calls.asked (lent a d e (now (starts .entry)) (now (dependencies .entry)) (now (hosts .entry))) n (now (area .entry)) (ledger.edge-at k)) ⌝ }
+    ensures { λ r. ⌜ r ≡ edge-reply (calls.asked (lent a d e (now (starts .entry)) (now (dependencies .entry)) (now (hosts .entry))) (now (fixed .entry)) n (now (area .entry)) (ledger.edge-at k)) ⌝ }
 {
     of_edge(reduced_chunk_graph::edge_at(
         a as usize,
@@ -208,6 +221,7 @@ pub extern "C" fn reduced_chunk_graph_edge_at(
         starts,
         dependencies,
         hosts,
+        fixed,
         area,
         k,
     ))

@@ -12,7 +12,7 @@ use nidskalm_replies::of_target;
 
 // The chunk that a candidate may be merged into, or 4,294,967,295.
 #[no_mangle]
-pub extern "C" fn chunk_optimization_graph_merge_target(
+pub extern "C" fn nidskalm_chunk_optimization_graph_merge_target(
     k: u64,
     m: u64,
     kinds: &[u32],
@@ -59,7 +59,7 @@ pub extern "C" fn chunk_optimization_graph_merge_target(
 
 // The same by a bank's own classes of the entry kinds.
 #[no_mangle]
-pub extern "C" fn chunk_optimization_graph_merge_target_by_classes(
+pub extern "C" fn nidskalm_chunk_optimization_graph_merge_target_by_classes(
     k: u64,
     m: u64,
     kinds: &[u32],

@@ -15,7 +15,7 @@ use Rattle.move_ledger.specs.Graph.{Load, at, members, mult, edges}
 use Rattle.move_ledger.specs.Answer.{Answer, refused}
 use Rattle.move_ledger.specs.Answer as answer
 use Rattle.move_ledger.specs.Ledger.{Question, atom-set, atom-count, multiplicity, edge-count, edge-at, kth, ask}
-use Rattle.move_ledger.specs.LoadLaws.{Loadable, first-row-none}
+use Rattle.move_ledger.specs.LoadLaws.{Loadable, refusal-none}
 use Rattle.move_ledger.specs.NodeLaws.{placed-at}
 use Rattle.move_area.specs.Area.{setsIn, decode}
 use Rattle.move_area.specs.Bodies.{laneAt, atomAt}
@@ -34,36 +34,36 @@ abbrev pub setOf : List ℕ → ℕ → ℕ → ℕ
 setOf area n i = lanes area (n * n + 24 + getD area (n * n + 24 + 24 * n + i) 0) n
 
 -- q is the first of the rows 1 to 6 and 9 that fits
-module _ (load : Load) (N : ℕ) (area : List ℕ) (q : ℕ) (first : q ≡ later load N area) where
+module _ (load : Load) (fixed : List ℕ) (N : ℕ) (area : List ℕ) (q : ℕ) (first : q ≡ later load fixed N area) where
   -- it turns a question back
-  pub asked-back : (q ≡ 0 → ⊥) → (x : Question) → refused q ≡ asked load N area x
+  pub asked-back : (q ≡ 0 → ⊥) → (x : Question) → refused q ≡ asked load fixed N area x
   unfolding asked
-  asked-back h x = ap refused first ∙ sym (turned-back load N area (λ z. h (first ∙ z)) _)
+  asked-back h x = ap refused first ∙ sym (turned-back load fixed N area (λ z. h (first ∙ z)) _)
 
   -- or none fits
   module _ (zero : q ≡ 0) where
-    none : later load N area ≡ 0
+    none : later load fixed N area ≡ 0
     none = sym first ∙ zero
 
-    pub asked-on : (x : Question) → ask load (placeIn load N area) x ≡ asked load N area x
+    pub asked-on : (x : Question) → ask load (placeIn load N area) x ≡ asked load fixed N area x
     unfolding asked
-    asked-on x = sym (goes-on load N area none _)
+    asked-on x = sym (goes-on load fixed N area none _)
 
     pub loads : Loadable load N true (length area)
-    loads = first-row-none load N true (length area) (later-legal load N area none)
+    loads = refusal-none load fixed N (length area) (later-legal load fixed N area none)
 
     pub checks : Checked load N area (getD area (N * N) 0)
     checks =
         let room : atomAt N + load .A ≤ length area = omega (arith, loads .sizes .area) in
         record {
           loadable = loads;
-          ranged = consistent-ranged load N area (loads .order) (loads .sizes .sets) room (later-consistent load N area none);
-          worked = consistent-worked load N area (loads .order) (loads .sizes .sets) room (later-consistent load N area none);
+          ranged = consistent-ranged load N area (loads .order) (loads .sizes .sets) room (later-consistent load fixed N area none);
+          worked = consistent-worked load N area (loads .order) (loads .sizes .sets) room (later-consistent load fixed N area none);
           sets = refl;
         }
 
     -- row 10
-    pub set-ten : (i : ℕ) → load .A ≤ i → refused 10 ≡ asked load N area (atom-set i)
+    pub set-ten : (i : ℕ) → load .A ≤ i → refused 10 ≡ asked load fixed N area (atom-set i)
     unfolding ask
     set-ten i h = sym (ap (λ t. cond t (refused 10) (answer.set (words 4 (at (placeIn load N area) i)))) (le-leb (load .A) i h)) ∙ asked-on (atom-set i)
 
@@ -81,7 +81,7 @@ module _ (load : Load) (N : ℕ) (area : List ℕ) (q : ℕ) (first : q ≡ late
           placed-at (nodesIn load N area) (setsIn N area) i (omega (arith, part-long (atomAt N) (load .A) area))
           ∙ ap (at (setsIn N area)) (part-at (atomAt N) (load .A) area i b) ∙ sets-at N area _ node-below ∙ ap (λ k. lanes area k N) e
 
-      pub set-told : (s : EntrySet) → Holds (setOf area N i) s → answer.set (numbers s) ≡ asked load N area (atom-set i)
+      pub set-told : (s : EntrySet) → Holds (setOf area N i) s → answer.set (numbers s) ≡ asked load fixed N area (atom-set i)
       unfolding ask
       set-told s h =
           ap answer.set (holds-numbers h ∙ sym (ap (words 4) set-is))
@@ -101,17 +101,17 @@ module _ (load : Load) (N : ℕ) (area : List ℕ) (q : ℕ) (first : q ≡ late
       one : Bool → Answer
       one t = cond t (answer.number (members load (placeIn load N area) (value s))) (refused 11)
 
-      one-told : (t u : Bool) → t ≡ legal (load .E) s → t ≡ u → one u ≡ asked load N area (atom-count s)
+      one-told : (t u : Bool) → t ≡ legal (load .E) s → t ≡ u → one u ≡ asked load fixed N area (atom-count s)
       unfolding ask one
       one-told t u e f = ap one (sym f ∙ e) ∙ asked-on (atom-count s)
 
-      pub count-eleven : (t : Bool) → t ≡ legal (load .E) s → not t ≡ true → refused 11 ≡ asked load N area (atom-count s)
+      pub count-eleven : (t : Bool) → t ≡ legal (load .E) s → not t ≡ true → refused 11 ≡ asked load fixed N area (atom-count s)
       unfolding one
       count-eleven t e h = one-told t false e (not-true t h)
 
       pub count-told : (t : Bool) → t ≡ legal (load .E) s → not t ≡ false → {set : EntrySet} → Holds (value s) set → {known count k : ℕ} → known ≡ getD area (N * N) 0
           → ((load' : Load) → Checked load' N area known → count ≡ members load' (placeIn load' N area) (number set)) → k ≡ count
-          → answer.number k ≡ asked load N area (atom-count s)
+          → answer.number k ≡ asked load fixed N area (atom-count s)
       unfolding one
       count-told t e h holds r f z = ap answer.number (z ∙ f load (checks-known r) ∙ ap (members load (placeIn load N area)) (holds .value)) ∙ one-told t true e (not-false t h)
 
@@ -119,32 +119,32 @@ module _ (load : Load) (N : ℕ) (area : List ℕ) (q : ℕ) (first : q ≡ late
       both : Bool → Bool → Answer
       both x y = cond (x && y) (answer.number (mult load (placeIn load N area) (value s) (value t))) (refused 11)
 
-      both-told : (x y : Bool) → x ≡ legal (load .E) s → y ≡ legal (load .E) t → both x y ≡ asked load N area (multiplicity s t)
+      both-told : (x y : Bool) → x ≡ legal (load .E) s → y ≡ legal (load .E) t → both x y ≡ asked load fixed N area (multiplicity s t)
       unfolding ask both
       both-told x y e f = ap (λ u. both u y) e ∙ ap (both (legal (load .E) s)) f ∙ asked-on (multiplicity s t)
 
-      pub from-eleven : (x : Bool) → x ≡ legal (load .E) s → not x ≡ true → refused 11 ≡ asked load N area (multiplicity s t)
+      pub from-eleven : (x : Bool) → x ≡ legal (load .E) s → not x ≡ true → refused 11 ≡ asked load fixed N area (multiplicity s t)
       unfolding both
       from-eleven x e h = both-told false (legal (load .E) t) (sym (not-true x h) ∙ e) refl
 
       module _ (x y : Bool) (e : x ≡ legal (load .E) s) (f : y ≡ legal (load .E) t) (h : not x ≡ false) where
-        pub to-eleven : not y ≡ true → refused 11 ≡ asked load N area (multiplicity s t)
+        pub to-eleven : not y ≡ true → refused 11 ≡ asked load fixed N area (multiplicity s t)
         unfolding both
         to-eleven g = both-told true false (sym (not-false x h) ∙ e) (sym (not-true y g) ∙ f)
 
         pub multiplicity-told : not y ≡ false → {from to : EntrySet} → Holds (value s) from → Holds (value t) to → {known count k : ℕ} → known ≡ getD area (N * N) 0
             → ((load' : Load) → Checked load' N area known → count ≡ mult load' (placeIn load' N area) (number from) (number to)) → k ≡ count
-            → answer.number k ≡ asked load N area (multiplicity s t)
+            → answer.number k ≡ asked load fixed N area (multiplicity s t)
         unfolding both
         multiplicity-told g a b r m z =
             ap answer.number (z ∙ m load (checks-known r) ∙ ap₂ (mult load (placeIn load N area)) (a .value) (b .value))
             ∙ both-told true true (sym (not-false x h) ∙ e) (sym (not-false y g) ∙ f)
 
     -- questions that no row of their own refuses
-    pub edges-told : (k : ℕ) → k ≡ length (edges load (placeIn load N area)) → answer.number k ≡ asked load N area edge-count
+    pub edges-told : (k : ℕ) → k ≡ length (edges load (placeIn load N area)) → answer.number k ≡ asked load fixed N area edge-count
     unfolding ask
     edges-told k e = ap answer.number e ∙ asked-on edge-count
 
-    pub edge-told : (k : ℕ) (x : Answer) → x ≡ kth (edges load (placeIn load N area)) k → x ≡ asked load N area (edge-at k)
+    pub edge-told : (k : ℕ) (x : Answer) → x ≡ kth (edges load (placeIn load N area)) k → x ≡ asked load fixed N area (edge-at k)
     unfolding ask
     edge-told k x e = e ∙ asked-on (edge-at k)

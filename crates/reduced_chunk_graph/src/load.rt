@@ -14,11 +14,12 @@ pub fn new(
     starts: &[u32],
     dependencies: &[u32],
     hosts: &[u32],
+    fixed: &[u32],
     sets: &[u64],
     area: &mut [u32],
 ) -> LoadAnswer
-    ensures { λ r. ⌜ ofLoad r ≡ calls.new (lent a d e (now (starts .entry)) (now (dependencies .entry)) (now (hosts .entry))) n (now (sets .entry)) (now (area .entry)) .answer ⌝ }
-    ensures { λ _. ⌜ now (area .exit) ≡ calls.new (lent a d e (now (starts .entry)) (now (dependencies .entry)) (now (hosts .entry))) n (now (sets .entry)) (now (area .entry)) .area ⌝ }
+    ensures { λ r. ⌜ ofLoad r ≡ calls.new (lent a d e (now (starts .entry)) (now (dependencies .entry)) (now (hosts .entry))) (now (fixed .entry)) n (now (sets .entry)) (now (area .entry)) .answer ⌝ }
+    ensures { λ _. ⌜ now (area .exit) ≡ calls.new (lent a d e (now (starts .entry)) (now (dependencies .entry)) (now (hosts .entry))) (now (fixed .entry)) n (now (sets .entry)) (now (area .entry)) .area ⌝ }
 {
     let q = move_load_rows::loading_refusal(
         a,
@@ -28,6 +29,7 @@ pub fn new(
         starts,
         dependencies,
         hosts,
+        fixed,
         sets,
         area.len(),
     );
@@ -35,6 +37,7 @@ pub fn new(
         return LoadAnswer::Refused(q);
     }
     let cyclic = move_loading::load(a, d, e, n, starts, dependencies, hosts, sets, area);
+    move_fixed::keep(area, a, n, fixed);
     if cyclic {
         return LoadAnswer::Cyclic;
     }

@@ -6,7 +6,7 @@ ghost use Rattle.move_area.specs.Calls as calls;
 ghost use Rattle.reduced_chunk_graph.specs.Answers.{ofMove};
 ghost use Rattle.reduced_chunk_graph.specs.Moves.{CanGoOn, GoesOn};
 
-// The rows 10 to 12 and the move itself, on a consistent area.
+// The rows 10, 24, 11 and 12 and the move itself, on a consistent area.
 fn go_on(
     a: usize,
     d: usize,
@@ -15,15 +15,19 @@ fn go_on(
     starts: &[u32],
     dependencies: &[u32],
     hosts: &[u32],
+    fixed: &[u32],
     area: &mut [u32],
     atom: usize,
     bits: &[u64],
 ) -> MoveAnswer
-    requires { ⌜ CanGoOn (lent a d e (now starts) (now dependencies) (now hosts)) n (now area) ⌝ }
-    ensures { λ r. ⌜ GoesOn (lent a d e (now (starts .entry)) (now (dependencies .entry)) (now (hosts .entry))) n (now (area .entry)) atom (now (bits .entry)) (ofMove r) (now (area .exit)) ⌝ }
+    requires { ⌜ CanGoOn (lent a d e (now starts) (now dependencies) (now hosts)) (now fixed) n (now area) ⌝ }
+    ensures { λ r. ⌜ GoesOn (lent a d e (now (starts .entry)) (now (dependencies .entry)) (now (hosts .entry))) (now (fixed .entry)) n (now (area .entry)) atom (now (bits .entry)) (ofMove r) (now (area .exit)) ⌝ }
 {
     if a <= atom {
         return MoveAnswer::Refused(10);
+    }
+    if fixed[atom] != 0 {
+        return MoveAnswer::Refused(24);
     }
     if !entry_set::is_legal(bits, e) {
         return MoveAnswer::Refused(11);
@@ -50,14 +54,15 @@ pub fn try_move(
     starts: &[u32],
     dependencies: &[u32],
     hosts: &[u32],
+    fixed: &[u32],
     area: &mut [u32],
     atom: u32,
     bits: &[u64],
 ) -> MoveAnswer
-    ensures { λ r. ⌜ ofMove r ≡ calls.try-move (lent a d e (now (starts .entry)) (now (dependencies .entry)) (now (hosts .entry))) n (now (area .entry)) atom (now (bits .entry)) .answer ⌝ }
-    ensures { λ _. ⌜ now (area .exit) ≡ calls.try-move (lent a d e (now (starts .entry)) (now (dependencies .entry)) (now (hosts .entry))) n (now (area .entry)) atom (now (bits .entry)) .area ⌝ }
+    ensures { λ r. ⌜ ofMove r ≡ calls.try-move (lent a d e (now (starts .entry)) (now (dependencies .entry)) (now (hosts .entry))) (now (fixed .entry)) n (now (area .entry)) atom (now (bits .entry)) .answer ⌝ }
+    ensures { λ _. ⌜ now (area .exit) ≡ calls.try-move (lent a d e (now (starts .entry)) (now (dependencies .entry)) (now (hosts .entry))) (now (fixed .entry)) n (now (area .entry)) atom (now (bits .entry)) .area ⌝ }
 {
-    let q = move_rows::check::later_row(a, d, e, n, starts, dependencies, hosts, area);
+    let q = move_rows::check::later_row(a, d, e, n, starts, dependencies, hosts, fixed, area);
     if q != 0 {
         return MoveAnswer::Refused(q);
     }
@@ -69,6 +74,7 @@ pub fn try_move(
         starts,
         dependencies,
         hosts,
+        fixed,
         area,
         atom as usize,
         bits,

@@ -10,7 +10,6 @@ use move_rows::listed::listed_row;
 use move_rows::registered;
 ghost use mathlib.Core.Path.{_≡_};
 ghost use Prim.Native.Nat.{_*_, _<_};
-ghost use lib.ListN.{length, getD};
 ghost use Rattle.entry_set.specs.Sets.{Holds};
 ghost use Rattle.move_ledger.specs.Graph.{lent};
 ghost use Rattle.move_ledger.specs.Ledger as ledger;
@@ -64,12 +63,13 @@ pub fn atom_set(
     starts: &[u32],
     dependencies: &[u32],
     hosts: &[u32],
+    fixed: &[u32],
     area: &[u32],
     atom: u32,
 ) -> SetAnswer
-    ensures { λ r. ⌜ ofSet r ≡ asked (lent a d e (now (starts .entry)) (now (dependencies .entry)) (now (hosts .entry))) n (now (area .entry)) (ledger.atom-set atom) ⌝ }
+    ensures { λ r. ⌜ ofSet r ≡ asked (lent a d e (now (starts .entry)) (now (dependencies .entry)) (now (hosts .entry))) (now (fixed .entry)) n (now (area .entry)) (ledger.atom-set atom) ⌝ }
 {
-    let q = later_row(a, d, e, n, starts, dependencies, hosts, area);
+    let q = later_row(a, d, e, n, starts, dependencies, hosts, fixed, area);
     if q != 0 {
         return SetAnswer::Refused(q);
     }
@@ -90,12 +90,13 @@ pub fn atom_count(
     starts: &[u32],
     dependencies: &[u32],
     hosts: &[u32],
+    fixed: &[u32],
     area: &[u32],
     bits: &[u64],
 ) -> NumberAnswer
-    ensures { λ r. ⌜ ofNumber r ≡ asked (lent a d e (now (starts .entry)) (now (dependencies .entry)) (now (hosts .entry))) n (now (area .entry)) (ledger.atom-count (now (bits .entry))) ⌝ }
+    ensures { λ r. ⌜ ofNumber r ≡ asked (lent a d e (now (starts .entry)) (now (dependencies .entry)) (now (hosts .entry))) (now (fixed .entry)) n (now (area .entry)) (ledger.atom-count (now (bits .entry))) ⌝ }
 {
-    let q = later_row(a, d, e, n, starts, dependencies, hosts, area);
+    let q = later_row(a, d, e, n, starts, dependencies, hosts, fixed, area);
     if q != 0 {
         return NumberAnswer::Refused(q);
     }
@@ -117,13 +118,14 @@ pub fn multiplicity(
     starts: &[u32],
     dependencies: &[u32],
     hosts: &[u32],
+    fixed: &[u32],
     area: &[u32],
     from: &[u64],
     to: &[u64],
 ) -> NumberAnswer
-    ensures { λ r. ⌜ ofNumber r ≡ asked (lent a d e (now (starts .entry)) (now (dependencies .entry)) (now (hosts .entry))) n (now (area .entry)) (ledger.multiplicity (now (from .entry)) (now (to .entry))) ⌝ }
+    ensures { λ r. ⌜ ofNumber r ≡ asked (lent a d e (now (starts .entry)) (now (dependencies .entry)) (now (hosts .entry))) (now (fixed .entry)) n (now (area .entry)) (ledger.multiplicity (now (from .entry)) (now (to .entry))) ⌝ }
 {
-    let q = later_row(a, d, e, n, starts, dependencies, hosts, area);
+    let q = later_row(a, d, e, n, starts, dependencies, hosts, fixed, area);
     if q != 0 {
         return NumberAnswer::Refused(q);
     }
@@ -149,9 +151,10 @@ pub fn edge_count(
     starts: &[u32],
     dependencies: &[u32],
     hosts: &[u32],
+    fixed: &[u32],
     area: &[u32],
 ) -> NumberAnswer
-    ensures { λ r. ⌜ ofNumber r ≡ asked (lent a d e (now (starts .entry)) (now (dependencies .entry)) (now (hosts .entry))) n (now (area .entry)) ledger.edge-count ⌝ }
+    ensures { λ r. ⌜ ofNumber r ≡ asked (lent a d e (now (starts .entry)) (now (dependencies .entry)) (now (hosts .entry))) (now (fixed .entry)) n (now (area .entry)) ledger.edge-count ⌝ }
 {
     let mut degrees = [0u32; 1024];
     let mut order = [0u32; 1024];
@@ -163,6 +166,7 @@ pub fn edge_count(
         starts,
         dependencies,
         hosts,
+        fixed,
         area,
         &mut degrees,
         &mut order,
@@ -183,10 +187,11 @@ pub fn edge_at(
     starts: &[u32],
     dependencies: &[u32],
     hosts: &[u32],
+    fixed: &[u32],
     area: &[u32],
     k: u64,
 ) -> EdgeAnswer
-    ensures { λ r. ⌜ ofEdge r ≡ asked (lent a d e (now (starts .entry)) (now (dependencies .entry)) (now (hosts .entry))) n (now (area .entry)) (ledger.edge-at k) ⌝ }
+    ensures { λ r. ⌜ ofEdge r ≡ asked (lent a d e (now (starts .entry)) (now (dependencies .entry)) (now (hosts .entry))) (now (fixed .entry)) n (now (area .entry)) (ledger.edge-at k) ⌝ }
 {
     let mut degrees = [0u32; 1024];
     let mut order = [0u32; 1024];
@@ -198,6 +203,7 @@ pub fn edge_at(
         starts,
         dependencies,
         hosts,
+        fixed,
         area,
         &mut degrees,
         &mut order,

@@ -18,8 +18,9 @@ impl MoveLayout {
     pub const COUNT: usize = 8;
     pub const MARK: usize = 9;
     pub const COMPONENT: usize = 10;
-    /// Atom lane.
+    /// Atom lanes.
     pub const NODE: usize = 0;
+    pub const FIXED: usize = 1;
 
     pub fn length(self) -> usize {
         self.n * self.n + 24 * (self.a + self.n + self.d + self.e + 1)

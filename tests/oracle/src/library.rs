@@ -39,7 +39,7 @@ impl EdgeReply {
     }
 }
 
-/// Lists of `chunk_optimization_graph_new`.
+/// Lists of `nidskalm_chunk_optimization_graph_new`.
 #[derive(Clone, Debug, Default, PartialEq, Eq)]
 pub struct MergeLoad {
     pub initial: u64,
@@ -94,7 +94,7 @@ mod ours {
     use crate::moves_model::Load;
     use crate::raw;
 
-    /// Calls with the load's ten numbers and pointers first.
+    /// Calls with the load's numbers and pointers first.
     macro_rules! with_load {
         ($call:ident, $load:expr $(, $more:expr)*) => {
             unsafe {
@@ -102,7 +102,8 @@ mod ours {
                     $load.a, $load.d, $load.e, $load.n,
                     $load.starts.as_ptr(), $load.starts.len(),
                     $load.dependencies.as_ptr(), $load.dependencies.len(),
-                    $load.hosts.as_ptr(), $load.hosts.len()
+                    $load.hosts.as_ptr(), $load.hosts.len(),
+                    $load.fixed.as_ptr(), $load.fixed.len()
                     $(, $more)*
                 )
             }
@@ -118,40 +119,47 @@ mod ours {
 
     impl Library for Ours {
         fn move_new(&self, load: &Load, sets: &[u64], area: &mut [u32]) -> Reply {
-            with_load!(reduced_chunk_graph_new, load, sets.as_ptr(), sets.len(), area.as_mut_ptr(), area.len())
+            with_load!(nidskalm_reduced_chunk_graph_new, load, sets.as_ptr(), sets.len(), area.as_mut_ptr(), area.len())
         }
 
         fn try_move(&self, load: &Load, area: &mut [u32], atom: u32, bits: &[u64]) -> Reply {
             let (lent, length) = (area.as_mut_ptr(), area.len());
-            with_load!(reduced_chunk_graph_try_move, load, lent, length, atom, bits.as_ptr(), bits.len())
+            with_load!(nidskalm_reduced_chunk_graph_try_move, load, lent, length, atom, bits.as_ptr(), bits.len())
         }
 
         fn atom_set(&self, load: &Load, area: &[u32], atom: u32) -> SetReply {
-            with_load!(reduced_chunk_graph_atom_set, load, area.as_ptr(), area.len(), atom)
+            with_load!(nidskalm_reduced_chunk_graph_atom_set, load, area.as_ptr(), area.len(), atom)
         }
 
         fn atom_count(&self, load: &Load, area: &[u32], bits: &[u64]) -> Reply {
-            with_load!(reduced_chunk_graph_atom_count, load, area.as_ptr(), area.len(), bits.as_ptr(), bits.len())
+            with_load!(
+                nidskalm_reduced_chunk_graph_atom_count,
+                load,
+                area.as_ptr(),
+                area.len(),
+                bits.as_ptr(),
+                bits.len()
+            )
         }
 
         fn multiplicity(&self, load: &Load, area: &[u32], from: &[u64], to: &[u64]) -> Reply {
             let (lent, length) = (area.as_ptr(), area.len());
             let (from, from_length) = (from.as_ptr(), from.len());
             let call = (to.as_ptr(), to.len());
-            with_load!(reduced_chunk_graph_multiplicity, load, lent, length, from, from_length, call.0, call.1)
+            with_load!(nidskalm_reduced_chunk_graph_multiplicity, load, lent, length, from, from_length, call.0, call.1)
         }
 
         fn edge_count(&self, load: &Load, area: &[u32]) -> Reply {
-            with_load!(reduced_chunk_graph_edge_count, load, area.as_ptr(), area.len())
+            with_load!(nidskalm_reduced_chunk_graph_edge_count, load, area.as_ptr(), area.len())
         }
 
         fn edge_at(&self, load: &Load, area: &[u32], k: u64) -> EdgeReply {
-            with_load!(reduced_chunk_graph_edge_at, load, area.as_ptr(), area.len(), k)
+            with_load!(nidskalm_reduced_chunk_graph_edge_at, load, area.as_ptr(), area.len(), k)
         }
 
         fn merge_new(&self, size: Size, load: &MergeLoad, area: &mut [u32]) -> Reply {
             with_size!(
-                chunk_optimization_graph_new,
+                nidskalm_chunk_optimization_graph_new,
                 size,
                 load.initial,
                 load.mode,
@@ -174,7 +182,7 @@ mod ours {
             let (lent, length) = (area.as_mut_ptr(), area.len());
             let (effects, count) = (side_effects.as_ptr(), side_effects.len());
             with_size!(
-                chunk_optimization_graph_init_module_assignment,
+                nidskalm_chunk_optimization_graph_init_module_assignment,
                 size,
                 lent,
                 length,
@@ -189,23 +197,32 @@ mod ours {
         fn add_module(&self, size: Size, area: &mut [u32], module: u32, chunk: u32, side_effects: &[u32]) -> Reply {
             let (lent, length) = (area.as_mut_ptr(), area.len());
             let (effects, count) = (side_effects.as_ptr(), side_effects.len());
-            with_size!(chunk_optimization_graph_add_module_to_chunk, size, lent, length, module, chunk, effects, count)
+            with_size!(
+                nidskalm_chunk_optimization_graph_add_module_to_chunk,
+                size,
+                lent,
+                length,
+                module,
+                chunk,
+                effects,
+                count
+            )
         }
 
         fn register(&self, size: Size, area: &mut [u32], key: u32, chunk: u32) -> Reply {
             let (lent, length) = (area.as_mut_ptr(), area.len());
-            with_size!(chunk_optimization_graph_register_chunk_graph_index, size, lent, length, key, chunk)
+            with_size!(nidskalm_chunk_optimization_graph_register_chunk_graph_index, size, lent, length, key, chunk)
         }
 
         fn to_temp_idx(&self, size: Size, area: &[u32], key: u32) -> Reply {
-            with_size!(chunk_optimization_graph_to_temp_idx, size, area.as_ptr(), area.len(), key)
+            with_size!(nidskalm_chunk_optimization_graph_to_temp_idx, size, area.as_ptr(), area.len(), key)
         }
 
         fn calc(&self, size: Size, area: &mut [u32], starts: &[u32], dependencies: &[u32]) -> Reply {
             let (lent, length) = (area.as_mut_ptr(), area.len());
             let (list, count) = (dependencies.as_ptr(), dependencies.len());
             with_size!(
-                chunk_optimization_graph_calc_chunk_dependencies,
+                nidskalm_chunk_optimization_graph_calc_chunk_dependencies,
                 size,
                 lent,
                 length,
@@ -218,16 +235,23 @@ mod ours {
 
         fn warning(&self, size: Size, area: &[u32], source: u32, target: u32) -> Reply {
             let (lent, length) = (area.as_ptr(), area.len());
-            with_size!(chunk_optimization_graph_would_create_circular_dependency, size, lent, length, source, target)
+            with_size!(
+                nidskalm_chunk_optimization_graph_would_create_circular_dependency,
+                size,
+                lent,
+                length,
+                source,
+                target
+            )
         }
 
         fn is_reachable(&self, size: Size, area: &[u32], from: u32, to: u32) -> Reply {
-            with_size!(chunk_optimization_graph_is_reachable, size, area.as_ptr(), area.len(), from, to)
+            with_size!(nidskalm_chunk_optimization_graph_is_reachable, size, area.as_ptr(), area.len(), from, to)
         }
 
         fn merge(&self, size: Size, area: &mut [u32], target: u32, source: u32) -> Reply {
             let (lent, length) = (area.as_mut_ptr(), area.len());
-            with_size!(chunk_optimization_graph_merge_chunk_dependencies, size, lent, length, target, source)
+            with_size!(nidskalm_chunk_optimization_graph_merge_chunk_dependencies, size, lent, length, target, source)
         }
 
         fn pass(
@@ -240,7 +264,7 @@ mod ours {
             numbers: &mut [u32],
         ) -> Reply {
             with_size!(
-                chunk_optimization_graph_pass,
+                nidskalm_chunk_optimization_graph_pass,
                 size,
                 area.as_mut_ptr(),
                 area.len(),

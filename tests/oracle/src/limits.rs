@@ -52,7 +52,7 @@ fn move_case(a: u64, d: u64, n: u64, calls: Vec<MoveCall>) -> MoveCase {
         starts.push(starts[starts.len() - 1] + list.len() as u32);
     }
     let hosts = (0..256).map(|bit| if u64::from(bit) < a { bit } else { NONE }).collect();
-    let load = Load { a, d, e: 256, n, starts, dependencies: lists.concat(), hosts };
+    let load = Load { a, d, e: 256, n, starts, dependencies: lists.concat(), hosts, fixed: vec![0; a as usize] };
     let calls = calls.into_iter().map(|call| (call, moves_cases::Damage::default())).collect();
     MoveCase { load, sets: sets(a), extra: ROOM, short: false, fill: 1, crafted: None, calls }
 }
@@ -84,6 +84,7 @@ fn moves_past(case: &MoveCase) -> Vec<(Load, Vec<u64>)> {
     let atoms = at(&|load| {
         load.a += 1;
         load.starts.push(load.d as u32);
+        load.fixed.push(0);
     });
     let dependencies = at(&|load| {
         load.d += 1;

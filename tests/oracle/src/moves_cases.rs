@@ -191,7 +191,7 @@ impl Case for MoveCase {
             counts.cyclic += 1
         }
         let lists = original_lists(load, &self.sets);
-        let original = OriginalMoves::found(&lists);
+        let original = load.unmarked().then(|| OriginalMoves::found(&lists)).flatten();
         let state = MoveState::at_loading(load, &entry_sets(&self.sets, load.a as usize, width(load.e) as usize));
         let seen = state.registered.clone();
         let view = original.as_ref().map(OriginalMoves::view);
@@ -357,6 +357,7 @@ impl MoveCase {
             load.starts.push(load.dependencies.len() as u32);
         }
         load.d = load.dependencies.len() as u64;
+        load.fixed.remove(gone);
         for host in &mut load.hosts {
             *host = if *host as usize == gone { NONE } else { renumber(*host) };
         }

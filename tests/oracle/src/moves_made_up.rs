@@ -152,7 +152,7 @@ fn depend_on_itself(load: &mut Load) {
 }
 
 fn damage_load(random: &mut Random, load: &mut Load) {
-    match random.below(12) {
+    match random.below(15) {
         0 => load.a = damaged_size(random, load.a),
         1 => load.d = damaged_size(random, load.d),
         2 => load.e = damaged_size(random, load.e),
@@ -175,6 +175,12 @@ fn damage_load(random: &mut Random, load: &mut Load) {
                 if random.chance(50) { random.below(load.a.saturating_add(1)) as u32 } else { random.odd_number() };
         }
         10 => depend_on_itself(load),
+        11 => load.fixed.push(0),
+        12 => drop(load.fixed.pop()),
+        13 if !load.fixed.is_empty() => {
+            let place = random.index(load.fixed.len());
+            load.fixed[place] = if load.fixed[place] == 0 { random.odd_number() } else { 0 };
+        }
         _ => drop(load.starts.pop()),
     }
 }
@@ -183,7 +189,7 @@ fn damage_load(random: &mut Random, load: &mut Load) {
 fn damaged_cell(random: &mut Random, load: &Load, extra: usize) -> (usize, u32) {
     let at = load.layout();
     let node = random.index(at.n);
-    let cell = match random.below(10) {
+    let cell = match random.below(11) {
         0 if at.n > 0 => at.edge(node, random.index(at.n)),
         1 => at.header(random.index(4)),
         2..4 if at.n > 0 => at.node_lane(random.index(8), node),
@@ -191,6 +197,7 @@ fn damaged_cell(random: &mut Random, load: &Load, extra: usize) -> (usize, u32) 
         5 if at.n > 0 => at.node_lane(MoveLayout::MARK, node),
         6 if at.n > 0 => at.node_lane(MoveLayout::COMPONENT, node),
         7..9 if at.a > 0 => at.atom_lane(MoveLayout::NODE, random.index(at.a)),
+        9 if at.a > 0 => at.atom_lane(MoveLayout::FIXED, random.index(at.a)),
         _ => random.index(at.length() + extra),
     };
     let value = if random.chance(60) { random.below(load.n + 2) as u32 } else { random.odd_number() };
@@ -205,7 +212,10 @@ pub fn random_load(random: &mut Random, shape: Shape) -> (Load, Vec<Set>) {
     let hosts = (0..shape.e)
         .map(|_| if shape.a == 0 || random.chance(hostless) { NONE } else { random.below(shape.a) as u32 })
         .collect();
-    (Load { a: shape.a, d, e: shape.e, n: shape.n, starts, dependencies, hosts }, sets)
+    // Mostly none, so that the original is compared.
+    let share = random.pick(&[0, 0, 0, 15, 60]);
+    let fixed = (0..shape.a).map(|_| if random.chance(share) { random.odd_number() } else { 0 }).collect();
+    (Load { a: shape.a, d, e: shape.e, n: shape.n, starts, dependencies, hosts, fixed }, sets)
 }
 
 /// A made-up case; `damage` is the percent of calls with something wrong.
@@ -245,6 +255,7 @@ pub fn month(random: &mut Random, shape: Shape) -> MoveCase {
             break case;
         }
     };
+    case.load.fixed.fill(0);
     for _ in 0..shape.calls {
         let atom = random.below(shape.a) as u32;
         let bits = words(random_set(random, shape.e), shape.e);
@@ -338,6 +349,7 @@ pub fn every_small_load(a: u64, each: &mut dyn FnMut(MoveCase)) {
                     starts: starts.clone(),
                     dependencies: dependencies.clone(),
                     hosts: vec![name(host), name(host / (a + 1))],
+                    fixed: vec![0; a as usize],
                 };
                 let sets = sets.clone();
                 each(MoveCase { load, sets, extra: 1, short: false, fill: chosen, crafted: None, calls: vec![] });

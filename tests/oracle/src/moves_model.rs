@@ -17,11 +17,18 @@ pub struct Load {
     pub starts: Vec<u32>,
     pub dependencies: Vec<u32>,
     pub hosts: Vec<u32>,
+    /// A mark for each atom, "nonzero for fixed".
+    pub fixed: Vec<u32>,
 }
 
 impl Load {
     pub fn layout(&self) -> MoveLayout {
         MoveLayout { a: self.a as usize, d: self.d as usize, e: self.e as usize, n: self.n as usize }
+    }
+
+    /// "No marks set": so the original is compared.
+    pub fn unmarked(&self) -> bool {
+        self.fixed.iter().all(|&mark| mark == 0)
     }
 
     /// Dependencies of one atom.
@@ -37,7 +44,7 @@ pub fn load_refusal(load: &Load, sets: Option<&[u64]>, area: usize) -> u64 {
     }
     let (a, d, e) = (load.a as usize, load.d as usize, load.e as usize);
     let w = width(load.e) as usize;
-    if load.starts.len() != a + 1 || load.dependencies.len() != d || load.hosts.len() != e {
+    if load.starts.len() != a + 1 || load.dependencies.len() != d || load.hosts.len() != e || load.fixed.len() != a {
         return 2;
     }
     if sets.is_some_and(|sets| sets.len() != a * w) {
@@ -201,6 +208,9 @@ impl Ledger {
         if u64::from(atom) >= load.a {
             return (Reply::refused(10), Step::Nothing);
         }
+        if load.fixed[atom as usize] != 0 {
+            return (Reply::refused(24), Step::Nothing);
+        }
         let Some(target) = lent_set(bits, load.e) else { return (Reply::refused(11), Step::Nothing) };
         let atom = atom as usize;
         if target == self.place[atom] {
@@ -297,6 +307,7 @@ impl MoveState {
         }
         for (atom, &node) in self.node.iter().enumerate() {
             area[at.atom_lane(MoveLayout::NODE, atom)] = node;
+            area[at.atom_lane(MoveLayout::FIXED, atom)] = (load.fixed[atom] != 0).into();
         }
     }
 

@@ -188,6 +188,7 @@ fn asked(case: &mut MoveCase) {
 
 fn moves_case(random: &mut Random, shape: moves_made_up::Shape) -> MoveCase {
     let mut case = moves_made_up::random_case(random, shape, 0);
+    case.load.fixed.fill(0);
     case.calls.retain(|(call, _)| !matches!(call, MoveCall::Counter { .. }));
     for (call, _) in &mut case.calls {
         if let MoveCall::Move { atom, bits } = call {
@@ -261,6 +262,7 @@ fn small(sets: &[u64], lists: &[&[u32]], hosts: &[u32], n: u64, moves: &[(u32, u
         starts,
         dependencies,
         hosts: hosts.to_vec(),
+        fixed: vec![0; sets.len()],
     };
     let calls =
         moves.iter().map(|&(atom, set)| (MoveCall::Move { atom, bits: vec![set] }, moves_cases::Damage::default()));

@@ -59,7 +59,7 @@ pub fn replay(library: &dyn Library, numbers: &[u64]) -> Result<(), String> {
 fn replay_moves(library: &dyn Library, reader: &mut Reader) -> Result<(), String> {
     let (a, d, e, n) = (reader.one(), reader.one(), reader.one(), reader.one());
     let (starts, dependencies, hosts) = (reader.smalls(a + 1), reader.smalls(d), reader.smalls(e));
-    let load = Load { a, d, e, n, starts, dependencies, hosts };
+    let load = Load { a, d, e, n, starts, dependencies, hosts, fixed: vec![0; a as usize] };
     let w = width(e);
     let sets = reader.list(a * w);
     let mut area = vec![0; load.layout().length()];

@@ -52,7 +52,7 @@ impl Random {
 pub struct Counts {
     pub cases: u64,
     pub calls: u64,
-    pub refusals: [u64; 29],
+    pub refusals: [u64; 32],
     pub acyclic: u64,
     pub cyclic: u64,
     pub accepted: u64,
@@ -69,7 +69,7 @@ pub struct Counts {
 
 impl Counts {
     pub fn refused(&mut self, row: u64) {
-        self.refusals[row.min(28) as usize] += 1;
+        self.refusals[row.min(31) as usize] += 1;
     }
 
     pub fn print(&self, name: &str) {
@@ -79,7 +79,7 @@ impl Counts {
         println!("  warnings yes {}, no {}", self.warned, self.unwarned);
         println!("  pass merged {}, created {}", self.merged, self.created);
         println!("  damaged areas refused {}, consistent {}", self.damaged_refused, self.damaged_consistent);
-        let rows: Vec<String> = (1..22).chain([28]).map(|row| format!("{row}:{}", self.refusals[row])).collect();
+        let rows: Vec<String> = (1..29).map(|row| format!("{row}:{}", self.refusals[row])).collect();
         println!("  refusals by row {}", rows.join(" "));
     }
 }

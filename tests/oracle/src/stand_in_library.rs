@@ -10,7 +10,7 @@ use crate::sets::{Set, lent_set, width};
 pub const HARMLESS: &str = "loading clears the flags of chunks not yet made";
 
 /// Bugs by name; the first two are none.
-pub const PLANTS: [&str; 54] = [
+pub const PLANTS: [&str; 58] = [
     "none",
     HARMLESS,
     "repeated dependency counted once",
@@ -45,6 +45,10 @@ pub const PLANTS: [&str; 54] = [
     "10 before 9",
     "11 before 10",
     "12 before 11",
+    "24 after 11",
+    "a fixed atom moves",
+    "a mark kept as lent",
+    "fixed flags not checked by 9",
     "a question checks no area",
     "1,025 sets let through",
     "needs_creation cleared",
@@ -108,6 +112,12 @@ impl Library for StandIn {
             let state = MoveState::decode(load, area).unwrap();
             state.encode(&self.seen(load), area);
         }
+        if self.planted("a mark kept as lent") {
+            let at = load.layout();
+            for (atom, &mark) in load.fixed.iter().enumerate() {
+                area[at.atom_lane(MoveLayout::FIXED, atom)] = mark;
+            }
+        }
         reply
     }
 
@@ -126,6 +136,9 @@ impl Library for StandIn {
             if Set::from_words(bits) == state.ledger().place[atom as usize] {
                 return Reply::refused(12);
             }
+        }
+        if self.planted("24 after 11") && wrong_set && load.fixed.get(atom as usize).is_some_and(|&mark| mark != 0) {
+            return Reply::refused(11);
         }
         let at = load.layout();
         let reply = self.move_state(&seen, &mut state, atom, bits);

@@ -77,11 +77,19 @@ impl StandIn {
                 *mark = (*mark).min(counter);
             }
         }
+        if self.planted("fixed flags not checked by 9") {
+            for (atom, &mark) in load.fixed.iter().enumerate() {
+                area[at.atom_lane(MoveLayout::FIXED, atom)] = (mark != 0).into();
+            }
+        }
         area
     }
 
     pub(crate) fn move_state(&self, load: &Load, state: &mut MoveState, atom: u32, bits: &[u64]) -> Reply {
         let mut load = load.clone();
+        if self.planted("a fixed atom moves") {
+            load.fixed.fill(0);
+        }
         if let Some(trial) = Trial::new(&load, state, atom, bits) {
             self.spoil_load(&mut load, state, trial);
             self.evict(&load, state, trial);

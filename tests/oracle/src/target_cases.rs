@@ -31,16 +31,16 @@ pub fn planted(plant: Plant) -> impl Fn(&Case) -> Reply {
 
 #[cfg(feature = "ours")]
 pub fn ours(case: &Case) -> Reply {
-    use crate::raw::{chunk_optimization_graph_merge_target, chunk_optimization_graph_merge_target_by_classes};
+    use crate::raw::{nidskalm_chunk_optimization_graph_merge_target, nidskalm_chunk_optimization_graph_merge_target_by_classes};
     let (entries, set) = (&case.entries, case.set);
     macro_rules! lent {
         ($($list:expr),*) => {
             // SAFETY: each pointer is a list's, followed by its length, and the lists are only read.
             match &case.classes {
-                None => unsafe { chunk_optimization_graph_merge_target(
+                None => unsafe { nidskalm_chunk_optimization_graph_merge_target(
                     entries.k, entries.m, $($list.as_ptr(), $list.len(),)* set[0], set[1], set[2], set[3],
                 ) },
-                Some(classes) => unsafe { chunk_optimization_graph_merge_target_by_classes(
+                Some(classes) => unsafe { nidskalm_chunk_optimization_graph_merge_target_by_classes(
                     entries.k, entries.m, $($list.as_ptr(), $list.len(),)* set[0], set[1], set[2], set[3],
                     classes.as_ptr(), classes.len(),
                 ) },

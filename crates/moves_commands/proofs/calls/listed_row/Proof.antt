@@ -15,6 +15,12 @@ slice-aggregate-listed-row c = sym (length-take-le _ _ (omega arith))
 slice-aggregate-listed-row-2 : tie.Need-slice-aggregate-listed-row-2
 slice-aggregate-listed-row-2 c = sym (length-take-le _ _ (omega arith))
 
+array-share-prefix-marks : tie.Need-array-share-prefix-marks
+array-share-prefix-marks c = search needs
+
+slice-aggregate-listed-row-3 : tie.Need-slice-aggregate-listed-row-3
+slice-aggregate-listed-row-3 c = sym (length-take-le _ _ (omega arith))
+
 listed-row-requires : tie.Need-listed-row-requires
 listed-row-requires c κs = search needs
 
@@ -34,6 +40,8 @@ listed-row-spec =
     add-k
     slice-aggregate-listed-row
     slice-aggregate-listed-row-2
+    array-share-prefix-marks
+    slice-aggregate-listed-row-3
     listed-row-requires
     same-length
     same-length-2

@@ -15,8 +15,14 @@ slice-aggregate-new c = sym (length-take-le _ _ (omega arith))
 slice-aggregate-new-2 : tie.Need-slice-aggregate-new-2
 slice-aggregate-new-2 c = sym (length-take-le _ _ (omega arith))
 
+array-share-prefix-marks : tie.Need-array-share-prefix-marks
+array-share-prefix-marks c = search needs
+
 slice-aggregate-new-3 : tie.Need-slice-aggregate-new-3
 slice-aggregate-new-3 c = sym (length-take-le _ _ (omega arith))
+
+slice-aggregate-new-4 : tie.Need-slice-aggregate-new-4
+slice-aggregate-new-4 c = sym (length-take-le _ _ (omega arith))
 
 new-requires : tie.Need-new-requires
 new-requires c κs = search needs
@@ -34,7 +40,9 @@ new-spec =
     add-k
     slice-aggregate-new
     slice-aggregate-new-2
+    array-share-prefix-marks
     slice-aggregate-new-3
+    slice-aggregate-new-4
     new-requires
     same-length
     returns)

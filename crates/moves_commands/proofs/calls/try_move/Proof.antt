@@ -9,8 +9,8 @@ use Rattle.moves_commands.proofs.calls.try_move.Tie as tie
 add-k : tie.Need-add-k
 add-k c = search needs
 
-cast-t10 : tie.Need-cast-t10
-cast-t10 c = search needs
+cast-t11 : tie.Need-cast-t11
+cast-t11 c = search needs
 
 slice-aggregate-try-move : tie.Need-slice-aggregate-try-move
 slice-aggregate-try-move c = sym (length-take-le _ _ (omega arith))
@@ -18,8 +18,14 @@ slice-aggregate-try-move c = sym (length-take-le _ _ (omega arith))
 slice-aggregate-try-move-2 : tie.Need-slice-aggregate-try-move-2
 slice-aggregate-try-move-2 c = sym (length-take-le _ _ (omega arith))
 
+array-share-prefix-marks : tie.Need-array-share-prefix-marks
+array-share-prefix-marks c = search needs
+
 slice-aggregate-try-move-3 : tie.Need-slice-aggregate-try-move-3
-slice-aggregate-try-move-3 c = search needs
+slice-aggregate-try-move-3 c = sym (length-take-le _ _ (omega arith))
+
+slice-aggregate-try-move-4 : tie.Need-slice-aggregate-try-move-4
+slice-aggregate-try-move-4 c = search needs
 
 try-move-requires : tie.Need-try-move-requires
 try-move-requires c κs = search needs
@@ -35,10 +41,12 @@ try-move-spec =
     tie.close
     (tie.spec
     add-k
-    cast-t10
+    cast-t11
     slice-aggregate-try-move
     slice-aggregate-try-move-2
+    array-share-prefix-marks
     slice-aggregate-try-move-3
+    slice-aggregate-try-move-4
     try-move-requires
     same-length
     returns)

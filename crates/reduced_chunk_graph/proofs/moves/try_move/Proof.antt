@@ -12,16 +12,16 @@ same-length : tie.Need-same-length
 same-length c = search needs
 
 returns : tie.Need-returns
-returns c = call-refused _ _ _ _ _ _ (c .before .later-row .ensures) (omega arith)
+returns c = call-refused _ _ _ _ _ _ _ (c .before .later-row .ensures) (omega arith)
 
 go-on-requires : tie.Need-go-on-requires
-go-on-requires c κs = call-on _ _ _ (c .before .before .before .before .before .before .before .before .before .args .atom) (c .before .before .before .before .before .before .before .before .before .args .bits .now) (c .before .before .later-row .ensures) (search needs)
+go-on-requires c κs = call-on _ _ _ _ (c .before .before .before .before .before .before .before .before .before .before .args .atom) (c .before .before .before .before .before .before .before .before .before .before .args .bits .now) (c .before .before .later-row .ensures) (search needs)
 
 same-length-2 : tie.Need-same-length-2
 same-length-2 c = search needs
 
 returns-2 : tie.Need-returns-2
-returns-2 c = call-answer _ _ _ _ _ (c .before .before .before .before .before .later-row .ensures) (search needs) (c .before .before .go-on .ensures)
+returns-2 c = call-answer _ _ _ _ _ _ (c .before .before .before .before .before .later-row .ensures) (search needs) (c .before .before .go-on .ensures)
 
 pub try-move-spec : {M : Type 1} → statement M
 try-move-spec =

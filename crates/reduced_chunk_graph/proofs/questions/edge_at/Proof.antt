@@ -17,10 +17,10 @@ listed-row-requires : tie.Need-listed-row-requires
 listed-row-requires c κs = search needs
 
 returns : tie.Need-returns
-returns c = asked-back _ _ _ _ (c .before .before .before .listed-row .ensures .row) (omega arith) _
+returns c = asked-back _ _ _ _ _ (c .before .before .before .listed-row .ensures .row) (omega arith) _
 
 registered-requires : tie.Need-registered-requires
-registered-requires c κs = head-inside _ _ _ _ (c .before .before .before .listed-row .ensures .row) (omega arith)
+registered-requires c κs = head-inside _ _ _ _ _ (c .before .before .before .listed-row .ensures .row) (omega arith)
 
 slice-aggregate-edge-at : tie.Need-slice-aggregate-edge-at
 slice-aggregate-edge-at c = search needs
@@ -35,7 +35,7 @@ answered-requires : tie.Need-answered-requires
 answered-requires c κs = search needs
 
 returns-2 : tie.Need-returns-2
-returns-2 c = edge-told _ _ _ _ (c .before .before .before .before .before .before .before .before .listed-row .ensures .row) (omega arith) _ _ (c .answered .ensures ∙ c .before .edge-at .ensures _ (listable-known (c .before .before .before .before .before .before .before .before .listed-row .ensures) (omega arith) (c .before .before .before .before .registered .ensures)))
+returns-2 c = edge-told _ _ _ _ _ (c .before .before .before .before .before .before .before .before .listed-row .ensures .row) (omega arith) _ _ (c .answered .ensures ∙ c .before .edge-at .ensures _ (listable-known (c .before .before .before .before .before .before .before .before .listed-row .ensures) (omega arith) (c .before .before .before .before .registered .ensures)))
 
 pub edge-at-spec : {M : Type 1} → statement M
 edge-at-spec =

@@ -16,7 +16,7 @@ listed-row-requires : tie.Need-listed-row-requires
 listed-row-requires c κs = search needs
 
 returns : tie.Need-returns
-returns c = asked-back _ _ _ _ (c .before .before .before .listed-row .ensures .row) (omega arith) _
+returns c = asked-back _ _ _ _ _ (c .before .before .before .listed-row .ensures .row) (omega arith) _
 
 slice-aggregate-edge-count : tie.Need-slice-aggregate-edge-count
 slice-aggregate-edge-count c = search needs
@@ -25,7 +25,7 @@ edge-count-requires : tie.Need-edge-count-requires
 edge-count-requires c κs = can-sum (c .before .before .before .before .listed-row .ensures) (omega arith)
 
 returns-2 : tie.Need-returns-2
-returns-2 c = edges-told _ _ _ _ (c .before .before .before .before .before .listed-row .ensures .row) (omega arith) _ (c .edge-count .ensures _ _ _ _ (c .before .before .before .before .before .listed-row .ensures .listable (omega arith)))
+returns-2 c = edges-told _ _ _ _ _ (c .before .before .before .before .before .listed-row .ensures .row) (omega arith) _ (c .edge-count .ensures _ _ _ _ (c .before .before .before .before .before .listed-row .ensures .listable (omega arith)))
 
 pub edge-count-spec : {M : Type 1} → statement M
 edge-count-spec =
