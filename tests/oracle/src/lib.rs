@@ -3,6 +3,8 @@ pub mod inputs;
 pub mod layout;
 pub mod library;
 mod limits;
+pub mod loop_loads;
+pub mod loops;
 pub mod merges_calls;
 pub mod merges_cases;
 pub mod merges_made_up;
