@@ -1,4 +1,5 @@
 //! The original built unchanged where its files are, a plain model of document 01, and the runs that compare them with the library.
+pub mod fewer;
 pub mod inputs;
 pub mod layout;
 pub mod library;

@@ -1,8 +1,10 @@
-//! Runs passes from chunks whose dependencies close no loop, and searches for one after every candidate. `--help` says how.
+//! Runs passes from chunks whose dependencies close no loop, and searches for one after every candidate; and moves with dependency entries left out.
+//! `--help` says how.
 use std::path::Path;
 use std::process::ExitCode;
 use std::time::Instant;
 
+use oracle::fewer::{self, Wrong};
 use oracle::library::Library;
 use oracle::loop_loads::loads;
 use oracle::loops::{Chunks, Did, Lent, Start, closes_loop, pass};
@@ -17,7 +19,7 @@ const HELP: &str = "loops [--passes NUMBER] [--real NUMBER] [--seed NUMBER] [--l
   --real       so many of them from the loads of a directory, if it is there, 20,000 if not said; the others are made up
   --seed       another seed than 1
   --loads      another directory than ../shared/loads
-  --self-test  the old mode in the mode's place and an ignored bar must be found";
+  --self-test  the old mode in the mode's place, an ignored bar, other hosts, and entries added in the place of left out must be found";
 
 /// What was run, from real loads or made up.
 #[derive(Clone, Copy, Debug, Default)]
@@ -136,6 +138,36 @@ fn run(library: &dyn Library, amount: Amount, directory: &Path) -> Result<[Count
     Ok([real, made_up])
 }
 
+/// A load for every ten passes, with moves on it and on the load without some of its entries.
+fn leave_out(library: &dyn Library, amount: Amount, wrong: Wrong) -> Result<fewer::Counts, String> {
+    let mut random = Random(amount.seed ^ 0x6665_7765);
+    let mut counts = fewer::Counts::default();
+    for _ in 0..amount.passes / 10 {
+        fewer::run(library, &mut random, wrong, &mut counts)?;
+    }
+    Ok(counts)
+}
+
+fn compare_fewer(library: &dyn Library, amount: Amount) -> ExitCode {
+    match leave_out(library, amount, Wrong::Nothing) {
+        Err(why) => {
+            println!("entries left out: FOUND: {why}");
+            ExitCode::FAILURE
+        }
+        Ok(counts) => {
+            let fewer::Counts { loads, moves, accepted, gained } = counts;
+            println!(
+                "entries left out: {loads} loads, {moves} moves; {accepted} accepted, and so without some entries; {gained} only then"
+            );
+            if amount.passes >= 1000 && (accepted == 0 || gained == 0) {
+                println!("entries left out: nothing was accepted, or nothing more without some entries");
+                return ExitCode::FAILURE;
+            }
+            ExitCode::SUCCESS
+        }
+    }
+}
+
 fn compare(library: &dyn Library, name: &str, amount: Amount, directory: &Path) -> ExitCode {
     let start = Instant::now();
     match run(library, amount, directory) {
@@ -160,7 +192,7 @@ fn compare(library: &dyn Library, name: &str, amount: Amount, directory: &Path) 
                 println!("loops: the old mode shows no fault, nothing was warned of, or hardly anything was merged");
                 return ExitCode::FAILURE;
             }
-            ExitCode::SUCCESS
+            compare_fewer(library, amount)
         }
     }
 }
@@ -183,6 +215,11 @@ fn self_test(library: &dyn Library, amount: Amount) -> ExitCode {
         (closes_loop(&[(0, 1), (3, 2)], &[None, None, Some(0), Some(1)]), true),
     ];
     let mut missed = graphs.iter().filter(|(found, there)| found != there).count();
+    for wrong in [Wrong::Nothing, Wrong::OtherHosts, Wrong::TurnedRound] {
+        let right = leave_out(library, amount, wrong).is_err() == (wrong != Wrong::Nothing);
+        println!("{}: entries left out, {wrong:?}", if right { "as it should be" } else { "MISSED OR WRONGLY FOUND" });
+        missed += usize::from(!right);
+    }
     for (what, library, amount, wrong) in runs {
         let found = run(library, amount, nowhere).is_err();
         println!(
