@@ -1,5 +1,6 @@
-//! Passes from chunks whose dependencies close no loop, in both modes, and a search for a loop after every candidate. The search takes the lent
-//! lists and the pass's answers alone: it reads no area, and nothing of it is the library's or the model's.
+//! Passes from chunks whose dependencies close no loop, in both modes, and a search for a loop after every candidate. The
+//! search takes the lent lists and the pass's answers alone: it reads no area, and nothing of it is the library's or the
+//! model's.
 use std::collections::BTreeMap;
 
 use crate::library::{Library, MergeLoad};
@@ -7,7 +8,8 @@ use crate::merges_model::{NONE, Size};
 use crate::run::Random;
 use crate::sets::{Set, words};
 
-/// Modules with their sets, and what each depends on. Initial chunk e is named with the set {e}; every other set makes a candidate.
+/// Modules with their sets, and what each depends on. Initial chunk e is named with the set {e}; every other set makes a
+/// candidate.
 #[derive(Clone, Debug)]
 pub struct Start {
     pub e: u64,
@@ -108,8 +110,8 @@ impl Start {
     }
 }
 
-/// Whether the dependencies close a loop, each chunk standing for the end of its merges: a chunk that no other one depends on is taken off, until
-/// there is none left; what remains then is a loop and what it leads to.
+/// Whether the dependencies close a loop, each chunk standing for the end of its merges: a chunk that no other one depends
+/// on is taken off, until there is none left; what remains then is a loop and what it leads to.
 pub fn closes_loop(edges: &[(usize, usize)], into: &[Option<usize>]) -> bool {
     let end = |chunk: usize| std::iter::successors(Some(chunk), |&chunk| into[chunk]).last().unwrap();
     let ends: Vec<usize> = (0..into.len()).map(end).collect();

@@ -1,5 +1,5 @@
-//! Runs passes from chunks whose dependencies close no loop, and searches for one after every candidate; and moves with dependency entries left out.
-//! `--help` says how.
+//! Runs passes from chunks whose dependencies close no loop, and searches for one after every candidate; and moves with
+//! dependency entries left out. `--help` says how.
 use std::path::Path;
 use std::process::ExitCode;
 use std::time::Instant;
