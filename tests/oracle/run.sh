@@ -21,8 +21,14 @@ if [ "${1:-}" != --record ]; then
 fi
 case "${1:-}" in
     --record) ;;
-    --self-test) tests/oracle/target/checked/targets --self-test ;;
-    *) tests/oracle/target/checked/targets ;;
+    --self-test)
+        tests/oracle/target/checked/targets --self-test
+        tests/oracle/target/checked/loops --self-test
+        ;;
+    *)
+        tests/oracle/target/checked/targets
+        tests/oracle/target/checked/loops --real 400
+        ;;
 esac
 "$runner" "$@"
 if [ -z "${NIDSKALM_ORIGINAL:-}" ]; then

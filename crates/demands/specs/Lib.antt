@@ -7,10 +7,13 @@ pub mod Demand3
 pub mod Room
 pub mod Chain
 pub mod Fixed
+pub mod Fewer
 pub mod MergeRefused
 pub mod MergeKept
 pub mod MergeLoaded
+pub mod MergeCounted
 pub mod MergeWarning
+pub mod MergePass
 pub mod MergeEither
 pub mod MergeSwap
 pub mod Colours

@@ -1,30 +1,27 @@
 -- Demand 2 of the merge graph: what the warning says. Assumes nothing.
-use Prim.Native.Nat.{ℕ, zero, suc, _<_}
+use Prim.Native.Nat.{ℕ}
 use native.Mathlib.Omega.{arith}
-use native.Mathlib.Decide.{ℕ-discrete}
 use mathlib.Core.Path.{_≡_, refl, sym, ap, subst, _∙_}
 use mathlib.Core.Logic.{_⊎_, _↔_}
 use mathlib.Core.Bool.{Bool, true, false}
 use mathlib.Core.List.{List}
-use borrow.Author.Tests.{eqb-false, eq-eqb, ne-eqb}
+use borrow.Author.Tests.{eqb-false}
 use Rattle.merge_state.specs.declared.Sizes.{Sizes}
-use Rattle.graphs.specs.Bools.{fails}
 use Rattle.graphs.specs.Walk.{Walk, one, more}
 use Rattle.graphs.specs.Walks.{join}
-use Rattle.graph_walks.specs.Counted.{without, counted-take}
-use Rattle.merge_state.specs.State.{None, Graph}
-use Rattle.merge_state.specs.Merges.{ending, end, counts}
+use Rattle.merge_state.specs.State.{Graph}
+use Rattle.merge_state.specs.Merges.{counts}
 use Rattle.merge_state.specs.Methods.{warns, warn}
 use Rattle.merge_state.specs.Warning.{Looped, warning-exactly, fused, fuse-ends}
-use Rattle.merge_state.specs.Counted.{mode-warning}
 use Rattle.merge_state.specs.Table.{says, would-create-circular-dependency, later, acted}
 use Rattle.merge_state.specs.Kept.{none-fits}
-use Rattle.merge_area.specs.Read.{depends-in, mode-in, into-in, read}
+use Rattle.merge_area.specs.Read.{depends-in, mode-in, read}
 use Rattle.merge_area.specs.Layout.{cell, head}
 use Rattle.merge_area.specs.Calls.{step}
 use Rattle.merge_laws.specs.Rows.{Stood, free}
 use Rattle.merge_laws.specs.Ordering.{ordered}
 use Rattle.demands.specs.MergeRefused.{is-refused, unrefused-row, free-step}
+use Rattle.demands.specs.MergeCounted.{warn-walk}
 
 -- says tells the answers yes and no apart
 yes-only : (b : Bool) → says b ≡ says true → b ≡ true
@@ -68,36 +65,17 @@ module _ (d : ℕ → ℕ → Bool) (s t : ℕ) where
   passing p q (more {x} {y = z} {z = y} h w) =
       (z, (λ r. fuse-ends d s t x z h .0 (p ∙ sym r)), one (subst (λ v. fused d s t v z ≡ true) p h), subst (λ e. Walk (fused d s t) z e) q w)
 
--- where merges end, of the chunks below n
-ending-in : (f : ℕ → ℕ) (n : ℕ) → ((x : ℕ) → (f x ≡ None → ⊥) → (x < n) × (f x < n)) → (k x : ℕ) → x < n → ending f k x < n
-unfolding ending
-ending-in f n range zero x b = b
-ending-in f n range (suc k) x b = elim (ℕ-discrete (f x) None) [
-  | yes q ↦ rw (eq-eqb (f x) None q) b
-  | no q ↦ rw (ne-eqb (f x) None q) (ending-in f n range k (f x) (range x q .1))
-]
-
 -- (vii) of document 02: "The warning is then yes exactly when the fused chunk lies on a cycle with another; a direct dependency alone no longer
 -- warns", of the dependencies that count, where merged chunks stand for their target
 pub mode-warning-on-areas : (z : Sizes) (a : List ℕ) (source target : ℕ) → mode-in z a ≡ true
     → let answer = step z a (would-create-circular-dependency source target) .0 in
     is-refused answer ≡ false → (answer ≡ says true) ↔ CountedLoop (read z a) source target
-unfolding warn
 mode-warning-on-areas z a source target m u =
     let q = asked z a source target u in
     let g = read z a in
-    let d = counts g in
-    let made = cell a (head z 1) in
-    let e : step z a (would-create-circular-dependency source target) .0 ≡ says (warns (without d source target) made source target) = q .0 ∙ (rw m refl) in
-    let inside : (x : ℕ) → x < made → end g x < made = λ x b. ending-in (into-in z a) made (ordered z a (q .1) .merges .range) made x b in
-    let w = mode-warning d made source target itself
-    (λ x y h. let k = counted-take (depends-in z a) (end g) made x y h in subst (λ v. v < made) (k .from) (inside (k .source) (k .source-in)))
-    (λ x y h. let k = counted-take (depends-in z a) (end g) made x y h in subst (λ v. v < made) (k .to) (inside (k .target) (k .target-in))) (q .2) in (
+    let w = warn-walk (ordered z a (q .1)) source target m (q .2) in (
       (λ k.
-          let p = passing d source target refl refl (w .0 (yes-only (warns (without d source target) made source target) (sym e ∙ k))) in
+          let p = passing (counts g) source target refl refl (w .0 (yes-only (warn g source target) (sym (q .0) ∙ k))) in
           record { other = p .0; differs = p .1; out = p .2; back = p .3 }),
-      λ (l : CountedLoop g source target). e ∙ ap says (w .1 (join (l .out) (l .back))),
+      λ (l : CountedLoop g source target). q .0 ∙ ap says (w .1 (join (l .out) (l .back))),
     )
-  where
-    itself : (x : ℕ) → counts (read z a) x x ≡ false
-    itself x = fails _ (λ h. counted-take (depends-in z a) (end (read z a)) (cell a (head z 1)) x x h .differ refl)

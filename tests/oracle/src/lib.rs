@@ -1,8 +1,11 @@
 //! The original built unchanged where its files are, a plain model of document 01, and the runs that compare them with the library.
+pub mod fewer;
 pub mod inputs;
 pub mod layout;
 pub mod library;
 mod limits;
+pub mod loop_loads;
+pub mod loops;
 pub mod merges_calls;
 pub mod merges_cases;
 pub mod merges_made_up;
