@@ -49,6 +49,13 @@ fn large(named: u32, users: u32, last_wins: bool) -> Case {
     Case { entries, candidate: (1000..m).collect(), set: bits(named), classes: None }
 }
 
+/// The same, the last of the named chunks common, so that there is nothing to search.
+fn common(named: u32) -> Case {
+    let mut case = large(named, 0, false);
+    case.entries.kinds[named as usize - 1] = 8;
+    case
+}
+
 /// Two user entries and a dynamic one of eight chunks, 64 modules.
 fn small() -> Case {
     let lists = |count: u32, items: &dyn Fn(u32) -> Vec<u32>| Lists::of(&(0..count).map(items).collect::<Vec<_>>());
@@ -102,5 +109,6 @@ pub fn table(library: Option<Call>) {
     row("256 named entries, 128 user and 128 dynamic, of 1,024; all guards asked", &large(256, 128, true), library);
     row("256 named user entries of 1,024; the last wins", &large(256, 256, true), library);
     row("256 named dynamic entries of 1,024; none wins", &large(256, 0, false), library);
+    row("256 named chunks of 1,024, the last a common one", &common(256), library);
     row("3 named entries of 8, 64 modules", &small(), library);
 }

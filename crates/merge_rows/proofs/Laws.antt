@@ -1,20 +1,23 @@
 -- Laws that several proofs of this crate cite. Assumes nothing.
-use Prim.Native.Nat.{ℕ, _+_, _≤_}
+use Prim.Native.Nat.{ℕ, _+_, _<_, _≤_}
 use native.Mathlib.Omega.{arith}
-use mathlib.Core.Path.{_≡_, sym, ap, ap₂, _∙_}
-use mathlib.Core.Bool.{Bool, true, false, not, _&&_, _||_}
+use native.Mathlib.Numerals.{add-one}
+use mathlib.Core.Path.{_≡_, refl, sym, ap, ap₂, subst, _∙_}
+use mathlib.Core.Bool.{Bool, true, false, not, _&&_, _||_, or-comm}
 use mathlib.Core.List.{List, [], _∷_}
 use lib.ListN.{length, getD}
 use lib.Dec.{ltb, leb, eqb}
-use borrow.Author.Tests.{eq-eqb, ne-eqb, lt-ltb, ltb-true}
-use Rattle.graphs.specs.Bools.{alike, or-false}
+use borrow.Author.Tests.{eq-eqb, ne-eqb, lt-leb, lt-ltb, ltb-true}
+use Rattle.graphs.specs.Bools.{Decides, alike, or-false}
 use Rattle.graphs.specs.Count.{ind, count, count-more, count-pos, count-found, count-le}
-use Rattle.graphs.specs.Lists.{some-give, some-take}
+use Rattle.graphs.specs.Lists.{some-below, some-give, some-take, some-suc, none-below}
+use Rattle.layout.specs.Compare.{PartBelow}
 use Rattle.entry_set.specs.declared.EntrySet.{EntrySet}
 use Rattle.entry_set.specs.Sets.{value, number, Holds, legal}
 use Rattle.merge_state.specs.declared.Sizes.{Sizes}
 use Rattle.merge_state.specs.State.{None, chunk-of, misfit, pairs}
 use Rattle.merge_state.specs.Merges.{waits}
+use Rattle.merge_state.specs.Kept.{no-misfit}
 use Rattle.merge_state.specs.Table.{any-misfit, any-gone, falling, bad-starts, over-lists, bad-lists, calc-chunk-dependencies, init-module-assignment, pass, later, first-fitting, other-length, no-module, full}
 use Rattle.merge_area.specs.Layout.{cell, head}
 use Rattle.merge_area.specs.Read.{read, named-set, sets-in}
@@ -34,6 +37,24 @@ misfit-is l top free {r} e =
     (λ h.
     let s = some-take (λ i. misfit top free (getD l i 0)) (length l) h in
     lt-ltb 0 r (rw e (count-pos (λ i. misfit top free (getD l (0 + i) 0)) (length l) (s .0) (s .1) (ap (λ i. misfit top free (getD l i 0)) {x = 0 + s .0} {y = s .0} (omega arith) ∙ s .2))))
+
+-- no number of a list strays where all are below top
+pub all-fit : (l : List ℕ) (top : ℕ) → ((i : ℕ) → i < length l → getD l i 0 < top) → any-misfit top false l ≡ false
+unfolding any-misfit misfit
+all-fit l top f = none-below _ (length l) (λ i b. rw (lt-leb top (getD l i 0) (f i b)))
+
+-- a list strays where not all of it is below top
+pub excess-is : (l : List ℕ) (top : ℕ) {r : Bool} → Decides (PartBelow l 0 (length l) top) r → not r ≡ any-misfit top false l
+excess-is l top {r} d = go (any-misfit top false l) refl r d
+  where
+    go : (m : Bool) → any-misfit top false l ≡ m → (r : Bool) → Decides (PartBelow l 0 (length l) top) r → not r ≡ any-misfit top false l
+    go m e true d = sym (all-fit l top (λ i b. subst (λ j. getD l j 0 < top) (omega arith) (d .right refl i b)))
+    go true e false d = sym e
+    go false e false d = absurd (d .wrong refl (λ i b. subst (λ j. getD l j 0 < top) (omega arith) (no-misfit top l e i b)))
+
+-- one number more of a test of them all
+pub some-more : (p : ℕ → Bool) (x : ℕ) {r t : Bool} → r ≡ some-below p x → t ≡ p x → (r || t) ≡ some-below p (x + 1)
+some-more p x e f = ap₂ _||_ e f ∙ or-comm (some-below p x) (p x) ∙ sym (ap (some-below p) (add-one x) ∙ some-suc p x)
 
 -- the tests of `bad-starts`, in order
 module _ (n : ℕ) (l : List ℕ) (d : ℕ) where

@@ -29,11 +29,24 @@ pub fn is_full(sizes: Sizes, area: &[u32]) -> bool
     sizes.entries <= merge_area::header(sizes, area, 4) as usize
 }
 
+// Some number of the list isn't below top.
+fn has_excess(l: &[u32], top: usize) -> bool
+    ensures { λ r. ⌜ r ≡ any-misfit top false (now (l .entry)) ⌝ }
+{
+    if 4294967295 < top {
+        return false;
+    }
+    !layout::all_below(l, 0, l.len(), top as u32)
+}
+
 // Some number of the list isn't below top, nor None where that is allowed.
 pub fn has_misfit(l: &[u32], top: usize, free: bool) -> bool
     ensures { λ r. ⌜ r ≡ any-misfit top free (now (l .entry)) ⌝ }
 {
-    0 < merge_area::count_faults(l, 0, l.len(), top, free)
+    if !free {
+        return has_excess(l, top);
+    }
+    0 < merge_area::count_faults(l, 0, l.len(), top, true)
 }
 
 // 1 where chunk x waits for creation, else 0.
@@ -103,19 +116,18 @@ pub fn lacks_numbers(sizes: Sizes, area: &[u32], n: usize) -> bool
     sizes.chunks < initial + created + n
 }
 
-// Some start is above the next, among the first n + 1.
+// Some start is above the next, among the first n + 1. It has no early exit, so that it compiles to vector code.
 fn is_falling(starts: &[u32], n: usize) -> bool
     requires { ⌜ n < length (now starts) ⌝ }
     ensures { λ r. ⌜ r ≡ falling n (now (starts .entry)) ⌝ }
 {
+    let mut falls = false;
     let mut i = 0;
     while i < n {
-        if starts[i + 1] < starts[i] {
-            return true;
-        }
+        falls = falls | (starts[i + 1] < starts[i]);
         i += 1;
     }
-    false
+    falls
 }
 
 // The list isn't n + 1 numbers that start from 0, don't fall and end at d.

@@ -35,7 +35,7 @@ fn has_odd_fault(classes: &[u32]) -> bool
 }
 
 // Row 25 fits.
-pub fn are_refused(classes: &[u32]) -> bool
+pub(crate) fn are_refused(classes: &[u32]) -> bool
     ensures { λ r. ⌜ r ≡ row25 (now (classes .entry)) ⌝ }
 {
     if classes.len() != 8 {

@@ -64,7 +64,13 @@ fn some_unmarked(n: usize, roles: &[u32], marks: &[u32]) -> bool
 }
 
 // A dynamic entry that is named isn't reached by t.
-pub fn is_unreached(n: usize, roles: &[u32], starts: &[u32], reached: &[u32], t: usize) -> bool
+pub(crate) fn is_unreached(
+    n: usize,
+    roles: &[u32],
+    starts: &[u32],
+    reached: &[u32],
+    t: usize,
+) -> bool
     requires { ⌜ CanReach n (now roles) (now starts) (now reached) t ⌝ }
     ensures { λ r. ⌜ r ≡ unreached (reads (now (roles .entry))) n (lists (now (starts .entry)) (now (reached .entry))) t ⌝ }
 {
@@ -100,7 +106,7 @@ fn some_leak(k: usize, roles: &[u32], starts: &[u32], reached: &[u32], t: usize)
 }
 
 // The side effects of t would leak.
-pub fn leaks(
+pub(crate) fn leaks(
     k: usize,
     n: usize,
     roles: &[u32],
@@ -134,7 +140,7 @@ fn some_stray(candidate: &[u32], starts: &[u32], importers: &[u32], marks: &[u32
 }
 
 // A dynamic importer of one of the candidate's modules is neither in t nor comes with the candidate.
-pub fn strays(
+pub(crate) fn strays(
     homes: &[u32],
     modules: &[u32],
     starts: &[u32],
@@ -182,7 +188,7 @@ fn some_polluting(e: u32, exports: &[u32], marks: &[u32], candidate: &[u32]) -> 
 }
 
 // The candidate would bring another dynamic entry's exports into t.
-pub fn pollutes(
+pub(crate) fn pollutes(
     n: usize,
     roles: &[u32],
     entries: &[u32],

@@ -20,7 +20,7 @@ fn mark_if(marks: &mut [u32], b: bool, y: usize, v: u32)
 }
 
 // v at each of the n numbers from `from` on.
-pub fn mark_items(items: &[u32], from: usize, n: usize, v: u32, marks: &mut [u32])
+fn mark_items(items: &[u32], from: usize, n: usize, v: u32, marks: &mut [u32])
     requires { ⌜ CanMark (now items) from n (now marks) ⌝ }
     ensures { λ _. ⌜ Marked all (part (now (items .entry)) from) n v (now (marks .entry)) (now (marks .exit)) ⌝ }
 {
@@ -32,7 +32,7 @@ pub fn mark_items(items: &[u32], from: usize, n: usize, v: u32, marks: &mut [u32
 }
 
 // v at each item of list x.
-pub fn mark_list(starts: &[u32], items: &[u32], x: usize, v: u32, marks: &mut [u32])
+pub(crate) fn mark_list(starts: &[u32], items: &[u32], x: usize, v: u32, marks: &mut [u32])
     requires { ⌜ CanMarkList (now starts) (now items) x (now marks) ⌝ }
     ensures { λ _. ⌜ Marked all (part (now (items .entry)) (getD (now (starts .entry)) x 0)) (size (lists (now (starts .entry)) (now (items .entry))) x) v (now (marks .entry)) (now (marks .exit)) ⌝ }
 {
@@ -50,7 +50,7 @@ fn is_empty(starts: &[u32], x: usize) -> bool
 }
 
 // 1 at each of the candidate's modules that nobody imports dynamically.
-pub fn mark_free(candidate: &[u32], starts: &[u32], marks: &mut [u32])
+pub(crate) fn mark_free(candidate: &[u32], starts: &[u32], marks: &mut [u32])
     requires { ⌜ CanMarkFree (now candidate) (now starts) (now marks) ⌝ }
     ensures { λ _. ⌜ Marked (empty (now (candidate .entry)) (now (starts .entry))) (reads (now (candidate .entry))) (length (now (candidate .entry))) 1 (now (marks .entry)) (now (marks .exit)) ⌝ }
 {
@@ -63,7 +63,7 @@ pub fn mark_free(candidate: &[u32], starts: &[u32], marks: &mut [u32])
 }
 
 // 1 at the entry module of each dynamic entry below n.
-pub fn mark_entries(n: usize, roles: &[u32], entries: &[u32], marks: &mut [u32])
+pub(crate) fn mark_entries(n: usize, roles: &[u32], entries: &[u32], marks: &mut [u32])
     requires { ⌜ CanMarkEntries n (now roles) (now entries) (now marks) ⌝ }
     ensures { λ _. ⌜ Marked (dynamic (now (roles .entry))) (reads (now (entries .entry))) n 1 (now (marks .entry)) (now (marks .exit)) ⌝ }
 {

@@ -9,7 +9,7 @@ ghost use Rattle.merge_choice.specs.Choice.{bits, role, some-role};
 ghost use Rattle.merge_choice.specs.Named.{reads, CanName, CanSetRoles, Named};
 
 // How many of k chunks the bits of a set can name.
-pub fn bits(k: usize) -> usize
+pub(crate) fn bits(k: usize) -> usize
     ensures { λ r. ⌜ r ≡ bits k ⌝ }
 {
     if 256 < k {
@@ -46,7 +46,7 @@ fn role(kinds: &[u32], classes: &[u32], set: EntrySet, b: usize) -> u32
 }
 
 // The roles of the chunks below n.
-pub fn set_roles(kinds: &[u32], classes: &[u32], set: EntrySet, n: usize, roles: &mut [u32])
+pub(crate) fn set_roles(kinds: &[u32], classes: &[u32], set: EntrySet, n: usize, roles: &mut [u32])
     requires { ⌜ CanSetRoles (now kinds) (now classes) n (now roles) ⌝ }
     ensures { λ _. ⌜ Named (now (classes .entry)) (now (kinds .entry)) (number set) (now (roles .entry)) (now (roles .exit)) n ⌝ }
 {
@@ -58,7 +58,7 @@ pub fn set_roles(kinds: &[u32], classes: &[u32], set: EntrySet, n: usize, roles:
 }
 
 // Some chunk below n has role v.
-pub fn some_role(roles: &[u32], n: usize, v: u32) -> bool
+pub(crate) fn some_role(roles: &[u32], n: usize, v: u32) -> bool
     requires { ⌜ n ≤ length (now roles) ⌝ }
     ensures { λ r. ⌜ r ≡ some-role (reads (now (roles .entry))) n v ⌝ }
 {

@@ -115,7 +115,7 @@ fn has_bad_numbers(m: usize, kinds: &[u32], entries: &[u32], candidate: &[u32]) 
 }
 
 // Row 23 fits.
-pub fn is_refused(
+pub(crate) fn is_refused(
     counts: Counts,
     kinds: &[u32],
     entries: &[u32],

@@ -99,7 +99,7 @@ fn first_winner(
     NONE
 }
 
-pub fn first_target(
+pub(crate) fn first_target(
     n: usize,
     roles: &[u32],
     v: u32,

@@ -1,42 +1,37 @@
-use Rattle.graphs.specs.Lists.{none-left, none-more, some-found, some-below, some-zero}
+use Rattle.graphs.specs.Lists.{some-below, some-zero}
 use native.Mathlib.Omega.{arith}
 use Rattle.merge_state.specs.Table.{falling}
-use borrow.Author.Tests.{lt-ltb, le-ltb}
+use Rattle.merge_rows.proofs.Laws.{some-more}
 use lib.Dec.{ltb}
 use lib.ListN.{getD}
-use mathlib.Core.Bool.{false}
-use mathlib.Core.Path.{_≡_}
+use mathlib.Core.Path.{_≡_, refl, sym, ap, _∙_}
 use Prim.Native.Nat.{_-_, _≤_, _+_}
 use Rattle.merge_rows.proofs.checks.is_falling.Statement.{statement}
 use Rattle.merge_rows.proofs.checks.is_falling.Tie as tie
 
 abbrev Inv-loop : tie.InvT-loop
-Inv-loop starts n i₀ i = (i ≤ n) × (some-below (λ k. ltb (getD starts (k + 1) 0) (getD starts k 0)) i ≡ false)
+Inv-loop starts n falls₀ i₀ falls i = (i ≤ n) × (falls ≡ some-below (λ k. ltb (getD starts (k + 1) 0) (getD starts k 0)) i)
 
 abbrev μ-loop : tie.MeasureT-loop
-μ-loop starts n i₀ i = n - i
+μ-loop starts n falls₀ i₀ falls i = n - i
 
 loop-holds : tie.Need-loop-holds Inv-loop μ-loop
-loop-holds c = (omega arith, some-zero _)
+loop-holds c = (omega arith, sym (some-zero _))
 
-add-if1 : tie.Need-add-if1 Inv-loop μ-loop
-add-if1 c = omega arith
+add-falls : tie.Need-add-falls Inv-loop μ-loop
+add-falls c = omega arith
 
-mul-if1 : tie.Need-mul-if1 Inv-loop μ-loop
-mul-if1 c = omega arith
+mul-falls : tie.Need-mul-falls Inv-loop μ-loop
+mul-falls c = omega arith
 
-shared-slice-read-if1 : tie.Need-shared-slice-read-if1 Inv-loop μ-loop
-shared-slice-read-if1 c = omega arith
+shared-slice-read-falls : tie.Need-shared-slice-read-falls Inv-loop μ-loop
+shared-slice-read-falls c = omega arith
 
-mul-if1-2 : tie.Need-mul-if1-2 Inv-loop μ-loop
-mul-if1-2 c = omega arith
+mul-falls-2 : tie.Need-mul-falls-2 Inv-loop μ-loop
+mul-falls-2 c = omega arith
 
-shared-slice-read-if1-2 : tie.Need-shared-slice-read-if1-2 Inv-loop μ-loop
-shared-slice-read-if1-2 c = omega arith
-
-returns : tie.Need-returns Inv-loop μ-loop
-unfolding falling
-returns c = some-found _ _ _ (c .before .before .before .loop-test .taken) (lt-ltb _ _ (c .if1 .taken))
+shared-slice-read-falls-2 : tie.Need-shared-slice-read-falls-2 Inv-loop μ-loop
+shared-slice-read-falls-2 c = omega arith
 
 add-i : tie.Need-add-i Inv-loop μ-loop
 add-i c = omega arith
@@ -45,11 +40,11 @@ loop-less : tie.Need-loop-less Inv-loop μ-loop
 loop-less c = omega arith
 
 loop-again : tie.Need-loop-again Inv-loop μ-loop
-loop-again c = (omega arith, none-more _ _ (c .before .before .before .before .loop .inv .1) (le-ltb _ _ (c .if1 .left)))
+loop-again c = (omega arith, some-more _ _ (c .before .before .before .loop .inv .1) refl)
 
-returns-2 : tie.Need-returns-2 Inv-loop μ-loop
+returns : tie.Need-returns Inv-loop μ-loop
 unfolding falling
-returns-2 c = none-left _ _ _ (c .before .loop .inv .1) (omega arith)
+returns c = c .before .loop .inv .1 ∙ ap (some-below _) (omega arith)
 
 pub is-falling-spec : {M : Type 1} → statement M
 is-falling-spec =
@@ -58,13 +53,12 @@ is-falling-spec =
     Inv-loop
     μ-loop
     loop-holds
-    add-if1
-    mul-if1
-    shared-slice-read-if1
-    mul-if1-2
-    shared-slice-read-if1-2
-    returns
+    add-falls
+    mul-falls
+    shared-slice-read-falls
+    mul-falls-2
+    shared-slice-read-falls-2
     add-i
     loop-less
     loop-again
-    returns-2)
+    returns)
