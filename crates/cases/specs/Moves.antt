@@ -1,8 +1,8 @@
--- The bench cases of the move graph: P1 to P8 of 01, and further ones. Assumes nothing.
+-- The bench cases of the move graph: P1 to P8 of 01, and further ones; those of loading alone are in Loadings. Assumes nothing.
 use Prim.Native.Nat.{ℕ}
 use mathlib.Core.List.{List, [], _∷_, _++_}
 use lib.ListN.{replicate}
-use Rattle.move_ledger.specs.Graph.{Load, none}
+use Rattle.move_ledger.specs.Graph.{none}
 use Rattle.move_ledger.specs.Answer.{Answer, refused, acyclic, cyclic, accepted, rejected, set, number, edge}
 use Rattle.move_ledger.specs.Answer as answer
 use Rattle.move_ledger.specs.Ledger.{Ledger, try-move, asks, atom-set, atom-count, multiplicity, edge-count, edge-at}
@@ -12,11 +12,15 @@ abbrev nobody : ℕ → List ℕ
 nobody n = replicate n none
 
 -- no atom is fixed
-abbrev free : ℕ → List ℕ
+abbrev pub free : ℕ → List ℕ
 free n = replicate n 0
 
-abbrev kept : List ℕ → List ℕ → Ledger
+abbrev pub kept : List ℕ → List ℕ → Ledger
 kept place registered = record { place = place; registered = registered }
+
+-- an accepted move, with how many edges appeared and vanished
+abbrev moves : ℕ → ℕ → Answer
+moves come gone = accepted (record { appeared = come; vanished = gone })
 
 -- an edge answered
 abbrev found : ℕ → ℕ → ℕ → Answer
@@ -35,7 +39,7 @@ P1 =
       expected =
           record {
             start = acyclic;
-            replies = accepted ∷ rejected ∷ number 1 ∷ found 2 1 1 ∷ answer.none ∷ set (1 ∷ 0 ∷ 0 ∷ 0 ∷ []) ∷ [];
+            replies = moves 1 2 ∷ rejected ∷ number 1 ∷ found 2 1 1 ∷ answer.none ∷ set (1 ∷ 0 ∷ 0 ∷ 0 ∷ []) ∷ [];
             end = kept (1 ∷ 1 ∷ 2 ∷ []) (3 ∷ 1 ∷ 2 ∷ []);
           };
     }
@@ -63,7 +67,7 @@ P3 =
       sets = 1 ∷ 2 ∷ [];
       size = 16384;
       calls = try-move 0 (3 ∷ []) ∷ try-move 0 (2 ∷ []) ∷ [];
-      expected = record { start = cyclic; replies = rejected ∷ accepted ∷ []; end = kept (2 ∷ 2 ∷ []) (1 ∷ 2 ∷ 3 ∷ []) };
+      expected = record { start = cyclic; replies = rejected ∷ moves 0 2 ∷ []; end = kept (2 ∷ 2 ∷ []) (1 ∷ 2 ∷ 3 ∷ []) };
     }
 
 -- "a second such pair beside it, sets 4 and 8: every move that isn't refused is rejected": each of 4 atoms to each of 16 sets, by step 1,
@@ -108,7 +112,7 @@ P6 =
       sets = 3 ∷ 5 ∷ [];
       size = 16384;
       calls = try-move 0 (4 ∷ []) ∷ [];
-      expected = record { start = acyclic; replies = accepted ∷ []; end = kept (4 ∷ 5 ∷ []) (3 ∷ 5 ∷ 4 ∷ []) };
+      expected = record { start = acyclic; replies = moves 1 1 ∷ []; end = kept (4 ∷ 5 ∷ []) (3 ∷ 5 ∷ 4 ∷ []) };
     }
 
 -- "a repeated dependency: multiplicity 2"
@@ -162,7 +166,7 @@ evicting =
       expected =
           record {
             start = acyclic;
-            replies = rejected ∷ accepted ∷ accepted ∷ rejected ∷ accepted ∷ accepted ∷ accepted ∷ refused 10 ∷ refused 11 ∷ refused 12 ∷ [];
+            replies = rejected ∷ moves 1 1 ∷ moves 0 1 ∷ rejected ∷ moves 1 0 ∷ moves 1 1 ∷ moves 1 1 ∷ refused 10 ∷ refused 11 ∷ refused 12 ∷ [];
             end = kept (1 ∷ 6 ∷ []) (1 ∷ 3 ∷ 6 ∷ []);
           };
     }
@@ -228,7 +232,7 @@ fixing =
                 ∷ set (1 ∷ 0 ∷ 0 ∷ 0 ∷ [])
                 ∷ refused 11
                 ∷ refused 12
-                ∷ accepted
+                ∷ moves 0 2
                 ∷ [];
             end = kept (1 ∷ 1 ∷ []) (1 ∷ 2 ∷ []);
           };
@@ -297,7 +301,7 @@ two-numbers =
                 ∷ found 18446744073709551616 5 2
                 ∷ found 18446744073709551617 5 1
                 ∷ answer.none
-                ∷ accepted
+                ∷ moves 0 1
                 ∷ number 0
                 ∷ number 2
                 ∷ number 2
@@ -306,33 +310,19 @@ two-numbers =
           };
     }
 
--- not of 01: each row of loading. Two atoms, one dependency, two bits, sets 1 and 2 pass; each other case changes one thing, and what comes
--- later in the table may be wrong too
-abbrev lent : List ℕ → List ℕ → List ℕ → Load
-lent starts dependencies hosts = record { A = 2; D = 1; E = 2; starts = starts; dependencies = dependencies; hosts = hosts }
-
-abbrev pub marked : Load → List ℕ → ℕ → List ℕ → ℕ → Answer → MoveCase
-marked load fixed N sets size answer =
-    record { load = load; fixed = fixed; N = N; sets = sets; size = size; calls = []; expected = record { start = answer; replies = []; end = kept sets sets } }
-
-abbrev pub loads : Load → ℕ → List ℕ → ℕ → Answer → MoveCase
-loads load N sets size answer = marked load (free 2) N sets size answer
-
-abbrev pub loadings : List MoveCase
-loadings =
-    loads (lent (0 ∷ 1 ∷ 1 ∷ []) (1 ∷ []) (none ∷ 1 ∷ [])) 3 (1 ∷ 2 ∷ []) 225 acyclic
-    ∷ loads (lent (0 ∷ 1 ∷ 1 ∷ []) (1 ∷ []) (none ∷ 1 ∷ [])) 2 (1 ∷ 2 ∷ []) 225 (refused 1)
-    ∷ loads (lent (0 ∷ 1 ∷ 1 ∷ []) (1 ∷ 0 ∷ []) (none ∷ 1 ∷ [])) 3 (1 ∷ 2 ∷ []) 0 (refused 2)
-    ∷ marked (lent (0 ∷ 1 ∷ 1 ∷ []) (1 ∷ []) (none ∷ 1 ∷ [])) (free 1) 3 (1 ∷ 2 ∷ []) 0 (refused 2)
-    ∷ marked (lent (0 ∷ 1 ∷ 1 ∷ []) (1 ∷ []) (none ∷ 1 ∷ [])) (free 3) 3 (1 ∷ 2 ∷ []) 0 (refused 2)
-    ∷ marked (lent (0 ∷ 1 ∷ 1 ∷ []) (1 ∷ []) (none ∷ 1 ∷ [])) (free 1) 2 (1 ∷ 2 ∷ []) 0 (refused 1)
-    ∷ loads (lent (0 ∷ 1 ∷ 2 ∷ []) (1 ∷ []) (none ∷ 1 ∷ [])) 3 (1 ∷ 2 ∷ []) 224 (refused 3)
-    ∷ loads (lent (0 ∷ 1 ∷ 2 ∷ []) (2 ∷ []) (none ∷ 1 ∷ [])) 3 (1 ∷ 2 ∷ []) 225 (refused 4)
-    ∷ loads (lent (0 ∷ 1 ∷ 1 ∷ []) (0 ∷ []) (none ∷ 2 ∷ [])) 3 (1 ∷ 2 ∷ []) 225 (refused 5)
-    ∷ loads (lent (0 ∷ 1 ∷ 1 ∷ []) (1 ∷ []) (none ∷ 2 ∷ [])) 3 (4 ∷ 2 ∷ []) 225 (refused 6)
-    ∷ loads (lent (0 ∷ 1 ∷ 1 ∷ []) (1 ∷ []) (none ∷ 1 ∷ [])) 3 (4 ∷ 4 ∷ []) 225 (refused 7)
-    ∷ loads (lent (0 ∷ 1 ∷ 1 ∷ []) (1 ∷ []) (none ∷ 1 ∷ [])) 3 (3 ∷ 3 ∷ []) 225 (refused 8)
-    ∷ []
+-- (ii): an edge that a dependency leaves and another takes up within one move counts as neither. Atom 0 on 1 makes the edge from 6 to 5 before the move to 5,
+-- atom 2 on 0 makes it afterwards; the move before it takes the edge from 3 to 6 off
+abbrev pub returning : MoveCase
+returning =
+    record {
+      load = record { A = 3; D = 2; E = 3; starts = 0 ∷ 1 ∷ 1 ∷ 2 ∷ []; dependencies = 1 ∷ 0 ∷ []; hosts = nobody 3 };
+      fixed = free 3;
+      N = 4;
+      sets = 6 ∷ 5 ∷ 3 ∷ [];
+      size = 16384;
+      calls = try-move 2 (6 ∷ []) ∷ try-move 0 (5 ∷ []) ∷ asks (edge-at 0) ∷ asks edge-count ∷ [];
+      expected = record { start = acyclic; replies = moves 0 1 ∷ moves 0 0 ∷ found 6 5 1 ∷ number 1 ∷ []; end = kept (5 ∷ 5 ∷ 6 ∷ []) (6 ∷ 5 ∷ 3 ∷ []) };
+    }
 
 abbrev pub move-cases : List MoveCase
-move-cases = P1 ∷ P2 ∷ P3 ∷ P4 ∷ P5 ∷ P6 ∷ P7 ∷ P8 ∷ evicting ∷ outside ∷ inside ∷ fixing ∷ all-fixed ∷ vanishing ∷ two-numbers ∷ loadings
+move-cases = P1 ∷ P2 ∷ P3 ∷ P4 ∷ P5 ∷ P6 ∷ P7 ∷ P8 ∷ evicting ∷ outside ∷ inside ∷ fixing ∷ all-fixed ∷ vanishing ∷ two-numbers ∷ returning ∷ []

@@ -54,7 +54,7 @@ impl Held {
     fn tried(&self, library: &dyn Library, atom: u32, bits: &[u64]) -> (bool, Vec<u32>) {
         let mut area = self.area.clone();
         let reply = library.try_move(&self.load, &mut area, atom, bits);
-        (reply.refusal == 0 && reply.value == 1, area)
+        (reply.refusal == 0 && reply.accepted == 1, area)
     }
 }
 
