@@ -15,3 +15,4 @@ pub mod MergeEither
 pub mod MergeSwap
 pub mod Colours
 pub mod Choice
+pub mod Finders
