@@ -59,7 +59,6 @@ says-acyclic true = (λ e. absurd (true≢false (ap is-cyclic e)), λ e. absurd 
 says-acyclic false = (λ e. refl, λ e. refl)
 
 flag-verdict : (b : Bool) → cond (eqb (ind (not b)) 0) answer.cyclic acyclic ≡ cond b answer.cyclic acyclic
-unfolding ind
 flag-verdict true = refl
 flag-verdict false = refl
 
