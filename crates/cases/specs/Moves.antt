@@ -53,8 +53,7 @@ P2 =
       expected = record { start = acyclic; replies = []; end = kept [] [] };
     }
 
--- "atoms 0 and 1 depend on each other, sets 1, 2, no hosts: cyclic; 0 to set 2 accepted"; before it, inside the component: rejected, its target registered;
--- (x): the verdict before, between and after
+-- "atoms 0 and 1 depend on each other, sets 1, 2, no hosts: cyclic; 0 to set 2 accepted"; before it, inside the component: rejected; (x): verdicts
 abbrev pub P3 : MoveCase
 P3 =
     record {
@@ -67,8 +66,7 @@ P3 =
       expected = record { start = cyclic; replies = cyclic ∷ rejected ∷ cyclic ∷ accepted ∷ acyclic ∷ []; end = kept (2 ∷ 2 ∷ []) (1 ∷ 2 ∷ 3 ∷ []) };
     }
 
--- "a second such pair beside it, sets 4 and 8: every move that isn't refused is rejected": each of 4 atoms to each of 16 sets, by step 1,
--- so that none is registered
+-- "a second such pair beside it, sets 4 and 8: every move that isn't refused is rejected": each of 4 atoms to each of 16 sets, none registered
 abbrev pub P4 : MoveCase
 P4 =
     record {
@@ -320,8 +318,7 @@ two-numbers =
           };
     }
 
--- not of 01: each row of loading. Two atoms, one dependency, two bits, sets 1 and 2 pass; each other case changes one thing, and what comes
--- later in the table may be wrong too
+-- not of 01: each row of loading. Two atoms, one dependency, two bits, sets 1 and 2 pass; each other case changes one thing, or later ones too
 abbrev lent : List ℕ → List ℕ → List ℕ → Load
 lent starts dependencies hosts = record { A = 2; D = 1; E = 2; starts = starts; dependencies = dependencies; hosts = hosts }
 
