@@ -1,5 +1,5 @@
 -- The slots of an area's placement are what the search asks for, and what it finds is the placement's verdict. Assumes nothing.
-use Prim.Native.Nat.{ℕ, _+_, _-_, _*_, _≤_}
+use Prim.Native.Nat.{ℕ, _+_, _-_, _≤_}
 use native.Mathlib.Omega.{arith}
 use mathlib.Core.Path.{_≡_, sym, ap, subst, _∙_}
 use mathlib.Core.Bool.{Bool}
@@ -36,7 +36,7 @@ module _ {load : Load} {n : ℕ} {area s₀ t₀ l₀ out₀ colour : List ℕ} 
         targets-long = room .targets-long;
       }
 
-  pub slots-few : load .D + load .E ≤ 8448
+  slots-few : load .D + load .E ≤ 8448
   slots-few = omega (arith, can .loadable .sizes .entries, can .loadable .sizes .bits)
 
   few : length (setsIn n area) ≤ n

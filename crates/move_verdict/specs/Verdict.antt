@@ -10,7 +10,7 @@ use Rattle.move_ledger.specs.LoadLaws.{Loadable}
 use Rattle.move_area.specs.Area.{decode}
 use Rattle.move_area.specs.Checked.{Ranged}
 
--- "whether the graph has a cycle": some chunk is on a closed walk
+-- 02: "held to the closed-walk definition": some chunk of the area's placement is on a closed walk
 abbrev pub verdict : Load → ℕ → List ℕ → Bool
 verdict load n area = cyclic (edge load (decode load n area .ledger .place)) (decode load n area .ledger .place)
 
