@@ -30,6 +30,7 @@ static void atom_set(void) { refusal = nidskalm_reduced_chunk_graph_atom_set(LOA
 static void atom_count(void) { refusal = nidskalm_reduced_chunk_graph_atom_count(LOAD, bits, 4).refusal; }
 static void multiplicity(void) { refusal = nidskalm_reduced_chunk_graph_multiplicity(LOAD, bits, 4, bits, 4).refusal; }
 static void edge_count(void) { refusal = nidskalm_reduced_chunk_graph_edge_count(LOAD).refusal; }
+static void has_cycle(void) { refusal = nidskalm_reduced_chunk_graph_has_cycle(LOAD).refusal; }
 static void edge_at(void) { refusal = nidskalm_reduced_chunk_graph_edge_at(LOAD, 3).refusal; }
 
 static void merge_new(void) {
@@ -132,13 +133,26 @@ static void moves(const char *name, uint64_t atoms, uint64_t entries, uint64_t r
     tell("`multiplicity`", multiplicity);
     tell("`edge_count`", edge_count);
     tell("`edge_at`", edge_at);
+    tell("`has_cycle`", has_cycle);
     bits[3] = 0;
+}
+
+/* Each atom depends on the next, the last on the first where the path is closed: the book's search goes as deep as there are atoms. */
+static void path(const char *name, int closed) {
+    a = A, d = closed ? A : A - 1, n = N;
+    for (uint32_t i = 0; i < A; i++) starts[i] = i, dependencies[i] = (i + 1) % A;
+    starts[A] = (uint32_t)d;
+    printf("\nMove graph, %s\n\n| call | stack |\n|---|---|\n", name);
+    tell("`new`", move_new);
+    tell("`has_cycle`", has_cycle);
 }
 
 int main(void) {
     moves("48 atoms, 96 dependencies, N = 96", 48, 96, 96, 0);
     moves("512 atoms, 8,192 dependencies, N = 1,024, acyclic", A, D, N, 0);
     moves("512 atoms, 8,192 dependencies, N = 1,024, cyclic", A, D, N, 1);
+    path("512 atoms in a row, N = 1,024", 0);
+    path("512 atoms in a ring, N = 1,024", 1);
     printf("\nMerge graph, C = 1,024, %d sets named\n\n| call | stack |\n|---|---|\n", NAMED);
     module_starts[1] = 1;
     tell("`new`", merge_new);

@@ -177,6 +177,16 @@ nidskalm_edge_reply nidskalm_reduced_chunk_graph_edge_at(
     const uint32_t *area, size_t area_length,
     uint64_t k);
 
+/* Whether the chunk graph of the placement has a cycle, found by a search of its own in the textbook's manner; no flag of
+ * the area is read for it. Value 0 acyclic, 1 cyclic. */
+nidskalm_reply nidskalm_reduced_chunk_graph_has_cycle(
+    uint64_t a, uint64_t d, uint64_t e, uint64_t n,
+    const uint32_t *starts, size_t starts_length,
+    const uint32_t *dependencies, size_t dependencies_length,
+    const uint32_t *hosts, size_t hosts_length,
+    const uint32_t *fixed, size_t fixed_length,
+    const uint32_t *area, size_t area_length);
+
 /* ---- The merge graph ----
  *
  * Every call is lent its sizes: room for C chunks, M modules, room for L list entries, E entry bits. The area has at

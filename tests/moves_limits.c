@@ -28,6 +28,11 @@ static void moved(const char *name, load x, uint32_t *area, size_t length, uint3
     say(name, reply.refusal != 0 ? row(told) : 200 - 100 * reply.accepted);
 }
 
+static void judged(const char *name, load x, const uint32_t *area, size_t length) {
+    nidskalm_reply reply = nidskalm_reduced_chunk_graph_has_cycle(LENT(x), area, length);
+    say(name, reply.refusal != 0 ? row(reply) : 100 + 100 * reply.value);
+}
+
 /* 0, 1, 2, .. */
 static void number(uint64_t *list, size_t length) {
     for (size_t i = 0; i < length; i++) {
@@ -209,6 +214,37 @@ static void fixed_atoms(void) {
     say("of atom 1", flags[1]);
 }
 
+/* Whether there is a cycle: no atom, two that depend on each other, 512 in a row, without and with the last one's dependency on the
+ * first, and the rows 1 to 6 and 9. The acyclic flag of three nodes is number 11 = 3×3 + 2. */
+static void verdicts(void) {
+    static uint32_t area[NIDSKALM_MOVE_AREA(512, 512, 10, 1024)], starts[513], dependencies[512];
+    static uint64_t sets[512];
+    const uint32_t both[] = {0, 1, 2}, each_other[] = {1, 0}, itself[] = {0, 0}, host[] = {2, NIDSKALM_NONE}, falling[] = {0, 2, 1};
+    load x = {0, 0, 0, 1, zeros, zeros, nobody, zeros};
+    loaded("no atom", x, sets, 0, area, 100);
+    judged("has it a cycle", x, area, 100);
+    for (uint32_t i = 0; i < 512; i++) starts[i] = i, dependencies[i] = (i + 1) % 512, sets[i] = i;
+    x = (load){2, 2, 2, 3, both, each_other, nobody, zeros};
+    loaded("two that depend on each other", x, sets + 1, 2, area, LENGTH(area));
+    judged("have they a cycle", x, area, LENGTH(area));
+    moved("one joins the other", x, area, LENGTH(area), 0, sets + 2, 1);
+    judged("have they one now", x, area, LENGTH(area));
+    area[11] = 0;
+    judged("with the flag of a cycle", x, area, LENGTH(area));
+    area[11] = 1;
+    judged("one number short", x, area, NIDSKALM_MOVE_AREA(2, 2, 2, 3) - 1);
+    judged("room for two sets", (load){2, 2, 2, 2, both, each_other, nobody, zeros}, area, LENGTH(area));
+    judged("falling starts", (load){2, 2, 2, 3, falling, each_other, nobody, zeros}, area, LENGTH(area));
+    judged("a dependency on itself", (load){2, 2, 2, 3, both, itself, nobody, zeros}, area, LENGTH(area));
+    judged("a host that is no atom", (load){2, 2, 2, 3, both, each_other, host, zeros}, area, LENGTH(area));
+    for (uint32_t d = 511; d <= 512; d++) {
+        starts[512] = d;
+        x = (load){512, d, 10, 1024, starts, dependencies, nobody, zeros};
+        loaded("512 atoms in a row", x, sets, 512, area, LENGTH(area));
+        judged("have they a cycle", x, area, LENGTH(area));
+    }
+}
+
 int main(void) {
     most_atoms();
     month_of_moves();
@@ -221,5 +257,6 @@ int main(void) {
     sizes();
     last_mark();
     fixed_atoms();
+    verdicts();
     return 0;
 }

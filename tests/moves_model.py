@@ -12,8 +12,8 @@ import subprocess
 import sys
 
 ATOMS, ROOM, ENTRIES, BITS = 48, 96, 128, 16
-PHASES = {0x10: False, 0x11: False, 0x12: False, 0x13: False, 0x20: True, 0x21: True, 0x22: True}
-OPERANDS = {0x10: 1, 0x11: 2, 0x12: 2, 0x13: 0, 0x20: 2, 0x21: 0, 0x22: 1}
+PHASES = {0x10: False, 0x11: False, 0x12: False, 0x13: False, 0x20: True, 0x21: True, 0x22: True, 0x23: True}
+OPERANDS = {0x10: 1, 0x11: 2, 0x12: 2, 0x13: 0, 0x20: 2, 0x21: 0, 0x22: 1, 0x23: 0}
 
 
 def reached(edges, start):
@@ -26,6 +26,17 @@ def reached(edges, start):
                 found.add(target)
                 todo.append(target)
     return found
+
+
+def looped(edges):
+    """Whether edges are left once those to chunks that no edge leaves are taken away, again and again."""
+    left = set(edges)
+    while True:
+        sources = {source for source, _ in left}
+        kept = {(source, target) for source, target in left if target in sources}
+        if kept == left:
+            return bool(left)
+        left = kept
 
 
 class Graph:
@@ -105,8 +116,10 @@ def execute(graph, command, x, y, lines):
         edges = graph.edges(graph.place)
         lines += [f"{source} {target} {edges[source, target]}" for source, target in sorted(edges)]
         lines.append(f"edges {len(edges)}")
-    else:
+    elif command == 0x22:
         lines.append(str(graph.place[x]) if x < atoms else "refused 10")
+    else:
+        lines.append("cyclic" if looped(graph.edges(graph.place)) else "acyclic")
 
 
 def printed(data):
@@ -152,11 +165,13 @@ def cases(root):
 
 
 def large(example):
-    """P1's load, then 30,000 moves, questions and listings: input and output go through several blocks."""
+    """P1's load, then 30,000 moves, questions, verdicts and listings: input and output go through several blocks."""
     data = bytearray(example[: example.index(0x13) + 1])
     for k in range(30000):
         if k % 100 == 99:
             data.append(0x21)
+        elif k % 100 == 98:
+            data.append(0x23)
         elif k % 3 == 2:
             data += bytes([0x22, k % 4, 0])
         else:

@@ -103,6 +103,11 @@ pub fn reduced_chunk_graph_edge_at(load: &Load, n: u64, area: &[u32], k: u64) ->
     with_load!(nidskalm_reduced_chunk_graph_edge_at, load, n, area.as_ptr(), area.len(), k)
 }
 
+/// Whether there is a cycle, by the book's search: value 0 acyclic, 1 cyclic.
+pub fn reduced_chunk_graph_has_cycle(load: &Load, n: u64, area: &[u32]) -> Reply {
+    with_load!(nidskalm_reduced_chunk_graph_has_cycle, load, n, area.as_ptr(), area.len())
+}
+
 /// Loads a merge graph. `sets` holds the named sets' numbers, as many for each as the entry bits need.
 pub fn chunk_optimization_graph_new(
     size: Size,

@@ -155,6 +155,23 @@ impl<'a> MoveGraph<'a> {
         Refusal::check(reply.refusal, (reply.found == 1).then_some(edge))
     }
 
+    /// Whether the graph has a cycle now, found by a search of its own in the textbook's manner.
+    ///
+    /// ```
+    /// use nidskalm::{EntrySet, Load, MoveGraph, NONE};
+    ///
+    /// let load = Load { starts: &[0, 1, 2], dependencies: &[1, 0], hosts: &[NONE, NONE], fixed: &[0, 0] };
+    /// let mut graph = MoveGraph::new(load, 3, &[EntrySet::from(1), EntrySet::from(2)])?;
+    /// assert!(graph.has_cycle()?);
+    /// assert!(graph.try_move(0, EntrySet::from(2))?.accepted);
+    /// assert!(!graph.has_cycle()?);
+    /// # Ok::<(), nidskalm::Refusal>(())
+    /// ```
+    pub fn has_cycle(&self) -> Result<bool, Refusal> {
+        let reply = lent::reduced_chunk_graph_has_cycle(&self.load, self.sets, &self.area);
+        Refusal::check(reply.refusal, reply.value == 1)
+    }
+
     /// All edges in the order of [`edge_at`](Self::edge_at).
     pub fn edges(&self) -> Result<Vec<Edge>, Refusal> {
         let mut edges = vec![];

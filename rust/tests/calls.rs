@@ -36,6 +36,36 @@ fn moves_and_questions() {
     assert_eq!(graph.edge_count(), Ok(1));
     assert_eq!(graph.edges(), Ok(vec![Edge { from: set(2), to: set(1), multiplicity: 1 }]));
     assert_eq!(graph.edge_at(1), Ok(None));
+    assert_eq!(graph.has_cycle(), Ok(false));
+}
+
+#[test]
+fn the_book_s_search() {
+    let load = Load { starts: &[0, 1, 2, 2], dependencies: &[1, 0], hosts: &[2, NONE], fixed: &[0, 0, 0] };
+    let mut graph = MoveGraph::new(load, 4, &[set(3), set(1), set(2)]).unwrap();
+    assert!(graph.cyclic_at_loading());
+    assert_eq!(graph.has_cycle(), Ok(true));
+    assert_eq!(graph.try_move(2, set(0)), REJECTED);
+    assert_eq!(graph.has_cycle(), Ok(true));
+    assert!(graph.try_move(0, set(1)).unwrap().accepted);
+    assert_eq!(graph.has_cycle(), Ok(false));
+}
+
+#[test]
+fn the_book_s_search_is_refused_as_every_question() {
+    let mut area = vec![0; lent::move_area_length(&LOAD, 4).unwrap()];
+    assert_eq!(lent::reduced_chunk_graph_new(&LOAD, 4, &[3, 1, 2], &mut area).refusal, 0);
+    let refusal = |load: &Load, n: u64, area: &[u32]| lent::reduced_chunk_graph_has_cycle(load, n, area).refusal;
+    assert_eq!(refusal(&LOAD, 4, &area), 0);
+    assert_eq!(refusal(&LOAD, 3, &area), 1);
+    assert_eq!(refusal(&Load { fixed: &[0, 0], ..LOAD }, 4, &area), 2);
+    assert_eq!(refusal(&LOAD, 4, &area[1..]), 3);
+    assert_eq!(refusal(&Load { starts: &[0, 1, 0, 2], ..LOAD }, 4, &area), 4);
+    assert_eq!(refusal(&Load { dependencies: &[0, 2], ..LOAD }, 4, &area), 5);
+    assert_eq!(refusal(&Load { hosts: &[1, 3], ..LOAD }, 4, &area), 6);
+    // The acyclic flag is kept in number 18 = 4×4 + 2.
+    area[18] = 0;
+    assert_eq!(refusal(&LOAD, 4, &area), 9);
 }
 
 #[test]

@@ -5,7 +5,7 @@ use lib.ListN.{replicate}
 use Rattle.move_ledger.specs.Graph.{none}
 use Rattle.move_ledger.specs.Answer.{Answer, refused, acyclic, cyclic, accepted, rejected, set, number, edge}
 use Rattle.move_ledger.specs.Answer as answer
-use Rattle.move_ledger.specs.Ledger.{Ledger, try-move, asks, atom-set, atom-count, multiplicity, edge-count, edge-at}
+use Rattle.move_ledger.specs.Ledger.{Ledger, try-move, asks, atom-set, atom-count, multiplicity, edge-count, edge-at, has-cycle}
 use Rattle.cases.specs.Run.{MoveCase, every, shut}
 
 abbrev nobody : ℕ → List ℕ
@@ -57,7 +57,7 @@ P2 =
       expected = record { start = acyclic; replies = []; end = kept [] [] };
     }
 
--- "atoms 0 and 1 depend on each other, sets 1, 2, no hosts: cyclic; 0 to set 2 accepted"; before it, inside the component: rejected, its target registered
+-- "atoms 0 and 1 depend on each other, sets 1, 2, no hosts: cyclic; 0 to set 2 accepted"; before it, inside the component: rejected; (x): verdicts
 abbrev pub P3 : MoveCase
 P3 =
     record {
@@ -66,8 +66,8 @@ P3 =
       N = 3;
       sets = 1 ∷ 2 ∷ [];
       size = 16384;
-      calls = try-move 0 (3 ∷ []) ∷ try-move 0 (2 ∷ []) ∷ [];
-      expected = record { start = cyclic; replies = rejected ∷ moves 0 2 ∷ []; end = kept (2 ∷ 2 ∷ []) (1 ∷ 2 ∷ 3 ∷ []) };
+      calls = asks has-cycle ∷ try-move 0 (3 ∷ []) ∷ asks has-cycle ∷ try-move 0 (2 ∷ []) ∷ asks has-cycle ∷ [];
+      expected = record { start = cyclic; replies = cyclic ∷ rejected ∷ cyclic ∷ moves 0 2 ∷ acyclic ∷ []; end = kept (2 ∷ 2 ∷ []) (1 ∷ 2 ∷ 3 ∷ []) };
     }
 
 -- "a second such pair beside it, sets 4 and 8: every move that isn't refused is rejected": each of 4 atoms to each of 16 sets, by step 1,
@@ -251,6 +251,19 @@ all-fixed =
       expected = record { start = cyclic; replies = refused 24 ∷ refused 24 ∷ number 2 ∷ []; end = kept (1 ∷ 2 ∷ []) (1 ∷ 2 ∷ []) };
     }
 
+-- (x): atom 1 depends on atom 0 and hosts bit 0: the facade edge from set 1 closes a cycle, until both share it
+abbrev pub facade-verdict : MoveCase
+facade-verdict =
+    record {
+      load = record { A = 2; D = 1; E = 2; starts = 0 ∷ 0 ∷ 1 ∷ []; dependencies = 0 ∷ []; hosts = 1 ∷ none ∷ [] };
+      fixed = free 2;
+      N = 3;
+      sets = 1 ∷ 2 ∷ [];
+      size = 16384;
+      calls = asks has-cycle ∷ try-move 1 (1 ∷ []) ∷ asks has-cycle ∷ [];
+      expected = record { start = cyclic; replies = cyclic ∷ moves 0 2 ∷ acyclic ∷ []; end = kept (1 ∷ 1 ∷ []) (1 ∷ 2 ∷ []) };
+    }
+
 -- not of 01: edges in the order of their sets, which isn't that of the atoms; and a move that takes a facade edge off with its set's last atom,
 -- while the cycle that the graph has stays
 abbrev pub vanishing : MoveCase
@@ -325,4 +338,4 @@ returning =
     }
 
 abbrev pub move-cases : List MoveCase
-move-cases = P1 ∷ P2 ∷ P3 ∷ P4 ∷ P5 ∷ P6 ∷ P7 ∷ P8 ∷ evicting ∷ outside ∷ inside ∷ fixing ∷ all-fixed ∷ vanishing ∷ two-numbers ∷ returning ∷ []
+move-cases = P1 ∷ P2 ∷ P3 ∷ P4 ∷ P5 ∷ P6 ∷ P7 ∷ P8 ∷ evicting ∷ outside ∷ inside ∷ fixing ∷ all-fixed ∷ facade-verdict ∷ vanishing ∷ two-numbers ∷ returning ∷ []

@@ -19,3 +19,4 @@ pub mod MergeEither
 pub mod MergeSwap
 pub mod Colours
 pub mod Choice
+pub mod Finders

@@ -98,13 +98,15 @@ move load fixed N l a s =
     let x = decide load fixed (l .place) a s in
     gives x (cond (tried load fixed (l .place) a s) (cond (is-accepted x) (step3 load N l a (value s)) (step2 load N l (value s))) l)
 
--- "Public questions also give an atom's set, a set's atom count, one edge's multiplicity (..), the number of distinct edges, and the k-th edge, from 0"
+-- "Public questions also give an atom's set, a set's atom count, one edge's multiplicity (..), the number of distinct edges, and the k-th edge, from 0";
+-- 02: whether there is a cycle, by "a second finder of cycles in the textbook's manner"
 pub data Question : Type 0 where
   atom-set : ℕ → Question
   atom-count : List ℕ → Question
   multiplicity : List ℕ → List ℕ → Question
   edge-count : Question
   edge-at : ℕ → Question
+  has-cycle : Question
 
 -- the k-th edge; "past the last edge the answer is none"
 unfoldable pub kth : List Edge → ℕ → Answer
@@ -119,6 +121,7 @@ ask load place (atom-count s) = cond (legal (load .E) s) (answer.number (members
 ask load place (multiplicity s t) = cond (legal (load .E) s && legal (load .E) t) (answer.number (mult load place (value s) (value t))) (refused 11)
 ask load place edge-count = answer.number (length (edges load place))
 ask load place (edge-at k) = kth (edges load place) k
+ask load place has-cycle = cond (cyclic (edge load place) place) answer.cyclic answer.acyclic
 
 -- "A move list holds moves and public questions, refused ones too"
 pub data Call : Type 0 where

@@ -26,16 +26,23 @@ pub fn is_refused(r: LoadAnswer) -> bool
     }
 }
 
+pub fn put_verdict(out: &mut [u8], at: usize, r: LoadAnswer) -> usize
+    requires { ⌜ at + 64 ≤ length (now out) ⌝ }
+    ensures { λ p. ⌜ Put (reply (ofLoad r)) (now (out .entry)) at (now (out .exit)) p ⌝ }
+{
+    match r {
+        LoadAnswer::Acyclic => put(out, at, b"acyclic\n"),
+        LoadAnswer::Cyclic => put(out, at, b"cyclic\n"),
+        LoadAnswer::Refused(row) => put_refused(out, at, row),
+    }
+}
+
 pub fn put_load(out: &mut [u8], at: usize, r: LoadAnswer) -> usize
     requires { ⌜ at + 128 ≤ length (now out) ⌝ }
     ensures { λ p. ⌜ Put (load-reply (ofLoad r)) (now (out .entry)) at (now (out .exit)) p ⌝ }
 {
     let p = put(out, at, b"load ");
-    match r {
-        LoadAnswer::Acyclic => put(out, p, b"acyclic\n"),
-        LoadAnswer::Cyclic => put(out, p, b"cyclic\n"),
-        LoadAnswer::Refused(row) => put_refused(out, p, row),
-    }
+    put_verdict(out, p, r)
 }
 
 pub fn put_move(out: &mut [u8], at: usize, r: MoveAnswer) -> usize

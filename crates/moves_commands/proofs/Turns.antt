@@ -10,12 +10,12 @@ use borrow.Author.Tests.{le-leb, lt-leb, eq-eqb, ne-eqb}
 use Rattle.graphs.specs.Tab.{tab}
 use Rattle.layout.specs.Patch.{patch}
 use Rattle.move_ledger.specs.Answer.{Answer, refused, is-refused}
-use Rattle.move_ledger.specs.Ledger.{atom-set}
+use Rattle.move_ledger.specs.Ledger.{atom-set, has-cycle}
 use Rattle.moves_replies.specs.Words.{reply, load-reply}
 use Rattle.moves_replies.specs.Room.{Put, put-as, put-none}
 use Rattle.moves_load_commands.specs.declared.Machine.{Machine}
 use Rattle.moves_load_commands.specs.Machine.{done, start, Reading, reading, read, taken}
-use Rattle.moves_commands.specs.Program.{State, Turn, areas, lent, begun, listing, load, move, edges, set-of, with-machine, quiet, execute, step}
+use Rattle.moves_commands.specs.Program.{State, Turn, areas, lent, begun, listing, load, move, edges, set-of, cycle, with-machine, quiet, execute, step}
 use Rattle.moves_commands.specs.Steps.{Stepped, held}
 
 module _ (m : Machine) (sets sources dependencies hosts starts area : List ℕ) {machine : Machine} {out out′ : List ℕ} {at p : ℕ} where
@@ -49,6 +49,11 @@ module _ (m : Machine) (sets sources dependencies hosts starts area : List ℕ) 
   unfolding set-of
   set-steps e₁ e₂ w = record { after = rw e₂ refl; put = put-as (ap reply e₁) w }
 
+  pub cycle-steps : {a : Answer} → a ≡ areas .asks (lent m dependencies starts hosts) area has-cycle → machine ≡ done m → Put (reply a) out at out′ p
+      → Stepped (cycle areas (held m sets sources dependencies hosts starts area)) (held machine sets sources dependencies hosts starts area) out at out′ p
+  unfolding cycle
+  cycle-steps e₁ e₂ w = record { after = rw e₂ refl; put = put-as (ap reply e₁) w }
+
 -- one turn for another
 stepped-as : {t u : Turn (List ℕ)} {st : State (List ℕ)} {out out′ : List ℕ} {at p : ℕ} → t ≡ u → Stepped t st out at out′ p → Stepped u st out at out′ p
 stepped-as e v = rw e at v
@@ -70,11 +75,20 @@ module _ (s : State (List ℕ)) {st : State (List ℕ)} {out out′ : List ℕ} 
       (rw (lt-leb (s .reading .machine .command) 18 (omega arith), ne-eqb (s .reading .machine .command) 19 (omega arith), ne-eqb (s .reading .machine .command) 32 (omega arith), eq-eqb (s .reading .machine .command) 33 e) refl)
       v
 
-  pub execute-set : 18 < s .reading .machine .command → (s .reading .machine .command ≡ 19 → ⊥) → (s .reading .machine .command ≡ 32 → ⊥) → (s .reading .machine .command ≡ 33 → ⊥)
-      → Stepped (set-of areas s) st out at out′ p → Stepped (execute areas s) st out at out′ p
+  pub execute-set : s .reading .machine .command ≡ 34 → Stepped (set-of areas s) st out at out′ p → Stepped (execute areas s) st out at out′ p
   unfolding execute
-  execute-set h a b c v =
-      stepped-as (rw (lt-leb (s .reading .machine .command) 18 h, ne-eqb (s .reading .machine .command) 19 a, ne-eqb (s .reading .machine .command) 32 b, ne-eqb (s .reading .machine .command) 33 c) refl) v
+  execute-set e v =
+      stepped-as
+      (rw (lt-leb (s .reading .machine .command) 18 (omega arith), ne-eqb (s .reading .machine .command) 19 (omega arith), ne-eqb (s .reading .machine .command) 32 (omega arith), ne-eqb (s .reading .machine .command) 33 (omega arith), eq-eqb (s .reading .machine .command) 34 e) refl)
+      v
+
+  pub execute-cycle : 18 < s .reading .machine .command → (s .reading .machine .command ≡ 19 → ⊥) → (s .reading .machine .command ≡ 32 → ⊥) → (s .reading .machine .command ≡ 33 → ⊥)
+      → (s .reading .machine .command ≡ 34 → ⊥) → Stepped (cycle areas s) st out at out′ p → Stepped (execute areas s) st out at out′ p
+  unfolding execute
+  execute-cycle h a b c d v =
+      stepped-as
+      (rw (lt-leb (s .reading .machine .command) 18 h, ne-eqb (s .reading .machine .command) 19 a, ne-eqb (s .reading .machine .command) 32 b, ne-eqb (s .reading .machine .command) 33 c, ne-eqb (s .reading .machine .command) 34 d) refl)
+      v
 
 module _ (s : State (List ℕ)) {out out′ : List ℕ} {at p : ℕ} where
   -- 10, 11 and 12

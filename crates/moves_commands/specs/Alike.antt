@@ -10,7 +10,7 @@ use borrow.Author.Tests.{leb-true, leb-false, lt-leb, le-leb, eq-eqb, eqb-true, 
 use Rattle.graphs.specs.Bools.{or-false-left, or-left, or-right}
 use Rattle.move_ledger.specs.Graph.{Load, at, none}
 use Rattle.move_ledger.specs.Answer.{Answer, is-refused}
-use Rattle.move_ledger.specs.Ledger.{Ledger, atom-set, ask, try-move, asks, call}
+use Rattle.move_ledger.specs.Ledger.{Ledger, atom-set, has-cycle, ask, try-move, asks, call}
 use Rattle.move_ledger.specs.Loading.{loading}
 use Rattle.move_area.specs.Area.{State}
 use Rattle.move_area.specs.Calls as calls
@@ -18,7 +18,7 @@ use Rattle.move_area.specs.History.{Holding, call-area, call-step, loading-hold
 use Rattle.moves_replies.specs.Words.{reply, load-reply}
 use Rattle.moves_load_commands.specs.declared.Machine.{Machine}
 use Rattle.moves_load_commands.specs.Machine.{belongs, operand, taken, done, unnamed, Reading, reading, refuse, add-atom, depend, add-host, read}
-use Rattle.moves_commands.specs.Program.{N, unmarked, ledgers, areas, Turn, lent, listing, load, move, edges, set-of, execute, step, finish, replies, fresh, printed, started, begun, load-of, with-graph, quiet}
+use Rattle.moves_commands.specs.Program.{N, unmarked, ledgers, areas, Turn, lent, listing, load, move, edges, set-of, cycle, execute, step, finish, replies, fresh, printed, started, begun, load-of, with-graph, quiet}
 use Rattle.moves_commands.specs.Program as program
 use Rattle.moves_commands.specs.Fits.{taken-same, either}
 
@@ -58,12 +58,12 @@ both-ways P false x y u v f g = g refl
 low-phase : (c : ℕ) (moving : Bool) → leb c 19 ≡ true → belongs c moving ≡ true → moving ≡ false
 low-phase c moving h = go (leb 16 c) refl
   where
-    go : (t : Bool) → leb 16 c ≡ t → cond (t && leb c 19) (not moving) (cond (leb 32 c && leb c 34) moving false) ≡ true → moving ≡ false
+    go : (t : Bool) → leb 16 c ≡ t → cond (t && leb c 19) (not moving) (cond (leb 32 c && leb c 35) moving false) ≡ true → moving ≡ false
     go true e q = not-true moving (rw h at q)
     go false e q = absurd (true≢false (sym (rw (lt-leb 32 c (omega (arith, leb-false 16 c e))) at q)))
 
 high-phase : (c : ℕ) (moving : Bool) → leb c 19 ≡ false → belongs c moving ≡ true → moving ≡ true
-high-phase c moving h = rw h (go (leb 16 c) (leb 32 c && leb c 34))
+high-phase c moving h = rw h (go (leb 16 c) (leb 32 c && leb c 35))
   where
     go : (t u : Bool) → cond (t && false) (not moving) (cond u moving false) ≡ true → moving ≡ true
     go true true q = q
@@ -133,6 +133,10 @@ module _ {s : Reading} {starts area : List ℕ} {l : Ledger} (k : Linked s start
       unfolding set-of
       set-alike = record { reply = ap (λ f. reply (f (atom-set (s .machine .y)))) asks-alike; reading = refl; starts = refl; linked = done-linked }
 
+      cycle-alike : Alike (cycle areas (state s starts area)) (cycle ledgers (state s starts l))
+      unfolding cycle
+      cycle-alike = record { reply = ap (λ f. reply (f has-cycle)) asks-alike; reading = refl; starts = refl; linked = done-linked }
+
       move-alike : Alike (move areas (state s starts area)) (move ledgers (state s starts l))
       unfolding move call-area call
       move-alike =
@@ -177,7 +181,8 @@ module _ {s : Reading} {starts area : List ℕ} {l : Ledger} (k : Linked s start
         both-ways Alike (leb c 18) _ _ _ _ (λ e. quiet-read (low-phase c _ (le-leb c 19 (omega (arith, leb-true c 18 e))) p))
         (λ e. both-ways Alike (eqb c 19) _ _ _ _ (λ f. load-alike (low-phase c _ (le-leb c 19 (omega (arith, eqb-true c 19 f))) p))
         (λ f. let moving : s .machine .moving ≡ true = high-phase c _ (lt-leb c 19 (omega (arith, leb-false c 18 e, eqb-false c 19 f))) p in
-        both-ways Alike (eqb c 32) _ _ _ _ (λ g. move-alike moving) (λ g. both-ways Alike (eqb c 33) _ _ _ _ (λ h. edges-alike moving) (λ h. set-alike moving))))
+        both-ways Alike (eqb c 32) _ _ _ _ (λ g. move-alike moving)
+        (λ g. both-ways Alike (eqb c 33) _ _ _ _ (λ h. edges-alike moving) (λ h. both-ways Alike (eqb c 34) _ _ _ _ (λ i. set-alike moving) (λ i. cycle-alike moving)))))
       where
         quiet-read : s .machine .moving ≡ false → Alike (quiet (state (read s) starts area)) (quiet (state (read s) starts l))
         quiet-read b =

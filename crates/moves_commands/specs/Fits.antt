@@ -13,7 +13,7 @@ use Rattle.move_ledger.specs.Graph.{at, none}
 use Rattle.moves_load_commands.specs.declared.Machine.{Machine}
 use Rattle.moves_load_commands.specs.Machine.{belongs, operand, taken, inserted, unnamed, Reading, add-atom, depend, add-host, read, reading}
 use Rattle.moves_load_commands.specs.Lists.{Roomy}
-use Rattle.moves_commands.specs.Program.{Graphs, State, Turn, with-machine, load, move, edges, set-of, execute, step}
+use Rattle.moves_commands.specs.Program.{Graphs, State, Turn, with-machine, load, move, edges, set-of, cycle, execute, step}
 
 -- room for 48 atoms and 128 dependencies, 16 hosts, and no more named
 pub record Fits (s : Reading) (starts : List ℕ) : Type 0 where
@@ -147,13 +147,15 @@ taken-ready {m} {n} b f e =
 
 module _ {G : Type 0} (graphs : Graphs G) where
   execute-fits : (st : State G) → Ready st → Ready (execute graphs st .after)
-  unfolding execute load move edges set-of
+  unfolding execute load move edges set-of cycle
   execute-fits st f =
       let c = st .reading .machine .command in
       let P : Turn G → Type 0 = λ t. Ready (t .after) in
       either P (leb c 18) _ _ (λ e. read-fits f)
       (λ e. either P (eqb c 19) _ _ (λ e. record { roomy = f .roomy; for-starts = simp patch-long (f .for-starts); atoms = f .atoms; entries = f .entries })
-      (λ e. either P (eqb c 32) _ _ (λ e. same-fits f _ (refl, refl)) (λ e. either P (eqb c 33) _ _ (λ e. same-fits f _ (refl, refl)) (λ e. same-fits f _ (refl, refl)))))
+      (λ e. either P (eqb c 32) _ _ (λ e. same-fits f _ (refl, refl))
+      (λ e. either P (eqb c 33) _ _ (λ e. same-fits f _ (refl, refl))
+      (λ e. either P (eqb c 34) _ _ (λ e. same-fits f _ (refl, refl)) (λ e. same-fits f _ (refl, refl))))))
 
   pub step-fits : (st : State G) (b : ℕ) → Ready st → Ready (step graphs st b .after)
   unfolding step

@@ -9,7 +9,7 @@ use Rattle.layout.specs.Patch.{patch}
 use Rattle.move_ledger.specs.Graph.{Load, none}
 use Rattle.move_ledger.specs.Answer.{Answer, refused, is-refused, number}
 use Rattle.move_ledger.specs.Answer as answer
-use Rattle.move_ledger.specs.Ledger.{Ledger, loaded, Question, atom-set, edge-count, edge-at, ask}
+use Rattle.move_ledger.specs.Ledger.{Ledger, loaded, Question, atom-set, edge-count, edge-at, has-cycle, ask}
 use Rattle.move_ledger.specs.Ledger as ledger
 use Rattle.move_ledger.specs.Loading.{loading, entry-sets}
 use Rattle.move_area.specs.Calls.{asked}
@@ -176,6 +176,10 @@ module _ {G : Type 0} (graphs : Graphs G) where
       let m = st .reading .machine in
       record { after = with-machine st (done m); reply = reply (graphs .asks (load-of st) (st .graph) (atom-set (m .y))) }
 
+  -- 02: "command 23 (hex, after loading), which prints `cyclic` or `acyclic` by this finder"
+  unfoldable pub cycle : State G → Turn G
+  cycle st = record { after = with-machine st (done (st .reading .machine)); reply = reply (graphs .asks (load-of st) (st .graph) has-cycle) }
+
   -- a command whose operands are read
   unfoldable pub execute : State G → Turn G
   execute st =
@@ -184,7 +188,8 @@ module _ {G : Type 0} (graphs : Graphs G) where
       (cond (eqb c 19) (load st)
       (cond (eqb c 32) (move st)
       (cond (eqb c 33) (edges st)
-      (set-of st))))
+      (cond (eqb c 34) (set-of st)
+      (cycle st)))))
 
   -- a byte of the input; once the program has stopped nothing happens
   unfoldable pub step : State G → ℕ → Turn G

@@ -4,7 +4,7 @@ ghost use mathlib.Core.Path.{_≡_};
 ghost use mathlib.Core.List.{[], _∷_};
 ghost use Prim.Native.Nat.{_+_, _≤_};
 ghost use lib.ListN.{length, take};
-ghost use Rattle.move_ledger.specs.Ledger.{atom-set};
+ghost use Rattle.move_ledger.specs.Ledger.{atom-set, has-cycle};
 ghost use Rattle.reduced_chunk_graph.specs.Answers.{ofLoad, ofMove, ofSet};
 ghost use Rattle.move_rows.specs.Listed.{NodeLists, RowTold};
 ghost use Rattle.moves_commands.specs.Program.{unmarked, areas, lent};
@@ -101,6 +101,33 @@ pub(crate) fn atom_set(
         &marks[..a],
         area,
         m.y,
+    )
+}
+
+pub(crate) fn has_cycle(
+    m: Machine,
+    dependencies: &[u32],
+    starts: &[u32],
+    hosts: &[u32],
+    area: &[u32],
+) -> LoadAnswer
+    requires { ⌜ CanLend m (now dependencies) (now starts) ⌝ }
+    ensures { λ r. ⌜ ofLoad r ≡ areas .asks (lent m (now (dependencies .entry)) (now (starts .entry)) (now (hosts .entry))) (now (area .entry)) has-cycle ⌝ }
+{
+    let a = m.atoms;
+    let d = m.entries;
+    let k = a + 1;
+    let marks = [0u32; 48];
+    reduced_chunk_graph::has_cycle(
+        a,
+        d,
+        16,
+        96,
+        &starts[..k],
+        &dependencies[..d],
+        hosts,
+        &marks[..a],
+        area,
     )
 }
 

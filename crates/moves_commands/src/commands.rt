@@ -16,6 +16,7 @@ use moves_answers::is_refused;
 use moves_answers::put_load;
 use moves_answers::put_move;
 use moves_answers::put_set_answer;
+use moves_answers::put_verdict;
 use moves_load_commands::Machine;
 use moves_load_commands::done;
 use moves_load_commands::fill_starts;
@@ -122,6 +123,26 @@ fn set_of(
     Turn { machine, at: p }
 }
 
+// 23: whether there is a cycle.
+fn cycle(
+    m: Machine,
+    dependencies: &[u32],
+    starts: &[u32],
+    hosts: &[u32],
+    area: &[u32],
+    out: &mut [u8],
+    at: usize,
+) -> Turn
+    requires { ⌜ CanLend m (now dependencies) (now starts) ⌝ }
+    requires { ⌜ at + 10240 ≤ length (now out) ⌝ }
+    ensures { λ r. ⌜ ((u v : List ℕ) → Stepped (def.cycle areas (held m u v (now (dependencies .entry)) (now (hosts .entry)) (now (starts .entry)) (now (area .entry)))) (held (r .machine) u v (now (dependencies .entry)) (now (hosts .entry)) (now (starts .entry)) (now (area .entry))) (now (out .entry)) at (now (out .exit)) (r .at)) ⌝ }
+{
+    let s = calls::has_cycle(m, dependencies, starts, hosts, area);
+    let p = put_verdict(out, at, s);
+    let machine = done(m);
+    Turn { machine, at: p }
+}
+
 // A machine that has stopped is a refusal.
 pub(crate) fn quiet(m: Machine, out: &mut [u8], at: usize) -> usize
     requires { ⌜ at + 64 ≤ length (now out) ⌝ }
@@ -158,6 +179,7 @@ pub(crate) fn execute(
         0x13 => load(m, sets, sources, dependencies, starts, hosts, area, out, at),
         0x20 => move_atom(m, dependencies, starts, hosts, area, out, at),
         0x21 => edges(m, dependencies, starts, hosts, area, out, at),
-        _ => set_of(m, dependencies, starts, hosts, area, out, at),
+        0x22 => set_of(m, dependencies, starts, hosts, area, out, at),
+        _ => cycle(m, dependencies, starts, hosts, area, out, at),
     }
 }

@@ -9,13 +9,13 @@ use Rattle.layout.specs.Patch.{patch, part}
 use Rattle.move_ledger.specs.Graph.{at, none}
 use Rattle.moves_load_commands.specs.declared.Machine.{Machine}
 
--- "Commands 10 to 13 after a 13, and 20 to 22 before it, are misplaced" (hex); no other byte is a command
+-- "Commands 10 to 13 after a 13, and 20 to 22 before it, are misplaced" (hex); 02: "command 23 (hex, after loading)"; no other byte is a command
 abbrev pub belongs : ℕ → Bool → Bool
-belongs c moving = cond (leb 16 c && leb c 19) (not moving) (cond (leb 32 c && leb c 34) moving false)
+belongs c moving = cond (leb 16 c && leb c 19) (not moving) (cond (leb 32 c && leb c 35) moving false)
 
--- how many operand bytes a command has: "10 set", "11 a b", "12 e a", "13", "20 a set", "21", "22 a"
+-- how many operand bytes a command has: "10 set", "11 a b", "12 e a", "13", "20 a set", "21", "22 a", 23
 abbrev pub operand-bytes : ℕ → ℕ
-operand-bytes c = cond (eqb c 16 || eqb c 34) 2 (cond (eqb c 19 || eqb c 33) 0 4)
+operand-bytes c = cond (eqb c 16 || eqb c 34) 2 (cond (eqb c 19 || (eqb c 33 || eqb c 35)) 0 4)
 
 -- before the first byte
 abbrev pub new-machine : Machine

@@ -54,13 +54,13 @@ pub fn done(mut m: Machine) -> Machine
     m
 }
 
-// Whether a byte is a command of this phase: 10 to 13 before the load, 20 to 22 after it.
+// Whether a byte is a command of this phase: 10 to 13 before the load, 20 to 23 after it.
 fn belongs(command: u32, moving: bool) -> bool
     ensures { λ r. ⌜ r ≡ def.belongs command moving ⌝ }
 {
     match command {
         0x10..=0x13 => !moving,
-        0x20..=0x22 => moving,
+        0x20..=0x23 => moving,
         _ => false,
     }
 }
@@ -70,7 +70,7 @@ fn operand_bytes(command: u32) -> u32
 {
     match command {
         0x10 | 0x22 => 2,
-        0x13 | 0x21 => 0,
+        0x13 | 0x21 | 0x23 => 0,
         _ => 4,
     }
 }

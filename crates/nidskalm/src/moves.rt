@@ -227,3 +227,31 @@ pub extern "C" fn nidskalm_reduced_chunk_graph_edge_at(
         k,
     ))
 }
+
+// Whether there is a cycle, by the book's search: 0 where there is none, 1 where there is one.
+#[no_mangle]
+pub extern "C" fn nidskalm_reduced_chunk_graph_has_cycle(
+    a: u64,
+    d: u64,
+    e: u64,
+    n: u64,
+    starts: &[u32],
+    dependencies: &[u32],
+    hosts: &[u32],
+    fixed: &[u32],
+    area: &[u32],
+) -> Reply
+    ensures { λ r. ⌜ r ≡ move-reply (calls.asked (lent a d e (now (starts .entry)) (now (dependencies .entry)) (now (hosts .entry))) (now (fixed .entry)) n (now (area .entry)) ledger.has-cycle) ⌝ }
+{
+    of_load(reduced_chunk_graph::has_cycle(
+        a as usize,
+        d as usize,
+        e as usize,
+        n as usize,
+        starts,
+        dependencies,
+        hosts,
+        fixed,
+        area,
+    ))
+}

@@ -13,7 +13,7 @@ use Rattle.reduced_chunk_graph.specs.declared.NumberAnswer.the-variants 
 use Rattle.reduced_chunk_graph.specs.declared.EdgeAnswer.{EdgeAnswer}
 use Rattle.reduced_chunk_graph.specs.declared.EdgeAnswer.the-variants as edge
 
--- the answer of `new`
+-- the answer of `new` and `has_cycle`
 abbrev pub ofLoad : LoadAnswer → Answer
 ofLoad load.Acyclic = acyclic
 ofLoad load.Cyclic = answer.cyclic

@@ -7,14 +7,15 @@ use mathlib.Core.List.{List}
 use lib.ListN.{length, getD}
 use borrow.Author.Tests.{le-leb, lt-leb, not-true, not-false}
 use Rattle.layout.specs.Patch.{part-long, part-at}
+use Rattle.graphs.specs.Walk.{cyclic}
 use Rattle.entry_set.specs.Sets.{value, words, legal, numbers, number, Holds}
 use Rattle.entry_set.specs.SetLaws.{holds-numbers}
 use Rattle.entry_set.specs.Lanes.{lanes}
 use Rattle.entry_set.specs.declared.EntrySet.{EntrySet}
-use Rattle.move_ledger.specs.Graph.{Load, at, members, mult, edges}
+use Rattle.move_ledger.specs.Graph.{Load, at, members, mult, edge, edges}
 use Rattle.move_ledger.specs.Answer.{Answer, refused}
 use Rattle.move_ledger.specs.Answer as answer
-use Rattle.move_ledger.specs.Ledger.{Question, atom-set, atom-count, multiplicity, edge-count, edge-at, kth, ask}
+use Rattle.move_ledger.specs.Ledger.{Question, atom-set, atom-count, multiplicity, edge-count, edge-at, has-cycle, kth, ask}
 use Rattle.move_ledger.specs.LoadLaws.{Loadable, refusal-none}
 use Rattle.move_ledger.specs.NodeLaws.{placed-at}
 use Rattle.move_area.specs.Area.{setsIn, decode}
@@ -22,6 +23,7 @@ use Rattle.move_area.specs.Bodies.{laneAt, atomAt}
 use Rattle.move_area.specs.Calls.{asked}
 use Rattle.move_area.specs.Checked.{nodesIn, sets-at, consistent-ranged, consistent-worked}
 use Rattle.move_questions.specs.Answers.{placeIn, Checked}
+use Rattle.move_verdict.specs.Verdict.{CanSearch}
 use Rattle.move_rows.specs.Later.{later, turned-back, goes-on, later-legal, later-consistent}
 
 -- what is read for the set of atom i
@@ -148,3 +150,10 @@ module _ (load : Load) (fixed : List ℕ) (N : ℕ) (area : List ℕ) (q : ℕ) 
     pub edge-told : (k : ℕ) (x : Answer) → x ≡ kth (edges load (placeIn load N area)) k → x ≡ asked load fixed N area (edge-at k)
     unfolding ask
     edge-told k x e = e ∙ asked-on (edge-at k)
+
+    pub can-search : CanSearch load N area
+    can-search = record { loadable = checks .loadable; ranged = checks .ranged }
+
+    pub verdict-told : {t : Bool} → t ≡ cyclic (edge load (placeIn load N area)) (placeIn load N area) → cond t answer.cyclic answer.acyclic ≡ asked load fixed N area has-cycle
+    unfolding ask
+    verdict-told e = ap (λ u. cond u answer.cyclic answer.acyclic) e ∙ asked-on has-cycle

@@ -2,6 +2,7 @@
 mod load;
 mod moves;
 mod questions;
+mod verdict;
 
 pub use load::new;
 pub use moves::try_move;
@@ -10,8 +11,9 @@ pub use questions::atom_set;
 pub use questions::edge_at;
 pub use questions::edge_count;
 pub use questions::multiplicity;
+pub use verdict::has_cycle;
 
-// What `new` answers. `Refused` names a row of the table of refusals, here and below.
+// What `new` and `has_cycle` answer. `Refused` names a row of the table of refusals, here and below.
 pub enum LoadAnswer {
     Acyclic,
     Cyclic,

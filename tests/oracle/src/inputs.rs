@@ -44,12 +44,13 @@ impl Runner<'_> {
                 let third = MoveCall::Move { atom: random.below(a) as u32, bits: vec![random.below(4)] };
                 let edge = MoveCall::EdgeAt { k: random.below(3) };
                 let first = MoveCall::Move { atom, bits: vec![set] };
-                let calls = [first, second, MoveCall::EdgeCount, edge, third];
+                let calls = [first, second, MoveCall::EdgeCount, edge, MoveCall::HasCycle, third, MoveCall::HasCycle];
                 let calls = calls.into_iter().map(|call| (call, Damage::default())).collect();
                 self.run(&MoveCase { calls, ..case.clone() })?;
             }
         }
-        if a == 0 { self.run(case) } else { Ok(()) }
+        let calls = vec![(MoveCall::HasCycle, Damage::default())];
+        if a == 0 { self.run(&MoveCase { calls, ..case.clone() }) } else { Ok(()) }
     }
 
     fn every_small(&mut self) -> Found {

@@ -76,6 +76,7 @@ pub trait Library {
     fn multiplicity(&self, load: &Load, area: &[u32], from: &[u64], to: &[u64]) -> Reply;
     fn edge_count(&self, load: &Load, area: &[u32]) -> Reply;
     fn edge_at(&self, load: &Load, area: &[u32], k: u64) -> EdgeReply;
+    fn has_cycle(&self, load: &Load, area: &[u32]) -> Reply;
 
     fn merge_new(&self, size: Size, load: &MergeLoad, area: &mut [u32]) -> Reply;
     fn init_module(&self, size: Size, area: &mut [u32], module: u32, bits: &[u64], side_effects: &[u32]) -> Reply;
@@ -170,6 +171,10 @@ mod ours {
 
         fn edge_at(&self, load: &Load, area: &[u32], k: u64) -> EdgeReply {
             with_load!(nidskalm_reduced_chunk_graph_edge_at, load, area.as_ptr(), area.len(), k)
+        }
+
+        fn has_cycle(&self, load: &Load, area: &[u32]) -> Reply {
+            with_load!(nidskalm_reduced_chunk_graph_has_cycle, load, area.as_ptr(), area.len())
         }
 
         fn merge_new(&self, size: Size, load: &MergeLoad, area: &mut [u32]) -> Reply {

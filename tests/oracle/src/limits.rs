@@ -71,7 +71,21 @@ fn move_calls() -> Vec<MoveCall> {
         MoveCall::EdgeCount,
         MoveCall::EdgeAt { k: 0 },
         MoveCall::EdgeAt { k: 8192 },
+        MoveCall::HasCycle,
     ]
+}
+
+/// 512 atoms, each depending on the next one, the last on the first where the path is closed: the deepest walk.
+fn path(closed: bool) -> MoveCase {
+    let d = 511 + u64::from(closed);
+    let starts = (0..=512).map(|atom| atom.min(d as u32)).collect();
+    let dependencies = (0..d as u32).map(|atom| (atom + 1) % 512).collect();
+    let hosts = vec![NONE; 256];
+    let load = Load { a: 512, d, e: 256, n: 1024, starts, dependencies, hosts, fixed: vec![0; 512] };
+    let ask = || (MoveCall::HasCycle, moves_cases::Damage::default());
+    let apart = MoveCall::Move { atom: 256, bits: set(600).to_vec() };
+    let calls = vec![ask(), (apart, moves_cases::Damage::default()), ask()];
+    MoveCase { load, sets: sets(512), extra: ROOM, short: false, fill: 1, crafted: None, calls }
 }
 
 /// The loads of a case one past each limit of row 1, with their sets.
@@ -119,7 +133,7 @@ fn every_set_registered() -> MoveCase {
     move_case(1, 0, 1024, calls)
 }
 
-/// A, D, E and N at their limits and past them, N at A + 1 and below it, N sets registered.
+/// A, D, E and N at their limits and past them, N at A + 1 and below it, a path of all atoms, N sets registered.
 pub fn moves(library: Option<&dyn Library>, counts: &mut Counts) -> Result<(), Disagreement> {
     let mut check = |case: &MoveCase, row: u64| {
         let found = load_refusal(&case.load, Some(&case.sets), usize::MAX);
@@ -137,6 +151,8 @@ pub fn moves(library: Option<&dyn Library>, counts: &mut Counts) -> Result<(), D
     check(&largest, 0)?;
     check(&move_case(512, 8192, 513, move_calls()), 0)?;
     check(&move_case(512, 8192, 512, vec![]), 1)?;
+    check(&path(false), 0)?;
+    check(&path(true), 0)?;
     check(&every_set_registered(), 0)
 }
 

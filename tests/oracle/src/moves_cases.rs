@@ -29,6 +29,7 @@ pub enum MoveCall {
     EdgeAt {
         k: u64,
     },
+    HasCycle,
     /// No call: the run puts this number into the walk counter, unless that is higher.
     Counter {
         value: u32,
@@ -100,6 +101,7 @@ pub fn library_answer(library: &dyn Library, load: &Load, area: &mut [u32], call
         MoveCall::Multiplicity { from, to } => Answer::Reply(library.multiplicity(load, area, from, to)),
         MoveCall::EdgeCount => Answer::Reply(library.edge_count(load, area)),
         MoveCall::EdgeAt { k } => Answer::Edge(library.edge_at(load, area, *k)),
+        MoveCall::HasCycle => Answer::Reply(library.has_cycle(load, area)),
         MoveCall::Counter { .. } => unreachable!(),
     }
 }
@@ -112,6 +114,7 @@ pub fn model_answer(load: &Load, state: &mut MoveState, call: &MoveCall) -> Answ
         MoveCall::Multiplicity { from, to } => Answer::Reply(state.ledger().multiplicity(load, from, to)),
         MoveCall::EdgeCount => Answer::Reply(state.ledger().edge_count(load)),
         MoveCall::EdgeAt { k } => Answer::Edge(state.ledger().edge_at(load, *k)),
+        MoveCall::HasCycle => Answer::Reply(state.ledger().has_cycle(load)),
         MoveCall::Counter { .. } => unreachable!(),
     }
 }

@@ -120,6 +120,7 @@ fn random_call(random: &mut Random, sets: &[Set], load: &Load, damage: u64) -> M
         3 => MoveCall::EdgeCount,
         4 => MoveCall::EdgeAt { k: random.pick(&[0, 1, load.d, load.d + load.e, u64::MAX, 1 << 32, load.d / 2]) },
         5 => MoveCall::EdgeAt { k: random.below(load.d + 1) },
+        6 => MoveCall::HasCycle,
         _ => MoveCall::Move { atom, bits: random_bits(random, sets, load.e, wrong) },
     }
 }

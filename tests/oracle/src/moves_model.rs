@@ -155,6 +155,11 @@ impl Graph {
         reached
     }
 
+    /// "A cycle is a closed walk of at least one edge": some node reaches itself.
+    pub fn closed_walk(&self) -> bool {
+        (0..self.nodes.len()).any(|node| self.reach(node)[node])
+    }
+
     /// Sets that `set` reaches in one step or more.
     pub fn reached(&self, set: Set) -> BTreeSet<Set> {
         let reached = self.reach(self.nodes.binary_search(&set).unwrap());
@@ -262,6 +267,10 @@ impl Ledger {
         let edges = multiplicities(load, &self.place);
         let edge = usize::try_from(k).ok().and_then(|k| edges.iter().nth(k));
         edge.map_or(EdgeReply::none(), |(&(from, to), &count)| EdgeReply::edge(from, to, count.into()))
+    }
+
+    pub fn has_cycle(&self, load: &Load) -> Reply {
+        Reply::value(Graph::new(load, &self.place).closed_walk().into())
     }
 }
 

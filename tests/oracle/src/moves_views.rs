@@ -24,6 +24,7 @@ pub fn original_answer(view: &MoveView, call: &MoveCall) -> Option<Answer> {
             let edge = usize::try_from(*k).ok().and_then(|k| view.edges.get(k));
             Answer::Edge(edge.map_or(EdgeReply::none(), |&(from, to, count)| EdgeReply::edge(from, to, count.into())))
         }
+        MoveCall::HasCycle => reply((!view.acyclic).into()),
     })
 }
 

@@ -39,6 +39,7 @@ fn move_call_numbers(call: &MoveCall) -> Vec<u64> {
         MoveCall::Multiplicity { from, to } => [&[4], &from[..], &to[..]].concat(),
         MoveCall::EdgeCount => vec![5],
         MoveCall::EdgeAt { k } => vec![6, *k],
+        MoveCall::HasCycle => vec![7],
         MoveCall::Counter { .. } => unreachable!("not recorded"),
     }
 }
@@ -184,6 +185,7 @@ fn asked(case: &mut MoveCase) {
     let mut calls: Vec<MoveCall> = (0..case.load.a.min(6) as u32).map(|atom| MoveCall::AtomSet { atom }).collect();
     calls.push(MoveCall::EdgeCount);
     calls.extend((0..8.min(case.load.d + 1)).map(|k| MoveCall::EdgeAt { k }));
+    calls.push(MoveCall::HasCycle);
     case.calls.extend(calls.into_iter().map(|call| (call, moves_cases::Damage::default())));
 }
 

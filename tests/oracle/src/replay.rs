@@ -93,6 +93,7 @@ fn replay_moves(library: &dyn Library, reader: &mut Reader) -> Result<(), String
                 let (from, to, multiplicity) = (reader.set(w), reader.set(w), reader.one());
                 expect(place, ours, EdgeReply { refusal, found, ..EdgeReply::edge(from, to, multiplicity) })?;
             }
+            7 => expect(place, library.has_cycle(&load, &area), reader.reply())?,
             other => return Err(format!("no call {other}")),
         }
     }

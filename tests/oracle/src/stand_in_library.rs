@@ -3,14 +3,14 @@ use crate::layout::{MergeLayout, MoveLayout};
 use crate::library::{EdgeReply, Library, MergeLoad, MoveReply, Reply, SetReply};
 use crate::merges_calls::{self, MergeCall};
 use crate::merges_model::Size;
-use crate::moves_model::{Graph, Load, MoveState, whole};
+use crate::moves_model::{Graph, Load, MoveState, NONE, whole};
 use crate::sets::{Set, lent_set, width};
 
 /// No bug: nobody looks at these flags.
 pub const HARMLESS: &str = "loading clears the flags of chunks not yet made";
 
 /// Bugs by name; the first two are none.
-pub const PLANTS: [&str; 62] = [
+pub const PLANTS: [&str; 63] = [
     "none",
     HARMLESS,
     "repeated dependency counted once",
@@ -19,6 +19,7 @@ pub const PLANTS: [&str; 62] = [
     "stale marks",
     "early exit of the walk",
     "wrong order of edges",
+    "facade edges left out of the verdict",
     "multiplicities invented on listing",
     "a write beyond the area",
     "a write at refusal 12",
@@ -204,6 +205,16 @@ impl Library for StandIn {
                 }
             }
             reply
+        })
+    }
+
+    fn has_cycle(&self, load: &Load, area: &[u32]) -> Reply {
+        self.question(load, area, Reply::refused, |load, state| {
+            if self.planted("facade edges left out of the verdict") {
+                let hosts = vec![NONE; load.hosts.len()];
+                return state.ledger().has_cycle(&Load { hosts, ..load.clone() });
+            }
+            state.ledger().has_cycle(load)
         })
     }
 

@@ -1,7 +1,5 @@
 -- `moves_answers::put_load` meets its contract. Assumes nothing.
 use Rattle.moves_replies.specs.Room.{put-then}
-use Rattle.moves_replies.specs.Words.{reply}
-use Rattle.moves_replies.specs.Room.{put-then}
 use borrow.Author.Needs.{needs}
 use Rattle.moves_answers.proofs.put_load.Statement.{statement}
 use Rattle.moves_answers.proofs.put_load.Tie as tie
@@ -12,67 +10,15 @@ slice-aggregate-put c = search needs
 put-requires : tie.Need-put-requires
 put-requires c κs = search needs
 
-enum-told : tie.Need-enum-told
-enum-told c = search needs
-
-slice-aggregate-put-2 : tie.Need-slice-aggregate-put-2
-slice-aggregate-put-2 c = search needs
-
-put-requires-2 : tie.Need-put-requires-2
-put-requires-2 c κs = search needs
-
-enum-told-2 : tie.Need-enum-told-2
-enum-told-2 c = search needs
-
-slice-aggregate-put-3 : tie.Need-slice-aggregate-put-3
-slice-aggregate-put-3 c = search needs
-
-put-requires-3 : tie.Need-put-requires-3
-put-requires-3 c κs = search needs
-
-enum-known-r : tie.Need-enum-known-r
-enum-known-r c = search needs
-
-put-refused-requires : tie.Need-put-refused-requires
-put-refused-requires c κs = search needs
+put-verdict-requires : tie.Need-put-verdict-requires
+put-verdict-requires c κs = search needs
 
 same-length : tie.Need-same-length
 same-length c = search needs
 
 returns : tie.Need-returns
-unfolding reply
-returns c = rw (c .before .before .before .before .before .enum-told .given .1) (put-then (c .before .before .before .before .before .before .before .before .before .put .ensures) (c .before .before .put2 .ensures))
-
-same-length-2 : tie.Need-same-length-2
-same-length-2 c = search needs
-
-returns-2 : tie.Need-returns-2
-unfolding reply
-returns-2 c = rw (c .before .before .before .before .before .enum-told2 .given .1) (put-then (c .before .before .before .before .before .before .before .before .before .put .ensures) (c .before .before .put3 .ensures))
-
-same-length-3 : tie.Need-same-length-3
-same-length-3 c = search needs
-
-returns-3 : tie.Need-returns-3
-returns-3 c = rw (c .before .before .before .before .before .r .given .1) (put-then (c .before .before .before .before .before .before .before .before .before .put .ensures) (c .before .before .put-refused .ensures))
+returns c = put-then (c .before .before .before .before .before .before .put .ensures) (c .before .before .put-verdict .ensures)
 
 pub put-load-spec : {M : Type 1} → statement M
 put-load-spec =
-    tie.close
-    (tie.spec
-    slice-aggregate-put
-    put-requires
-    enum-told
-    slice-aggregate-put-2
-    put-requires-2
-    enum-told-2
-    slice-aggregate-put-3
-    put-requires-3
-    enum-known-r
-    put-refused-requires
-    same-length
-    returns
-    same-length-2
-    returns-2
-    same-length-3
-    returns-3)
+    tie.close (tie.spec slice-aggregate-put put-requires put-verdict-requires same-length returns)

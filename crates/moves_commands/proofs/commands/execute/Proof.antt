@@ -1,7 +1,7 @@
 -- `moves_commands::commands::execute` meets its contract. Assumes nothing.
 use Rattle.moves_commands.specs.Steps.{held}
 use native.Mathlib.Omega.{arith}
-use Rattle.moves_commands.proofs.Turns.{execute-load, execute-move, execute-edges, execute-set, execute-read}
+use Rattle.moves_commands.proofs.Turns.{execute-load, execute-move, execute-edges, execute-set, execute-cycle, execute-read}
 use borrow.Author.Needs.{needs}
 use Rattle.moves_commands.proofs.commands.execute.Statement.{statement}
 use Rattle.moves_commands.proofs.commands.execute.Tie as tie
@@ -15,14 +15,17 @@ move-atom-requires c κs = search needs
 edges-requires : tie.Need-edges-requires
 edges-requires c κs = search needs
 
+set-of-requires : tie.Need-set-of-requires
+set-of-requires c κs = search needs
+
 read-requires : tie.Need-read-requires
 read-requires c κs = search needs
 
 quiet-requires : tie.Need-quiet-requires
 quiet-requires c κs = search needs
 
-set-of-requires : tie.Need-set-of-requires
-set-of-requires c κs = search needs
+cycle-requires : tie.Need-cycle-requires
+cycle-requires c κs = search needs
 
 same-length : tie.Need-same-length
 same-length c = search needs
@@ -100,7 +103,7 @@ same-length-22 : tie.Need-same-length-22
 same-length-22 c = search needs
 
 returns-4 : tie.Need-returns-4
-returns-4 c = let a = c .before .before .before .before .before .before .before .before .before .before .before .before .before .before .before .before .before .before .before .before .before .before .before .before .before .before .args in execute-read (held (a .m) (a .sets .now) (a .sources .now) (a .dependencies .now) (a .hosts .now) (a .starts .now) (a .area .now)) (omega (arith, c .before .before .before .before .before .before .before .before .before .before .before .before .before .before .before .before .before .if1 .taken)) (c .before .before .before .before .before .before .before .before .before .before .before .before .read .ensures) (c .before .before .quiet .ensures)
+returns-4 c = let a = c .before .before .before .before .before .before .before .before .before .before .before .before .before .before .before .before .args in execute-set (held (a .m) (a .sets .now) (a .sources .now) (a .dependencies .now) (a .hosts .now) (a .starts .now) (a .area .now)) (c .before .before .before .before .before .before .before .before .match .keys4) (c .before .before .set-of .ensures _ _)
 
 same-length-23 : tie.Need-same-length-23
 same-length-23 c = search needs
@@ -118,7 +121,25 @@ same-length-27 : tie.Need-same-length-27
 same-length-27 c = search needs
 
 returns-5 : tie.Need-returns-5
-returns-5 c = let a = c .before .before .before .before .before .before .before .before .before .before .before .before .before .before .before .before .before .args in execute-set (held (a .m) (a .sets .now) (a .sources .now) (a .dependencies .now) (a .hosts .now) (a .starts .now) (a .area .now)) (omega (arith, c .before .before .before .before .before .before .before .before .if1 .left)) (c .before .before .before .before .before .before .before .before .before .match .rest .0 .0 .1) (c .before .before .before .before .before .before .before .before .before .match .rest .0 .1) (c .before .before .before .before .before .before .before .before .before .match .rest .1) (c .before .before .set-of .ensures _ _)
+returns-5 c = let a = c .before .before .before .before .before .before .before .before .before .before .before .before .before .before .before .before .before .before .before .before .before .before .before .before .before .before .args in execute-read (held (a .m) (a .sets .now) (a .sources .now) (a .dependencies .now) (a .hosts .now) (a .starts .now) (a .area .now)) (omega (arith, c .before .before .before .before .before .before .before .before .before .before .before .before .before .before .before .before .before .if1 .taken)) (c .before .before .before .before .before .before .before .before .before .before .before .before .read .ensures) (c .before .before .quiet .ensures)
+
+same-length-28 : tie.Need-same-length-28
+same-length-28 c = search needs
+
+same-length-29 : tie.Need-same-length-29
+same-length-29 c = search needs
+
+same-length-30 : tie.Need-same-length-30
+same-length-30 c = search needs
+
+same-length-31 : tie.Need-same-length-31
+same-length-31 c = search needs
+
+same-length-32 : tie.Need-same-length-32
+same-length-32 c = search needs
+
+returns-6 : tie.Need-returns-6
+returns-6 c = let a = c .before .before .before .before .before .before .before .before .before .before .before .before .before .before .before .before .before .args in execute-cycle (held (a .m) (a .sets .now) (a .sources .now) (a .dependencies .now) (a .hosts .now) (a .starts .now) (a .area .now)) (omega (arith, c .before .before .before .before .before .before .before .before .if1 .left)) (c .before .before .before .before .before .before .before .before .before .match .rest .0 .0 .0 .1) (c .before .before .before .before .before .before .before .before .before .match .rest .0 .0 .1) (c .before .before .before .before .before .before .before .before .before .match .rest .0 .1) (c .before .before .before .before .before .before .before .before .before .match .rest .1) (c .before .before .cycle .ensures _ _)
 
 pub execute-spec : {M : Type 1} → statement M
 execute-spec =
@@ -127,9 +148,10 @@ execute-spec =
     load-requires
     move-atom-requires
     edges-requires
+    set-of-requires
     read-requires
     quiet-requires
-    set-of-requires
+    cycle-requires
     same-length
     same-length-2
     same-length-3
@@ -161,4 +183,10 @@ execute-spec =
     same-length-25
     same-length-26
     same-length-27
-    returns-5)
+    returns-5
+    same-length-28
+    same-length-29
+    same-length-30
+    same-length-31
+    same-length-32
+    returns-6)
