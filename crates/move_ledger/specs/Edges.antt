@@ -93,7 +93,7 @@ unfolding count
 count-first q zero = omega arith
 count-first q (suc k) = omega (arith, count-first q k)
 
-total-first : (f : ℕ → ℕ) (k : ℕ) → total f (suc k) ≡ f 0 + total (λ j. f (suc j)) k
+pub total-first : (f : ℕ → ℕ) (k : ℕ) → total f (suc k) ≡ f 0 + total (λ j. f (suc j)) k
 unfolding total
 total-first f zero = omega arith
 total-first f (suc k) = omega (arith, total-first f k)

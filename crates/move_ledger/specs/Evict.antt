@@ -28,7 +28,7 @@ unfolding total
 total-ones f zero h = omega arith
 total-ones f (suc n) h = omega (arith, total-ones f n (λ i b. h i (omega arith)), h n (omega arith))
 
-total-noughts : (n : ℕ) → total (λ i. 0) n ≡ 0
+pub total-noughts : (n : ℕ) → total (λ i. 0) n ≡ 0
 unfolding total
 total-noughts zero = refl
 total-noughts (suc n) = omega (arith, total-noughts n)

@@ -18,3 +18,5 @@ pub mod NodePlaces
 pub mod NodeMoves
 pub mod Edges
 pub mod NodeListing
+pub mod Chunks
+pub mod Totals
