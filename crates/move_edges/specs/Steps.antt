@@ -4,11 +4,11 @@ use mathlib.Core.List.{List}
 use mathlib.Core.Bool.{Bool, true, not, _&&_}
 use Prim.Native.Nat.{ℕ, _+_, _*_, _^_, _≤_, _<_}
 use native.Mathlib.Omega.{arith}
-use lib.Dec.{eqb}
+use lib.Dec.{eqb, ltb}
 use lib.ListN.{length, getD}
 use Rattle.graphs.specs.Count.{count}
 use Rattle.graphs.specs.Square.{index-lt}
-use Rattle.graphs.specs.Slots.{cell, Ends}
+use Rattle.graphs.specs.Slots.{cell, flat, Ends}
 use Rattle.move_edges.specs.Matrix.{Holds}
 
 -- both ends are nodes, and the matrix is there
@@ -27,6 +27,25 @@ pub record CanAdd (e : List ℕ) (n x y : ℕ) : Type 0 where
 pub record CanRemove (e : List ℕ) (n x y : ℕ) : Type 0 where
   pub within : Within e n x y
   pub there : (x ≡ y → ⊥) → 1 ≤ getD e (x * n + y) 0
+
+-- how many numbers of a square of n rows aren't 0: its distinct edges
+unfoldable pub filled : List ℕ → ℕ → ℕ
+filled e n = count (λ i. ltb 0 (getD e i 0)) (n * n)
+
+-- an edge more from x to y appears, an edge less vanishes
+abbrev pub appears : List ℕ → ℕ → ℕ → ℕ → Bool
+appears e n x y = not (eqb x y) && eqb (getD e (x * n + y) 0) 0
+
+abbrev pub vanishes : List ℕ → ℕ → ℕ → ℕ → Bool
+vanishes e n x y = not (eqb x y) && eqb (getD e (x * n + y) 0) 1
+
+-- how many edges the slots (u, v) have that the slots (s, t) haven't, "an edge in both counting as neither"
+abbrev pub fresh : ℕ → List ℕ → List ℕ → List ℕ → List ℕ → ℕ → ℕ
+fresh n s t u v m = count (λ i. eqb (flat s t n m i) 0 && ltb 0 (flat u v n m i)) (n * n)
+
+pub record Changed (n : ℕ) (s t u v : List ℕ) (m come gone : ℕ) : Type 0 where
+  pub appeared : come ≡ fresh n s t u v m
+  pub vanished : gone ≡ fresh n u v s t m
 
 -- whether the edge from a to b is another than that from c to d
 abbrev pub another : ℕ → ℕ → ℕ → ℕ → Bool

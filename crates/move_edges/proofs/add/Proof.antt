@@ -14,14 +14,14 @@ mul-i c = omega (arith, within-place (c .before .pre .within))
 add-i : tie.Need-add-i
 add-i c = omega (arith, within-place (c .before .pre .within))
 
-mul-more : tie.Need-mul-more
-mul-more c = omega (arith, within-place (c .before .pre .within))
+mul-old : tie.Need-mul-old
+mul-old c = omega (arith, within-place (c .before .pre .within))
 
-slice-read-more : tie.Need-slice-read-more
-slice-read-more c = within-place (c .before .before .pre .within)
+slice-read-old : tie.Need-slice-read-old
+slice-read-old c = within-place (c .before .before .pre .within)
 
-add-more : tie.Need-add-more
-add-more c = search needs
+add-edges : tie.Need-add-edges
+add-edges c = search needs
 
 mul-edges : tie.Need-mul-edges
 mul-edges c = omega (arith, within-place (c .before .before .pre .within))
@@ -34,11 +34,11 @@ same-length c = search needs
 
 returns : tie.Need-returns
 unfolding more
-returns c = rw (ne-eqb _ _ (c .before .if1 .taken)) refl
+returns c = (rw (ne-eqb _ _ (c .before .if1 .taken)) refl, rw (ne-eqb _ _ (c .before .if1 .taken)) refl)
 
 returns-2 : tie.Need-returns-2
 unfolding more
-returns-2 c = rw (eq-eqb _ _ (c .if1 .left)) refl
+returns-2 c = (rw (eq-eqb _ _ (c .if1 .left)) refl, rw (eq-eqb _ _ (c .if1 .left)) refl)
 
 pub add-spec : {M : Type 1} → statement M
 add-spec =
@@ -46,9 +46,9 @@ add-spec =
     (tie.spec
     mul-i
     add-i
-    mul-more
-    slice-read-more
-    add-more
+    mul-old
+    slice-read-old
+    add-edges
     mul-edges
     slice-write-edges
     same-length

@@ -14,14 +14,14 @@ mul-i c = omega (arith, within-place (c .before .pre .within))
 add-i : tie.Need-add-i
 add-i c = omega (arith, within-place (c .before .pre .within))
 
-mul-fewer : tie.Need-mul-fewer
-mul-fewer c = omega (arith, within-place (c .before .pre .within))
+mul-old : tie.Need-mul-old
+mul-old c = omega (arith, within-place (c .before .pre .within))
 
-slice-read-fewer : tie.Need-slice-read-fewer
-slice-read-fewer c = within-place (c .before .before .pre .within)
+slice-read-old : tie.Need-slice-read-old
+slice-read-old c = within-place (c .before .before .pre .within)
 
-sub-fewer : tie.Need-sub-fewer
-sub-fewer c = omega (arith, c .before .before .pre .there (c .before .if1 .taken))
+sub-edges : tie.Need-sub-edges
+sub-edges c = omega (arith, c .before .before .pre .there (c .before .if1 .taken))
 
 mul-edges : tie.Need-mul-edges
 mul-edges c = omega (arith, within-place (c .before .before .pre .within))
@@ -34,11 +34,11 @@ same-length c = search needs
 
 returns : tie.Need-returns
 unfolding less
-returns c = rw (ne-eqb _ _ (c .before .if1 .taken)) refl
+returns c = (rw (ne-eqb _ _ (c .before .if1 .taken)) refl, rw (ne-eqb _ _ (c .before .if1 .taken)) refl)
 
 returns-2 : tie.Need-returns-2
 unfolding less
-returns-2 c = rw (eq-eqb _ _ (c .if1 .left)) refl
+returns-2 c = (rw (eq-eqb _ _ (c .if1 .left)) refl, rw (eq-eqb _ _ (c .if1 .left)) refl)
 
 pub remove-spec : {M : Type 1} → statement M
 remove-spec =
@@ -46,9 +46,9 @@ remove-spec =
     (tie.spec
     mul-i
     add-i
-    mul-fewer
-    slice-read-fewer
-    sub-fewer
+    mul-old
+    slice-read-old
+    sub-edges
     mul-edges
     slice-write-edges
     same-length
