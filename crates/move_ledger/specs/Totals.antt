@@ -93,12 +93,12 @@ module _ {load : Load} {nodes sets : List ℕ} (o : InOrder load) (p : Placing l
       go (yes a) (no b) = rw (free y b, mult-outside o p x y (λ c d. b d)) (nothing (occupied load nodes x))
       go (no a) b = rw (free x a, mult-outside o p x y (λ c d. a c)) refl
 
-  pub edge-count-cells : 0 < n → length (edges load place) ≡ filled-cells (sources load nodes sets) (targets load nodes sets) n m
+  pub edge-count-cells : length (edges load place) ≡ filled-cells (sources load nodes sets) (targets load nodes sets) n m
   unfolding filled-cells
-  edge-count-cells some =
+  edge-count-cells =
       edges-sum load place
       ∙ pair-sum p (λ X Y. ind (edge load place X Y)) (λ i. ind (ltb 0 (flat (sources load nodes sets) (targets load nodes sets) n m i))) n few
-      (λ x y hx hy. one x y ∙ ap (λ k. ind (ltb 0 k)) (sym (flat-mult _ _ n m x y (ends-nodes o p n few some) hy)))
+      (λ x y hx hy. one x y ∙ ap (λ k. ind (ltb 0 k)) (sym (flat-mult _ _ n m x y (ends-nodes o p n few (omega arith)) hy)))
       ∙ sym (count-total (λ i. ltb 0 (flat (sources load nodes sets) (targets load nodes sets) n m i)) (n * n))
 
 above : (k : ℕ) → (ltb 0 (suc k) ≡ true) × (eqb (suc k) 0 ≡ false)
