@@ -1,32 +1,25 @@
--- A sum over the chunks by rising sets is the sum over the nodes that have an atom. Assumes nothing.
+-- For the code: a sum over the chunks, by rising sets, is the sum over the nodes that have an atom. Assumes nothing.
 use Prim.Native.Nat.{ℕ, zero, suc, _+_, _-_, _*_, _≤_, _<_}
 use native.Mathlib.Omega.{arith}
-use native.Mathlib.Decide.{ℕ-discrete, decLt}
-use mathlib.Core.Path.{_≡_, refl, sym, ap, ap₂, subst, _∙_}
-use mathlib.Core.Bool.{Bool, true, false, not, cond, _&&_, true≢false}
+use mathlib.Core.Path.{_≡_, refl, sym, ap, subst, _∙_}
+use mathlib.Core.Bool.{Bool, true, false, cond, _&&_, true≢false}
 use mathlib.Core.List.{List, [], _∷_}
 use lib.Dec.{ltb, eqb}
 use lib.ListN.{length}
-use borrow.Author.Tests.{eqb-true, lt-ltb, le-ltb, ne-eqb}
-use Rattle.graphs.specs.Bools.{and-left, and-right, and-both, or-false-left, or-false-right, fails, alike}
-use Rattle.graphs.specs.Count.{ind, count, count-all-no}
-use Rattle.graphs.specs.Total.{total, total-none, total-same, count-total}
+use borrow.Author.Tests.{ne-eqb}
+use Rattle.graphs.specs.Bools.{and-right, and-both, or-false-left, or-false-right, fails, alike}
+use Rattle.graphs.specs.Count.{count-all-no}
+use Rattle.graphs.specs.Total.{total, total-none, total-same}
 use Rattle.graphs.specs.Lists.{any, has, has-at, has-place}
-use Rattle.move_ledger.specs.Graph.{Load, at, members, occupied, insert, rising}
+use Rattle.move_ledger.specs.Graph.{Load, at, members, occupied, insert, rising, sum}
 use Rattle.move_ledger.specs.GraphLaws.{occupied-by, occupy}
 use Rattle.move_ledger.specs.Listing.{rising-rising, has-rising, one-rising}
 use Rattle.move_ledger.specs.Nodes.{placed, Placing}
 use Rattle.move_ledger.specs.NodeLaws.{placed-length, placed-at, members-nodes}
-use Rattle.move_ledger.specs.NodePlaces.{placing-apart}
-use Rattle.move_ledger.specs.Edges.{total-first}
-use Rattle.move_ledger.specs.Evict.{total-noughts}
 use Rattle.move_ledger.specs.Ledger.{kept}
-use Rattle.move_ledger.specs.Places.{Apart, has-kept}
-
--- f of each member, added up
-unfoldable pub sum : (ℕ → ℕ) → List ℕ → ℕ
-sum f [] = 0
-sum f (x ∷ l) = f x + sum f l
+use Rattle.move_ledger.specs.Places.{has-kept, Apart}
+use Rattle.move_ledger.specs.Evict.{total-noughts}
+use Rattle.move_ledger.specs.Edges.{total-first}
 
 pub sum-total : (f : ℕ → ℕ) (l : List ℕ) → sum f l ≡ total (λ j. f (at l j)) (length l)
 unfolding sum
@@ -97,6 +90,9 @@ module _ {load : Load} {nodes sets : List ℕ} (p : Placing load nodes sets) whe
   abbrev busy : ℕ → Bool
   busy X = occupied load place X
 
+  sets-apart : Apart sets
+  sets-apart i j a b e = omega (arith, p .distinct i j (omega arith) b e)
+
   chunks : rising place ≡ rising (kept busy sets)
   chunks = one-rising (rising-rising place) (rising-rising (kept busy sets)) (λ Z. has-rising Z place ∙ same Z ∙ sym (has-kept busy Z sets) ∙ sym (has-rising Z (kept busy sets)))
     where
@@ -124,7 +120,7 @@ module _ {load : Load} {nodes sets : List ℕ} (p : Placing load nodes sets) whe
       → sum f (rising place) ≡ total (λ x. cond (occupied load nodes x) (f (at sets x)) 0) n
   unfolding members
   chunk-sum f n few =
-      ap (sum f) chunks ∙ sum-rising f (kept busy sets) (once-apart (once-kept busy (apart-once sets (placing-apart p)))) ∙ sum-kept f busy sets
+      ap (sum f) chunks ∙ sum-rising f (kept busy sets) (once-apart (once-kept busy (apart-once sets sets-apart))) ∙ sum-kept f busy sets
       ∙ sum-total (λ X. cond (busy X) (f X) 0) sets
       ∙ total-same _ _ (length sets) (λ x b. ap (λ k. cond (ltb 0 k) (f (at sets x)) 0) (sym (members-nodes p x b)))
       ∙ longer (n - length sets) ∙ ap (total (λ x. cond (occupied load nodes x) (f (at sets x)) 0)) (end)
@@ -138,12 +134,12 @@ module _ {load : Load} {nodes sets : List ℕ} (p : Placing load nodes sets) whe
       longer : (d : ℕ) → total (λ x. cond (occupied load nodes x) (f (at sets x)) 0) (length sets) ≡ total (λ x. cond (occupied load nodes x) (f (at sets x)) 0) (length sets + d)
       longer d = grow (λ x. cond (occupied load nodes x) (f (at sets x)) 0) (length sets) d free
 
--- a square row by row
 total-on : (f : ℕ → ℕ) (n d : ℕ) → total f (n + d) ≡ total f n + total (λ y. f (n + y)) d
 unfolding total
 total-on f n zero = rw (native.Mathlib.Nat.add-zero n) (omega arith)
 total-on f n (suc d) = rw (native.Mathlib.Nat.add-suc) (omega (arith, total-on f n d))
 
+-- a square row by row
 pub rows-total : (f : ℕ → ℕ) (n k : ℕ) → total f (k * n) ≡ total (λ x. total (λ y. f (x * n + y)) n) k
 unfolding total
 rows-total f n zero = rw (native.Mathlib.Nat.zero-mul) refl

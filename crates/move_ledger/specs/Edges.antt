@@ -2,13 +2,11 @@
 use Prim.Native.Nat.{ℕ, zero, suc, _+_, _≤_, _<_}
 use native.Mathlib.Omega.{arith}
 use mathlib.Core.Path.{_≡_, refl, sym, ap, ap₂, _∙_}
-use mathlib.Core.Bool.{Bool, true, false, cond, _&&_, _||_, true≢false, and-false}
+use mathlib.Core.Bool.{Bool, true, false, cond, _&&_, true≢false, and-false}
 use mathlib.Core.List.{List, [], _∷_, _++_}
-use lib.Dec.{eqb}
 use lib.ListN.{length, length-append}
-use borrow.Author.Tests.{eqb-true}
 use Rattle.graphs.specs.Count.{ind, count, count-none}
-use Rattle.graphs.specs.Lists.{any, has}
+use Rattle.graphs.specs.Lists.{has}
 use Rattle.graphs.specs.Total.{total}
 use Rattle.move_ledger.specs.Graph.{Load, Edge, at, mult, edge, rising, row, rows, edges}
 use Rattle.move_ledger.specs.GraphLaws.{edge-source, edge-target}
@@ -22,7 +20,7 @@ weaker : {a b : ℕ} {l : List ℕ} → a ≤ b → Rising b l → Rising a l
 weaker h none = none
 weaker {a} {b} h (next {x} k r) = let z : a ≤ x = omega arith in next z r
 
-kept-rising : (p : ℕ → Bool) {b : ℕ} {l : List ℕ} → Rising b l → Rising b (kept p l)
+pub kept-rising : (p : ℕ → Bool) {b : ℕ} {l : List ℕ} → Rising b l → Rising b (kept p l)
 unfolding kept
 kept-rising p none = none
 kept-rising p {b} (next {x} {l} k r) = go (p x) (kept-rising p r)

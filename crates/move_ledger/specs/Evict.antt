@@ -4,7 +4,7 @@ use native.Mathlib.Omega.{arith}
 use mathlib.Core.Path.{_≡_, refl, sym, ap, subst, _∙_}
 use mathlib.Core.Logic.{⊎-elim}
 use mathlib.Core.Bool.{Bool, true, false, not, cond, _&&_, true≢false}
-use mathlib.Core.List.{List, []}
+use mathlib.Core.List.{List}
 use lib.Dec.{ltb, eqb}
 use lib.ListN.{length}
 use borrow.Author.Tests.{ltb-true, ltb-false, eqb-true, eq-eqb, ne-eqb, not-true, not-false}
@@ -18,7 +18,7 @@ use Rattle.move_ledger.specs.Listing.{Rising, none, next, rising-rising,
 use Rattle.move_ledger.specs.Places.{has-kept, index-has, Apart, put-grows, put-most, put-there, put-same}
 
 -- sums of two, of ones and of noughts
-total-add : (f g : ℕ → ℕ) (n : ℕ) → total (λ i. f i + g i) n ≡ total f n + total g n
+pub total-add : (f g : ℕ → ℕ) (n : ℕ) → total (λ i. f i + g i) n ≡ total f n + total g n
 unfolding total
 total-add f g zero = refl
 total-add f g (suc n) = omega (arith, total-add f g n)

@@ -5,7 +5,7 @@ use mathlib.Core.Bool.{Bool, not, cond, _&&_}
 use mathlib.Core.List.{List, [], _∷_, _++_}
 use lib.Dec.{leb, ltb, eqb}
 use lib.ListN.{getD}
-use Rattle.graphs.specs.Count.{count}
+use Rattle.graphs.specs.Count.{ind, count}
 
 -- "dependencies of A atoms, and a host atom or None for each of E entry bits. Dependencies come as A + 1 start numbers and D atom numbers."
 -- "An atom is a group of modules"
@@ -93,3 +93,13 @@ rows load place (X ∷ Xs) Ys = row load place X Ys ++ rows load place Xs Ys
 -- the distinct edges "by rising source set, then target set"
 unfoldable pub edges : Load → List ℕ → List Edge
 edges load place = rows load place (rising place) (rising place)
+
+-- f of each member, added up
+unfoldable pub sum : (ℕ → ℕ) → List ℕ → ℕ
+sum f [] = 0
+sum f (x ∷ l) = f x + sum f l
+
+-- how many distinct edges the graph of q has that the graph of p hasn't, 02: "an edge in both counting as neither".
+-- From p to q these appear, from q to p they vanish
+unfoldable pub gained : Load → List ℕ → List ℕ → ℕ
+gained load p q = sum (λ X. sum (λ Y. ind (edge load q X Y && not (edge load p X Y))) (rising q)) (rising q)

@@ -12,13 +12,13 @@ use Rattle.graphs.specs.Walk.{cyclic}
 use Rattle.entry_set.specs.Sets.{value, legal}
 use Rattle.move_ledger.specs.Graph.{Load, at, edge}
 use Rattle.move_ledger.specs.GraphLaws.{outside-stays}
-use Rattle.move_ledger.specs.Answer.{Answer, refused, accepted, rejected, is-refused, is-accepted}
-use Rattle.move_ledger.specs.Ledger.{Ledger, register, step1, step2, step3, stays, decide, tried, move, Call, try-move, asks, call, ledger}
+use Rattle.move_ledger.specs.Answer.{Report, Answer, refused, accepted, rejected, is-refused, is-accepted}
+use Rattle.move_ledger.specs.Ledger.{Ledger, register, step1, step2, step3, stays, report, decide, tried, move, Call, try-move, asks, call, ledger}
 
 -- the choice that a move makes by its rows 10, 24, 11 and 12 and its steps 1 and 3
-unfoldable pub choose : Bool → Bool → Bool → Bool → Bool → Bool → Answer
-choose r10 r24 r11 r12 s1 s3 =
-    cond r10 (refused 10) (cond r24 (refused 24) (cond r11 (refused 11) (cond r12 (refused 12) (cond (s1 || s3) rejected accepted))))
+unfoldable pub choose : Bool → Bool → Bool → Bool → Bool → Bool → Report → Answer
+choose r10 r24 r11 r12 s1 s3 r =
+    cond r10 (refused 10) (cond r24 (refused 24) (cond r11 (refused 11) (cond r12 (refused 12) (cond (s1 || s3) rejected (accepted r)))))
 
 -- what an unrefused move has passed
 pub record Passed (r10 r24 r11 r12 : Bool) : Type 0 where
@@ -27,13 +27,13 @@ pub record Passed (r10 r24 r11 r12 : Bool) : Type 0 where
   pub at11 : r11 ≡ false
   pub at12 : r12 ≡ false
 
-choose-passed : (r10 r24 r11 r12 s1 s3 : Bool) → is-refused (choose r10 r24 r11 r12 s1 s3) ≡ false → Passed r10 r24 r11 r12
+choose-passed : (r10 r24 r11 r12 s1 s3 : Bool) (r : Report) → is-refused (choose r10 r24 r11 r12 s1 s3 r) ≡ false → Passed r10 r24 r11 r12
 unfolding choose
-choose-passed true r24 r11 r12 s1 s3 h = absurd (true≢false h)
-choose-passed false true r11 r12 s1 s3 h = absurd (true≢false h)
-choose-passed false false true r12 s1 s3 h = absurd (true≢false h)
-choose-passed false false false true s1 s3 h = absurd (true≢false h)
-choose-passed false false false false s1 s3 h = record { at10 = refl; at24 = refl; at11 = refl; at12 = refl }
+choose-passed true r24 r11 r12 s1 s3 r h = absurd (true≢false h)
+choose-passed false true r11 r12 s1 s3 r h = absurd (true≢false h)
+choose-passed false false true r12 s1 s3 r h = absurd (true≢false h)
+choose-passed false false false true s1 s3 r h = absurd (true≢false h)
+choose-passed false false false false s1 s3 r h = record { at10 = refl; at24 = refl; at11 = refl; at12 = refl }
 
 -- and what an accepted one has
 pub record Accepted (r10 r24 r11 r12 s1 s3 : Bool) : Type 0 where
@@ -41,46 +41,47 @@ pub record Accepted (r10 r24 r11 r12 s1 s3 : Bool) : Type 0 where
   pub inside : s1 ≡ false
   pub no-cycle : s3 ≡ false
 
-choose-accepted : (r10 r24 r11 r12 s1 s3 : Bool) → is-accepted (choose r10 r24 r11 r12 s1 s3) ≡ true → Accepted r10 r24 r11 r12 s1 s3
+choose-accepted : (r10 r24 r11 r12 s1 s3 : Bool) (r : Report) → is-accepted (choose r10 r24 r11 r12 s1 s3 r) ≡ true → Accepted r10 r24 r11 r12 s1 s3
 unfolding choose
-choose-accepted true r24 r11 r12 s1 s3 h = absurd (true≢false (sym h))
-choose-accepted false true r11 r12 s1 s3 h = absurd (true≢false (sym h))
-choose-accepted false false true r12 s1 s3 h = absurd (true≢false (sym h))
-choose-accepted false false false true s1 s3 h = absurd (true≢false (sym h))
-choose-accepted false false false false true s3 h = absurd (true≢false (sym h))
-choose-accepted false false false false false true h = absurd (true≢false (sym h))
-choose-accepted false false false false false false h = record { passed = record { at10 = refl; at24 = refl; at11 = refl; at12 = refl }; inside = refl; no-cycle = refl }
+choose-accepted true r24 r11 r12 s1 s3 r h = absurd (true≢false (sym h))
+choose-accepted false true r11 r12 s1 s3 r h = absurd (true≢false (sym h))
+choose-accepted false false true r12 s1 s3 r h = absurd (true≢false (sym h))
+choose-accepted false false false true s1 s3 r h = absurd (true≢false (sym h))
+choose-accepted false false false false true s3 r h = absurd (true≢false (sym h))
+choose-accepted false false false false false true r h = absurd (true≢false (sym h))
+choose-accepted false false false false false false r h = record { passed = record { at10 = refl; at24 = refl; at11 = refl; at12 = refl }; inside = refl; no-cycle = refl }
 
 module _ (load : Load) (fixed place : List ℕ) (a : ℕ) (s : List ℕ) where
   pub decide-chooses : decide load fixed place a s
       ≡ choose (leb (load .A) a) (stays fixed a) (not (legal (load .E) s)) (eqb (value s) (at place a)) (step1 load place a) (cyclic (edge load (set place a (value s))) (set place a (value s)))
+      (report load place (set place a (value s)))
   unfolding decide choose
   decide-chooses = refl
 
   pub decide-passed : is-refused (decide load fixed place a s) ≡ false → Passed (leb (load .A) a) (stays fixed a) (not (legal (load .E) s)) (eqb (value s) (at place a))
-  decide-passed h = choose-passed _ _ _ _ _ _ (subst (λ x. is-refused x ≡ false) decide-chooses h)
+  decide-passed h = choose-passed _ _ _ _ _ _ _ (subst (λ x. is-refused x ≡ false) decide-chooses h)
 
   pub decide-accepted : is-accepted (decide load fixed place a s) ≡ true
       → Accepted (leb (load .A) a) (stays fixed a) (not (legal (load .E) s)) (eqb (value s) (at place a)) (step1 load place a) (cyclic (edge load (set place a (value s))) (set place a (value s)))
-  decide-accepted h = choose-accepted _ _ _ _ _ _ (subst (λ x. is-accepted x ≡ true) decide-chooses h)
+  decide-accepted h = choose-accepted _ _ _ _ _ _ _ (subst (λ x. is-accepted x ≡ true) decide-chooses h)
 
   -- past its rows a move is decided by its steps
   pub decide-late : Passed (leb (load .A) a) (stays fixed a) (not (legal (load .E) s)) (eqb (value s) (at place a))
-      → decide load fixed place a s ≡ cond (step1 load place a || cyclic (edge load (set place a (value s))) (set place a (value s))) rejected accepted
+      → decide load fixed place a s ≡ cond (step1 load place a || cyclic (edge load (set place a (value s))) (set place a (value s))) rejected (accepted (report load place (set place a (value s))))
   unfolding choose
   decide-late p = decide-chooses ∙ rw (p .at10, p .at24, p .at11, p .at12) refl
 
   pub decide-unrefused : Passed (leb (load .A) a) (stays fixed a) (not (legal (load .E) s)) (eqb (value s) (at place a)) → is-refused (decide load fixed place a s) ≡ false
   decide-unrefused p = ap is-refused (decide-late p) ∙ go (step1 load place a || cyclic (edge load (set place a (value s))) (set place a (value s)))
     where
-      go : (t : Bool) → is-refused (cond t rejected accepted) ≡ false
+      go : (t : Bool) → is-refused (cond t rejected (accepted (report load place (set place a (value s))))) ≡ false
       go true = refl
       go false = refl
 
   -- what step 1 rejects, step 3 would reject too: the moved graph alone decides
   pub decide-exactly : length place ≡ load .A → is-refused (decide load fixed place a s) ≡ false
-      → decide load fixed place a s ≡ cond (cyclic (edge load (set place a (value s))) (set place a (value s))) rejected accepted
-  decide-exactly n u = decide-late (decide-passed u) ∙ ap (λ t. cond t rejected accepted) (go (step1 load place a) refl)
+      → decide load fixed place a s ≡ cond (cyclic (edge load (set place a (value s))) (set place a (value s))) rejected (accepted (report load place (set place a (value s))))
+  decide-exactly n u = decide-late (decide-passed u) ∙ ap (λ t. cond t rejected (accepted (report load place (set place a (value s))))) (go (step1 load place a) refl)
     where
       go : (t : Bool) → step1 load place a ≡ t → (t || cyclic (edge load (set place a (value s))) (set place a (value s))) ≡ cyclic (edge load (set place a (value s))) (set place a (value s))
       go true h = sym (outside-stays load place a (value s) n (and-left (cyclic (edge load place) place) _ h) (not-true _ (and-right (cyclic (edge load place) place) _ h)))

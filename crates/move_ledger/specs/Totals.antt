@@ -12,16 +12,16 @@ use borrow.Author.Tests.{eq-eqb, ne-eqb, lt-ltb}
 use Rattle.graphs.specs.Count.{ind, count, count-ext, count-all-no, count-pos}
 use Rattle.graphs.specs.Total.{total, total-same, total-change, count-total}
 use Rattle.graphs.specs.Lists.{has, has-place}
-use Rattle.graphs.specs.Slots.{flat}
+use Rattle.graphs.specs.Slots.{flat, slotEdge}
 use Rattle.graphs.specs.SlotLaws.{flat-mult}
-use Rattle.move_ledger.specs.Graph.{Load, at, members, occupied, mult, edge, rising, row, rows, edges}
+use Rattle.move_ledger.specs.Graph.{Load, at, members, occupied, mult, edge, rising, edges, sum}
 use Rattle.move_ledger.specs.GraphLaws.{occupy, edge-source, edge-target}
 use Rattle.move_ledger.specs.LoadLaws.{InOrder}
-use Rattle.move_ledger.specs.Nodes.{placed, Placing, sources, targets, node-mult}
+use Rattle.move_ledger.specs.Nodes.{placed, Placing, sources, targets, node-mult, node-edge}
 use Rattle.move_ledger.specs.NodeLaws.{placed-length, members-nodes}
 use Rattle.move_ledger.specs.NodeWalks.{mult-nodes, mult-outside, ends-nodes}
 use Rattle.move_ledger.specs.Edges.{row-length, rows-length}
-use Rattle.move_ledger.specs.Chunks.{sum, sum-total, chunk-sum, pair-sum}
+use Rattle.move_ledger.specs.Chunks.{sum-total, chunk-sum, rows-total, pair-sum}
 
 -- how many of n nodes have an atom
 unfoldable pub busy-nodes : Load → List ℕ → ℕ → ℕ
@@ -101,8 +101,23 @@ module _ {load : Load} {nodes sets : List ℕ} (o : InOrder load) (p : Placing l
       (λ x y hx hy. one x y ∙ ap (λ k. ind (ltb 0 k)) (sym (flat-mult _ _ n m x y (ends-nodes o p n few (omega arith)) hy)))
       ∙ sym (count-total (λ i. ltb 0 (flat (sources load nodes sets) (targets load nodes sets) n m i)) (n * n))
 
+  -- and the sum of how many nodes each node has an edge to
+  pub degrees-cells : (f : ℕ → ℕ) → ((x : ℕ) → x < n → f x ≡ count (node-edge load nodes sets x) n) → total f n ≡ filled-cells (sources load nodes sets) (targets load nodes sets) n m
+  unfolding filled-cells slotEdge
+  degrees-cells f h =
+      total-same _ _ n (λ x hx.
+      h x hx ∙ count-total (node-edge load nodes sets x) n
+      ∙ total-same _ _ n (λ y hy. ap (λ k. ind (ltb 0 k)) (sym (flat-mult _ _ n m x y (ends-nodes o p n few (omega arith)) hy))))
+      ∙ sym (rows-total (λ i. ind (ltb 0 (flat (sources load nodes sets) (targets load nodes sets) n m i))) n n)
+      ∙ sym (count-total (λ i. ltb 0 (flat (sources load nodes sets) (targets load nodes sets) n m i)) (n * n))
+
 above : (k : ℕ) → (ltb 0 (suc k) ≡ true) × (eqb (suc k) 0 ≡ false)
 above k = (lt-ltb 0 (suc k) (omega arith), ne-eqb (suc k) 0 (λ e. omega arith))
+
+-- a number above 0 isn't 0
+pub above-none : (k : ℕ) → ltb 0 k ≡ not (eqb k 0)
+above-none zero = refl
+above-none (suc k) = above k .0 ∙ sym (ap not (above k .1))
 
 -- edges that come and go: f before, g after
 pub cells-moved : (f g : ℕ → ℕ) (k : ℕ)
