@@ -4,8 +4,8 @@ use mathlib.Core.List.{List, [], _∷_}
 use Prim.Native.Nat.{ℕ, zero, suc, _+_, _*_, _≤_, _<_}
 use native.Mathlib.Omega.{arith}
 use native.Mathlib.Nat.{add-zero}
-use lib.ListN.{length, getD}
-use Rattle.layout.specs.Patch.{patch, part, part-at, part-more, part-none}
+use lib.ListN.{length, getD, set}
+use Rattle.layout.specs.Patch.{patch, part, is-part, part-at, part-more, part-none, patch-same, patch-cell}
 use Rattle.layout.specs.Fields.{Field, field, lay, Fits, In, here, there, lay-long, lay-read, lay-same, lay-again}
 use Rattle.layout.specs.Change.{swap, lay-swap, swap-fits}
 use Rattle.move_area.specs.Bodies.{laneAt, atomAt, Header, numbers, Bodies, fieldsOf, write, Sized}
@@ -70,6 +70,16 @@ module _ (n a : ℕ) (b : Bodies) (v : Sized n a b) (l : List ℕ) (room : atomA
 
   pub read-nodes : part (atomAt n) a (write n b l) ≡ b .nodes
   read-nodes = rw (v .nodes) at (reads (field (atomAt n) (b .nodes)) (there (there (there (there (there (there (there (there (there (there (there (there (there here))))))))))))))
+
+-- one number of a list that stands there is set
+pub set-field : (at : ℕ) (v l : List ℕ) (i x : ℕ) → part at (length v) l ≡ v → i < length v → at + length v ≤ length l → set l (at + i) x ≡ patch at (set v i x) l
+set-field at v l i x e h b = ap (λ (u : List ℕ). set u (at + i) x) (sym (patch-same at v l e)) ∙ patch-cell at v l i x h b
+
+-- one number of the header is set
+pub set-header : (n a : ℕ) (b : Bodies) → Sized n a b → (l : List ℕ) → atomAt n + a ≤ length l → (i x : ℕ) → i < 5
+    → set (write n b l) (n * n + i) x ≡ patch (n * n) (set (numbers (b .header)) i x) (write n b l)
+set-header n a b v l room i x h =
+    set-field (n * n) (numbers (b .header)) (write n b l) i x (is-part (n * n) (write n b l) (numbers (b .header)) (λ k z. read-header n a b v l room k z)) h (omega (arith, write-long n b l))
 
 -- written twice is written once
 pub write-again : (n a : ℕ) (b : Bodies) → Sized n a b → (l : List ℕ) → atomAt n + a ≤ length l → write n b (write n b l) ≡ write n b l

@@ -1,5 +1,5 @@
 -- For the code: the number of chunks and of distinct edges, counted by nodes, and how a move changes them. Assumes nothing.
-use Prim.Native.Nat.{ℕ, zero, suc, _+_, _*_, _≤_, _<_}
+use Prim.Native.Nat.{ℕ, zero, suc, _+_, _-_, _*_, _≤_, _<_}
 use native.Mathlib.Omega.{arith}
 use native.Mathlib.Decide.{ℕ-discrete, decLt}
 use mathlib.Core.Path.{_≡_, refl, sym, ap, ap₂, subst, _∙_}
@@ -8,10 +8,11 @@ use mathlib.Core.List.{List, [], _∷_}
 use lib.Dec.{ltb, eqb}
 use lib.ListN.{length, set, length-set}
 use lib.Seq.{getD-set-same, getD-set-other, ext-getD}
-use borrow.Author.Tests.{eq-eqb, ne-eqb, lt-ltb}
-use Rattle.graphs.specs.Count.{ind, count, count-ext, count-all-no, count-pos}
+use borrow.Author.Tests.{eq-eqb, ne-eqb, lt-ltb, le-ltb}
+use Rattle.graphs.specs.Count.{ind, count, count-ext, count-all-no, count-pos, count-add}
 use Rattle.graphs.specs.Total.{total, total-same, total-change, count-total}
 use Rattle.graphs.specs.Lists.{has, has-place}
+use Rattle.graphs.specs.Tab.{tab, tab-at}
 use Rattle.graphs.specs.Slots.{flat, slotEdge}
 use Rattle.graphs.specs.SlotLaws.{flat-mult}
 use Rattle.move_ledger.specs.Graph.{Load, at, members, occupied, mult, edge, rising, edges, sum}
@@ -118,6 +119,29 @@ above k = (lt-ltb 0 (suc k) (omega arith), ne-eqb (suc k) 0 (λ e. omega arith))
 pub above-none : (k : ℕ) → ltb 0 k ≡ not (eqb k 0)
 above-none zero = refl
 above-none (suc k) = above k .0 ∙ sym (ap not (above k .1))
+
+count-full : (p : ℕ → Bool) (k : ℕ) → ((x : ℕ) → x < k → p x ≡ true) → count p k ≡ k
+unfolding count
+count-full p zero h = refl
+count-full p (suc k) h = rw (h k (omega arith)) (omega (arith, count-full p k (λ x b. h x (omega arith))))
+
+-- with a node of its own for each atom, as many nodes have one as there are atoms
+pub busy-first : (load : Load) (n : ℕ) → load .A ≤ n → busy-nodes load (tab (λ i. i) (load .A)) n ≡ load .A
+unfolding busy-nodes members
+busy-first load n few = count-ext _ (λ x. ltb x (load .A)) n (λ x b. go x (decLt x (load .A))) ∙ ap (count (λ x. ltb x (load .A))) (sym split) ∙ count-add (λ x. ltb x (load .A)) (load .A) (n - load .A) ∙ both
+  where
+    go : (x : ℕ) → Dec (x < load .A) → occupied load (tab (λ i. i) (load .A)) x ≡ ltb x (load .A)
+    go x (yes b) =
+        lt-ltb 0 _ (count-pos (λ i. eqb (at (tab (λ i. i) (load .A)) i) x) (load .A) x b (eq-eqb _ x (tab-at (λ i. i) (load .A) x b))) ∙ sym (lt-ltb x (load .A) b)
+    go x (no b) =
+        ap (ltb 0) (count-all-no (λ i. eqb (at (tab (λ i. i) (load .A)) i) x) (load .A) (λ i c. ne-eqb _ x (λ e. b (subst (λ k. k < load .A) (sym (tab-at (λ i. i) (load .A) i c) ∙ e) c))))
+        ∙ sym (le-ltb x (load .A) (omega arith))
+
+    split : load .A + (n - load .A) ≡ n
+    split = omega arith
+
+    both : count (λ x. ltb x (load .A)) (load .A) + count (λ j. ltb (load .A + j) (load .A)) (n - load .A) ≡ load .A
+    both = omega (arith, count-full (λ x. ltb x (load .A)) (load .A) (λ x b. lt-ltb x (load .A) b), count-all-no (λ j. ltb (load .A + j) (load .A)) (n - load .A) (λ j b. le-ltb (load .A + j) (load .A) (omega arith)))
 
 -- edges that come and go: f before, g after
 pub cells-moved : (f g : ℕ → ℕ) (k : ℕ)

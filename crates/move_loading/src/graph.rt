@@ -1,4 +1,4 @@
-// The atom counts and the edges of an area whose sets and nodes stand.
+// The atom counts, the edges and how many they are, in an area whose sets and nodes stand.
 ghost use Rattle.move_ledger.specs.Graph.{lent};
 ghost use Rattle.move_area.specs.Checked.{Ranged};
 ghost use Rattle.move_slots.specs.Filled.{CanFillOwn};
@@ -37,6 +37,7 @@ pub fn write_graph(
     );
     let m = move_slots::slot_count(n, d, e);
     layout::copy(area, at, counts, 0, n);
-    move_edges::fill(area, n, sources, targets, m);
+    let found = move_edges::fill(area, n, sources, targets, m);
+    area[n * n + 4] = found;
     m
 }
