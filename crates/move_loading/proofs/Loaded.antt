@@ -199,7 +199,8 @@ module _ {load : Load} {n : ℕ} {sets area sources targets heads list : List �
   flags-can {l} {heads′} {s} {t} {m} {l′} e g h a b =
       let q = counted load n sets area (can .loadable) l e g in
       let z = counted-le q in
-      let y : length l′ ≡ length area = ap length (g .area) ∙ length-set _ (n * n + 4) _ ∙ patch-long 0 _ _ ∙ patch-long (laneAt n 8) _ l ∙ start-long load n sets area (can .loadable) l e in
+      let graph : List ℕ = patch 0 (matrix s t n m) (patch (laneAt n 8) (part 0 n heads′) l) in
+      let y : length l′ ≡ length area = ap length (g .area) ∙ length-set graph (n * n + 4) (filled-cells s t n m) ∙ patch-long 0 (matrix s t n m) (patch (laneAt n 8) (part 0 n heads′) l) ∙ patch-long (laneAt n 8) (part 0 n heads′) l ∙ start-long load n sets area (can .loadable) l e in
       record {
         room = omega (arith, can .loadable .loadable .sizes .area);
         slots = record {
