@@ -30,6 +30,7 @@ static void atom_set(void) { refusal = nidskalm_reduced_chunk_graph_atom_set(LOA
 static void atom_count(void) { refusal = nidskalm_reduced_chunk_graph_atom_count(LOAD, bits, 4).refusal; }
 static void multiplicity(void) { refusal = nidskalm_reduced_chunk_graph_multiplicity(LOAD, bits, 4, bits, 4).refusal; }
 static void edge_count(void) { refusal = nidskalm_reduced_chunk_graph_edge_count(LOAD).refusal; }
+static void chunk_count(void) { refusal = nidskalm_reduced_chunk_graph_chunk_count(LOAD).refusal; }
 static void edge_at(void) { refusal = nidskalm_reduced_chunk_graph_edge_at(LOAD, 3).refusal; }
 
 static void merge_new(void) {
@@ -131,6 +132,7 @@ static void moves(const char *name, uint64_t atoms, uint64_t entries, uint64_t r
     tell("`atom_count`", atom_count);
     tell("`multiplicity`", multiplicity);
     tell("`edge_count`", edge_count);
+    tell("`chunk_count`", chunk_count);
     tell("`edge_at`", edge_at);
     bits[3] = 0;
 }
