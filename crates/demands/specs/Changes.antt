@@ -1,7 +1,7 @@
 -- 02, (ii): what a move reports of the edges that come and go. Assumes nothing.
 use Prim.Native.Nat.{ℕ, _+_}
 use native.Mathlib.Omega.{arith}
-use mathlib.Core.Path.{_≡_, refl, sym, ap, ap₂, subst, _∙_}
+use mathlib.Core.Path.{_≡_, refl, sym, ap, ap₂, _∙_}
 use mathlib.Core.Bool.{Bool, true, false, not, cond, _&&_, _||_, true≢false, and-false}
 use mathlib.Core.List.{List, [], _∷_, _++_}
 use lib.Dec.{eqb}
@@ -14,7 +14,7 @@ use Rattle.move_ledger.specs.Graph.{Load, mult, edge, rising, row, rows, edges,
 use Rattle.move_ledger.specs.GraphLaws.{edge-source, edge-target}
 use Rattle.move_ledger.specs.Answer.{zeros, Answer, refused, accepted, rejected, is-accepted, reported}
 use Rattle.move_ledger.specs.Answer as answer
-use Rattle.move_ledger.specs.Ledger.{Ledger, kept, report, decide, move}
+use Rattle.move_ledger.specs.Ledger.{Ledger, report, decide, move}
 use Rattle.move_ledger.specs.MoveLaws.{decide-accepted, decide-late, place-after, move-keeps}
 use Rattle.move_ledger.specs.Loading.{refusal}
 use Rattle.move_ledger.specs.Places.{has-kept}

@@ -36,15 +36,19 @@ move-reply (moved.set s) = answering 0
 move-reply (moved.edge e) = answering 0
 move-reply moved.none = answering 0
 
--- no move: 02, "Rejected moves report zeros"
+-- row q refuses the move
 abbrev pub no-move : ℕ → MoveReply
 no-move q = record { refusal = q; accepted = 0; appeared = 0; vanished = 0 }
 
--- `try_move`
+-- the move isn't refused
+abbrev pub moving : ℕ → ℕ → ℕ → MoveReply
+moving yes come gone = record { refusal = 0; accepted = yes; appeared = come; vanished = gone }
+
+-- `try_move`. 02: "Rejected moves report zeros"
 unfoldable pub try-reply : moved.Answer → MoveReply
 try-reply (moved.refused q) = no-move q
-try-reply moved.rejected = no-move 0
-try-reply (moved.accepted r) = record { refusal = 0; accepted = 1; appeared = r .appeared; vanished = r .vanished }
+try-reply moved.rejected = moving 0 0 0
+try-reply (moved.accepted r) = moving 1 (r .appeared) (r .vanished)
 try-reply moved.acyclic = no-move 0
 try-reply moved.cyclic = no-move 0
 try-reply (moved.number k) = no-move 0
