@@ -10,7 +10,7 @@ use crate::sets::{Set, lent_set, width};
 pub const HARMLESS: &str = "loading clears the flags of chunks not yet made";
 
 /// Bugs by name; the first two are none.
-pub const PLANTS: [&str; 62] = [
+pub const PLANTS: [&str; 65] = [
     "none",
     HARMLESS,
     "repeated dependency counted once",
