@@ -42,7 +42,7 @@ no-move q = record { refusal = q; accepted = 0; appeared = 0; vanished = 0 }
 
 -- the move isn't refused
 abbrev pub moving : ℕ → ℕ → ℕ → MoveReply
-moving yes come gone = record { refusal = 0; accepted = yes; appeared = come; vanished = gone }
+moving told come gone = record { refusal = 0; accepted = told; appeared = come; vanished = gone }
 
 -- `try_move`. 02: "Rejected moves report zeros"
 unfoldable pub try-reply : moved.Answer → MoveReply

@@ -116,7 +116,8 @@ impl StandIn {
         let reply = self.miscounted(&load, &place, atom, bits, state.try_move(&load, atom, bits));
         if self.planted("stale marks") {
             (state.counter, state.marks) = before;
-        } else if self.planted("early exit of the walk") && reply == MoveReply::rejected() && state.counter != before.0 {
+        } else if self.planted("early exit of the walk") && reply == MoveReply::rejected() && state.counter != before.0
+        {
             state.marks = before.1;
         } else if self.planted("counter wraps to 0") && before.0 == u32::MAX && state.counter == 1 {
             state.counter = 0;
@@ -127,7 +128,8 @@ impl StandIn {
 
     /// The edges that come and go as a planted bug counts them.
     fn miscounted(&self, load: &Load, place: &[Set], atom: u32, bits: &[u64], reply: MoveReply) -> MoveReply {
-        let (MoveReply { refusal: 0, accepted, appeared, vanished }, Some(target)) = (reply, lent_set(bits, load.e)) else {
+        let (MoveReply { refusal: 0, accepted, appeared, vanished }, Some(target)) = (reply, lent_set(bits, load.e))
+        else {
             return reply;
         };
         let mut moved = place.to_vec();
