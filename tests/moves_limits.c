@@ -164,7 +164,7 @@ static void sizes(void) {
     fill(area, LENGTH(area), 7);
     loaded("one number short", x, &set, 1, area, 123);
     loaded("three numbers too many", x, &set, 1, area, LENGTH(area));
-    say("the header's fourth number", area[7]);
+    say("the header's sixth number", area[9]);
     say("the first one too many", area[124]);
     say("the last one", area[126]);
 }
