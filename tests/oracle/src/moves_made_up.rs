@@ -153,7 +153,7 @@ fn depend_on_itself(load: &mut Load) {
 }
 
 fn damage_load(random: &mut Random, load: &mut Load) {
-    match random.below(15) {
+    match random.below(16) {
         0 => load.a = damaged_size(random, load.a),
         1 => load.d = damaged_size(random, load.d),
         2 => load.e = damaged_size(random, load.e),
@@ -181,6 +181,12 @@ fn damage_load(random: &mut Random, load: &mut Load) {
         13 if !load.fixed.is_empty() => {
             let place = random.index(load.fixed.len());
             load.fixed[place] = if load.fixed[place] == 0 { random.odd_number() } else { 0 };
+        }
+        // Rows 5 and 6 at once.
+        14 if !load.dependencies.is_empty() && !load.hosts.is_empty() => {
+            let (dependency, host) = (random.index(load.dependencies.len()), random.index(load.hosts.len()));
+            load.dependencies[dependency] = random.odd_number();
+            load.hosts[host] = random.odd_number();
         }
         _ => drop(load.starts.pop()),
     }
