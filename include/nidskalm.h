@@ -167,6 +167,15 @@ nidskalm_reply nidskalm_reduced_chunk_graph_edge_count(
     const uint32_t *fixed, size_t fixed_length,
     const uint32_t *area, size_t area_length);
 
+/* The number of chunks: sets that have an atom. */
+nidskalm_reply nidskalm_reduced_chunk_graph_chunk_count(
+    uint64_t a, uint64_t d, uint64_t e, uint64_t n,
+    const uint32_t *starts, size_t starts_length,
+    const uint32_t *dependencies, size_t dependencies_length,
+    const uint32_t *hosts, size_t hosts_length,
+    const uint32_t *fixed, size_t fixed_length,
+    const uint32_t *area, size_t area_length);
+
 /* The k-th edge, from 0, by rising source set, then target set. */
 nidskalm_edge_reply nidskalm_reduced_chunk_graph_edge_at(
     uint64_t a, uint64_t d, uint64_t e, uint64_t n,

@@ -41,6 +41,8 @@ static void moves(void) {
     expect("a multiplicity", reply.refusal, reply.value, 0, 1);
     reply = nidskalm_reduced_chunk_graph_edge_count(LOAD, area, length);
     expect("the number of edges", reply.refusal, reply.value, 0, 1);
+    reply = nidskalm_reduced_chunk_graph_chunk_count(LOAD, area, length);
+    expect("the number of chunks", reply.refusal, reply.value, 0, 2);
     nidskalm_edge_reply edge = nidskalm_reduced_chunk_graph_edge_at(LOAD, area, length, 0);
     expect("an edge", edge.refusal, edge.from0 * 100 + edge.to0 * 10 + edge.multiplicity, 0, 211);
     edge = nidskalm_reduced_chunk_graph_edge_at(LOAD, area, length, 1);

@@ -79,8 +79,17 @@ static void month_of_moves(void) {
     say("accepted of them", accepted);
 }
 
+/* The two kept totals, by the questions; a row that refuses them counts 10,000. */
+static void totals(load x, const uint32_t *area, size_t length) {
+    nidskalm_reply chunks = nidskalm_reduced_chunk_graph_chunk_count(LENT(x), area, length);
+    nidskalm_reply edges = nidskalm_reduced_chunk_graph_edge_count(LENT(x), area, length);
+    say("chunks", chunks.value + 10000 * chunks.refusal);
+    say("edges", edges.value + 10000 * edges.refusal);
+}
+
 /* The first atom depends on all 511 others, each in a set of its own. With it its edges go to a new set, then to that of atom 1, where the one
- * between the two goes. A refused move reports zeros. The last atom joins atom 2: one edge goes, and that to atom 2 is there already. */
+ * between the two goes. A refused move reports zeros. The last atom joins atom 2: one edge goes, and that to atom 2 is there already. Each total one too
+ * high, at N×N + 3 and N×N + 4, is row 9. */
 static void most_edges(void) {
     static uint32_t area[NIDSKALM_MOVE_AREA(512, 511, 10, 513)], starts[513], dependencies[511];
     static uint64_t sets[512];
@@ -98,7 +107,14 @@ static void most_edges(void) {
         say("refused by", reply.refusal);
         say("edges that appear", reply.appeared);
         say("edges that vanish", reply.vanished);
+        totals(x, area, LENGTH(area));
     }
+    for (size_t k = 3; k <= 4; k++) {
+        area[513 * 513 + k] += 1;
+        totals(x, area, LENGTH(area));
+        area[513 * 513 + k] -= 1;
+    }
+    totals(x, area, LENGTH(area));
 }
 
 static void too_many_atoms(void) {
@@ -126,6 +142,7 @@ static void no_atoms(void) {
     loaded("no atoms with room for no set", narrow, &set, 0, area, LENGTH(area));
     loaded("no atoms", x, &set, 0, area, LENGTH(area));
     moved("none of them moves", x, area, LENGTH(area), 0, &set, 0);
+    totals(x, area, LENGTH(area));
 }
 
 /* 256 bits: bit 255 alone, and a bit of each of the four numbers. 33 = 3×3 + 24 is the first number of the nodes' lanes. */
@@ -152,7 +169,7 @@ static void sizes(void) {
     fill(area, LENGTH(area), 7);
     loaded("one number short", x, &set, 1, area, 123);
     loaded("three numbers too many", x, &set, 1, area, LENGTH(area));
-    say("the header's fourth number", area[7]);
+    say("the header's sixth number", area[9]);
     say("the first one too many", area[124]);
     say("the last one", area[126]);
 }

@@ -73,6 +73,7 @@ static void call(const load *x) {
     case 3: atom_count(x); break;
     case 4: multiplicity(x); break;
     case 5: reply_told(nidskalm_reduced_chunk_graph_edge_count(LENT(x), AREA(x))); break;
+    case 8: reply_told(nidskalm_reduced_chunk_graph_chunk_count(LENT(x), AREA(x))); break;
     case 6: edge_told(x->w, nidskalm_reduced_chunk_graph_edge_at(LENT(x), AREA(x), one())); break;
     case 7: reply_told(nidskalm_reduced_chunk_graph_has_cycle(LENT(x), AREA(x))); break;
     default: readable(false);

@@ -112,6 +112,7 @@ fn library_times(library: &dyn Library, input: &Input) -> Vec<(&'static str, f64
         ("atom_count", ask(&|area, k| library.atom_count(load, area, set(k)).value)),
         ("multiplicity", ask(&|area, k| library.multiplicity(load, area, set(k), set(k + 1)).value)),
         ("edge_count", ask(&|area, _| library.edge_count(load, area).value)),
+        ("chunk_count", ask(&|area, _| library.chunk_count(load, area).value)),
         ("edge_at", ask(&|area, k| library.edge_at(load, area, k as u64).multiplicity)),
         ("has_cycle", ask(&|area, _| library.has_cycle(load, area).value)),
     ]

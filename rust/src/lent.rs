@@ -98,6 +98,11 @@ pub fn reduced_chunk_graph_edge_count(load: &Load, n: u64, area: &[u32]) -> Repl
     with_load!(nidskalm_reduced_chunk_graph_edge_count, load, n, area.as_ptr(), area.len())
 }
 
+/// The number of chunks: sets that have an atom.
+pub fn reduced_chunk_graph_chunk_count(load: &Load, n: u64, area: &[u32]) -> Reply {
+    with_load!(nidskalm_reduced_chunk_graph_chunk_count, load, n, area.as_ptr(), area.len())
+}
+
 /// The k-th edge, from 0, by rising source set, then target set.
 pub fn reduced_chunk_graph_edge_at(load: &Load, n: u64, area: &[u32], k: u64) -> EdgeReply {
     with_load!(nidskalm_reduced_chunk_graph_edge_at, load, n, area.as_ptr(), area.len(), k)

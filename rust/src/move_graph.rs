@@ -58,6 +58,7 @@ pub struct Moved {
 /// assert!(graph.try_move(0, EntrySet::from(2))?.accepted);
 /// assert_eq!(graph.atom_count(EntrySet::from(2))?, 2);
 /// assert_eq!(graph.edge_count()?, 0);
+/// assert_eq!(graph.chunk_count()?, 1);
 /// # Ok::<(), nidskalm::Refusal>(())
 /// ```
 #[derive(Clone, Debug)]
@@ -141,6 +142,12 @@ impl<'a> MoveGraph<'a> {
     /// The number of distinct edges.
     pub fn edge_count(&self) -> Result<u64, Refusal> {
         let reply = lent::reduced_chunk_graph_edge_count(&self.load, self.sets, &self.area);
+        Refusal::check(reply.refusal, reply.value)
+    }
+
+    /// The number of chunks: sets that have an atom.
+    pub fn chunk_count(&self) -> Result<u64, Refusal> {
+        let reply = lent::reduced_chunk_graph_chunk_count(&self.load, self.sets, &self.area);
         Refusal::check(reply.refusal, reply.value)
     }
 

@@ -87,6 +87,8 @@ unsafe extern "C" {
     pub fn nidskalm_reduced_chunk_graph_multiplicity(a: u64, d: u64, e: u64, n: u64, starts: *const u32, starts_length: usize, dependencies: *const u32, dependencies_length: usize, hosts: *const u32, hosts_length: usize, fixed: *const u32, fixed_length: usize, area: *const u32, area_length: usize, from: *const u64, from_length: usize, to: *const u64, to_length: usize) -> Reply;
     /// The number of distinct edges.
     pub fn nidskalm_reduced_chunk_graph_edge_count(a: u64, d: u64, e: u64, n: u64, starts: *const u32, starts_length: usize, dependencies: *const u32, dependencies_length: usize, hosts: *const u32, hosts_length: usize, fixed: *const u32, fixed_length: usize, area: *const u32, area_length: usize) -> Reply;
+    /// The number of chunks: sets that have an atom.
+    pub fn nidskalm_reduced_chunk_graph_chunk_count(a: u64, d: u64, e: u64, n: u64, starts: *const u32, starts_length: usize, dependencies: *const u32, dependencies_length: usize, hosts: *const u32, hosts_length: usize, fixed: *const u32, fixed_length: usize, area: *const u32, area_length: usize) -> Reply;
     /// The k-th edge, from 0, by rising source set, then target set.
     pub fn nidskalm_reduced_chunk_graph_edge_at(a: u64, d: u64, e: u64, n: u64, starts: *const u32, starts_length: usize, dependencies: *const u32, dependencies_length: usize, hosts: *const u32, hosts_length: usize, fixed: *const u32, fixed_length: usize, area: *const u32, area_length: usize, k: u64) -> EdgeReply;
     /// Whether there is a cycle, by the book's search; value 0 acyclic, 1 cyclic.

@@ -34,6 +34,7 @@ fn moves_and_questions() {
     assert_eq!(graph.atom_count(set(1)), Ok(2));
     assert_eq!(graph.atom_count(set(3)), Ok(0));
     assert_eq!(graph.edge_count(), Ok(1));
+    assert_eq!(graph.chunk_count(), Ok(2));
     assert_eq!(graph.edges(), Ok(vec![Edge { from: set(2), to: set(1), multiplicity: 1 }]));
     assert_eq!(graph.edge_at(1), Ok(None));
     assert_eq!(graph.has_cycle(), Ok(false));

@@ -51,6 +51,7 @@ def moves(case):
         5: ("edge_count", 0, value),
         6: ("edge_at", 1, [("found", 1), ("from", w), ("to", w), ("multiplicity", 1)]),
         7: ("has_cycle", 0, value),
+        8: ("chunk_count", 0, value),
     }
     for _ in range(case.one()):
         name, arguments, parts = calls[case.one()]

@@ -5,7 +5,7 @@ use lib.ListN.{replicate}
 use Rattle.move_ledger.specs.Graph.{none}
 use Rattle.move_ledger.specs.Answer.{Answer, refused, acyclic, cyclic, accepted, rejected, set, number, edge}
 use Rattle.move_ledger.specs.Answer as answer
-use Rattle.move_ledger.specs.Ledger.{Ledger, try-move, asks, atom-set, atom-count, multiplicity, edge-count, edge-at, has-cycle}
+use Rattle.move_ledger.specs.Ledger.{Ledger, try-move, asks, atom-set, atom-count, multiplicity, edge-count, chunk-count, edge-at, has-cycle}
 use Rattle.cases.specs.Run.{MoveCase, every, shut}
 
 abbrev nobody : ℕ → List ℕ
@@ -35,11 +35,11 @@ P1 =
       N = 96;
       sets = 3 ∷ 1 ∷ 2 ∷ [];
       size = 16384;
-      calls = try-move 0 (1 ∷ []) ∷ try-move 1 (3 ∷ []) ∷ asks edge-count ∷ asks (edge-at 0) ∷ asks (edge-at 1) ∷ asks (atom-set 0) ∷ [];
+      calls = try-move 0 (1 ∷ []) ∷ try-move 1 (3 ∷ []) ∷ asks edge-count ∷ asks chunk-count ∷ asks (edge-at 0) ∷ asks (edge-at 1) ∷ asks (atom-set 0) ∷ [];
       expected =
           record {
             start = acyclic;
-            replies = moves 1 2 ∷ rejected ∷ number 1 ∷ found 2 1 1 ∷ answer.none ∷ set (1 ∷ 0 ∷ 0 ∷ 0 ∷ []) ∷ [];
+            replies = moves 1 2 ∷ rejected ∷ number 1 ∷ number 2 ∷ found 2 1 1 ∷ answer.none ∷ set (1 ∷ 0 ∷ 0 ∷ 0 ∷ []) ∷ [];
             end = kept (1 ∷ 1 ∷ 2 ∷ []) (3 ∷ 1 ∷ 2 ∷ []);
           };
     }
@@ -53,8 +53,8 @@ P2 =
       N = 1;
       sets = [];
       size = 49;
-      calls = [];
-      expected = record { start = acyclic; replies = []; end = kept [] [] };
+      calls = asks chunk-count ∷ asks edge-count ∷ [];
+      expected = record { start = acyclic; replies = number 0 ∷ number 0 ∷ []; end = kept [] [] };
     }
 
 -- "atoms 0 and 1 depend on each other, sets 1, 2, no hosts: cyclic; 0 to set 2 accepted"; before it, inside the component: rejected; (x): verdicts
@@ -247,8 +247,8 @@ all-fixed =
       N = 3;
       sets = 1 ∷ 2 ∷ [];
       size = 16384;
-      calls = try-move 0 (2 ∷ []) ∷ try-move 1 (1 ∷ []) ∷ asks edge-count ∷ [];
-      expected = record { start = cyclic; replies = refused 24 ∷ refused 24 ∷ number 2 ∷ []; end = kept (1 ∷ 2 ∷ []) (1 ∷ 2 ∷ []) };
+      calls = try-move 0 (2 ∷ []) ∷ try-move 1 (1 ∷ []) ∷ asks edge-count ∷ asks chunk-count ∷ [];
+      expected = record { start = cyclic; replies = refused 24 ∷ refused 24 ∷ number 2 ∷ number 2 ∷ []; end = kept (1 ∷ 2 ∷ []) (1 ∷ 2 ∷ []) };
     }
 
 -- (x): atom 1 depends on atom 0 and hosts bit 0: the facade edge from set 1 closes a cycle, until both share it

@@ -10,12 +10,12 @@ use Rattle.graphs.specs.Bools.{and-left, and-right}
 use Rattle.graphs.specs.Square.{index-lt, index-div, index-mod}
 use Rattle.graphs.specs.Tab.{tab-at}
 use Rattle.layout.specs.Patch.{part, part-at}
-use Rattle.move_ledger.specs.Graph.{Load, at, members, mult}
+use Rattle.move_ledger.specs.Graph.{Load, at, members, mult, rising, edges}
 use Rattle.move_ledger.specs.Ledger.{Ledger, move, try-move, call}
 use Rattle.move_ledger.specs.Loading.{refusal}
 use Rattle.move_ledger.specs.LoadLaws.{refusal-none}
 use Rattle.move_area.specs.Bodies.{laneAt}
-use Rattle.move_area.specs.BodyLaws.{read-edges, read-counts}
+use Rattle.move_area.specs.BodyLaws.{read-edges, read-counts, read-occupied, read-distinct}
 use Rattle.move_area.specs.Area.{State, bodies, encode, decode, consistent}
 use Rattle.move_area.specs.Held.{bodies-sized, consistent-held, consistent-whole}
 use Rattle.move_area.specs.ListLaws.{alike-one}
@@ -43,6 +43,9 @@ pub record Fresh (load : Load) (fixed : List ℕ) (N : ℕ) (l : Ledger) (area :
   pub count-at : (x : ℕ) → x < length (l .registered) → getD area (laneAt N 8 + x) 0 ≡ members load (l .place) (at (l .registered) x)
   pub edge-at : (x y : ℕ) → x < length (l .registered) → y < length (l .registered)
       → getD area (x * N + y) 0 ≡ mult load (l .place) (at (l .registered) x) (at (l .registered) y)
+  -- 02: "Keep the number of occupied sets and of distinct edges in the area, true after loading and every move, rejected ones included"
+  pub occupied-at : getD area (N * N + 3) 0 ≡ length (rising (l .place))
+  pub distinct-at : getD area (N * N + 4) 0 ≡ length (edges load (l .place))
   -- "Rows 1 to 9 can't fit within a list"
   pub legal : refusal load fixed N (length area) ≡ 0
   pub checks : checks-out load fixed N area ≡ true
@@ -65,6 +68,8 @@ holding-fresh {load} {N} {area} {st} h =
           ∙ ap (λ (u : List ℕ). getD u (x * N + y) 0) (read-edges N (load .A) (bodies load N st) (bodies-sized (h .held)) area (h .room))
           ∙ tab-at _ (N * N) (x * N + y) i
           ∙ rw (index-div N x y cy, index-mod N x y cy, lt-ltb x (length (st .ledger .registered)) bx, lt-ltb y (length (st .ledger .registered)) by) refl;
+      occupied-at = ap (λ (u : List ℕ). getD u (N * N + 3) 0) (sym (h .whole)) ∙ read-occupied N (load .A) (bodies load N st) (bodies-sized (h .held)) area (h .room);
+      distinct-at = ap (λ (u : List ℕ). getD u (N * N + 4) 0) (sym (h .whole)) ∙ read-distinct N (load .A) (bodies load N st) (bodies-sized (h .held)) area (h .room);
       legal = h .legal;
       checks = holding-checks h;
     }
@@ -82,7 +87,7 @@ unfolding call call-area
 step-after load fixed N area a s h =
     let p = call-step load fixed N area (decode load N area) (try-move a s) h in ap (λ (u : State). u .ledger) (holding-decode (p .holds)) ∙ p .follows
 
--- with the counts and edges of that state, and no row from 1 to 9 that turns it back
+-- with the counts, edges and totals of that state, and no row from 1 to 9 that turns it back
 pub step-fresh : (load : Load) (fixed : List ℕ) (N : ℕ) (area : List ℕ) (a : ℕ) (s : List ℕ) → Holding load fixed N area (decode load N area)
     → Fresh load fixed N (decode load N (on-area.try-move load fixed N area a s .area) .ledger) (on-area.try-move load fixed N area a s .area)
 unfolding call-area

@@ -83,8 +83,8 @@ pub moved-in-history : (load : Load) (fixed : List ℕ) (N : ℕ) (sets : List �
     → is-refused (move load fixed N (history load fixed N sets calls) a s .answer) ≡ false → Decided load (history load fixed N sets calls) a s (move load fixed N (history load fixed N sets calls) a s)
 moved-in-history load fixed N sets calls a s = moved-exactly-acyclic load fixed N (history load fixed N sets calls) a s (history-length load fixed N sets calls)
 
--- The same on the areas that the calls are lent, from any area that no row from 1 to 9 turns back. What the area stores afterwards, counts and edges
--- included, is what its placement says, and no row from 1 to 9 turns it back either
+-- The same on the areas that the calls are lent, from any area that no row from 1 to 9 turns back. What the area stores afterwards, counts, edges and
+-- totals included, is what its placement says, and no row from 1 to 9 turns it back either
 pub moved-on-areas : (load : Load) (fixed : List ℕ) (N : ℕ) (area : List ℕ) (a : ℕ) (s : List ℕ) → refusal load fixed N (length area) ≡ 0 → checks-out load fixed N area ≡ true
     → let called = on-area.try-move load fixed N area a s in
     is-refused (called .answer) ≡ false

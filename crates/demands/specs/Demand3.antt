@@ -86,7 +86,7 @@ pub history-answers : (load : Load) (fixed : List ℕ) (N : ℕ) (sets area : Li
 history-answers load fixed N sets area calls h =
     run load fixed N (new load fixed N sets area .area) (first load N sets) calls (loading-holds load fixed N sets area h) .answers-alike
 
--- "and counts and edges equal those worked out afresh": after every list, and so after every call of one
+-- "and counts and edges equal those worked out afresh", the two kept totals of 02 with them: after every list, and so after every call of one
 pub history-fresh : (load : Load) (fixed : List ℕ) (N : ℕ) (sets area : List ℕ) (calls : List Call) → is-refused (new load fixed N sets area .answer) ≡ false
     → Fresh load fixed N (history load fixed N sets calls) (area-after load fixed N (new load fixed N sets area .area) calls)
 history-fresh load fixed N sets area calls h =

@@ -12,7 +12,7 @@ use Rattle.entry_set.specs.Sets.{value, legal, words}
 use Rattle.move_ledger.specs.Graph.{Load, Edge, at, members, mult, edge, edges}
 use Rattle.move_ledger.specs.Answer.{Answer, refused, acyclic, accepted, rejected, is-refused}
 use Rattle.move_ledger.specs.Answer as answer
-use Rattle.move_ledger.specs.Ledger.{Ledger, smallest-empty, free-place, step1, stays, report, decide, move, Question, atom-set, atom-count, multiplicity, edge-count, edge-at, has-cycle, kth, ask, Call, try-move, asks}
+use Rattle.move_ledger.specs.Ledger.{Ledger, smallest-empty, free-place, step1, stays, report, decide, move, Question, atom-set, atom-count, multiplicity, edge-count, chunk-count, edge-at, has-cycle, kth, ask, Call, try-move, asks}
 use Rattle.move_ledger.specs.Loading.{row1, row2, row3, row4, row5, row6, first-row, marks-fit, refusal, entry-sets, sets-fit, row7, row8, loading-row, loading}
 use Rattle.move_ledger.specs.Evict.{Smallest, smallest, some-empty, Free, place-free}
 use Rattle.move_ledger.specs.Sound.{Sound}
@@ -89,6 +89,7 @@ ask-rows load place (atom-count s) = choice row-of (legal (load .E) s) (answer.n
 ask-rows load place (multiplicity s t) =
     choice row-of (legal (load .E) s && legal (load .E) t) (answer.number (mult load place (value s) (value t))) (refused 11) refl refl
 ask-rows load place edge-count = refl
+ask-rows load place chunk-count = refl
 ask-rows load place (edge-at k) = kth-rows (edges load place) k
 ask-rows load place has-cycle = choice row-of (cyclic (edge load place) place) answer.cyclic acyclic refl refl
 

@@ -11,7 +11,7 @@ use Rattle.graphs.specs.Walk.{cyclic, only}
 use Rattle.layout.specs.Patch.{part}
 use Rattle.entry_set.specs.Joined.{parts}
 use Rattle.entry_set.specs.Lanes.{lanes}
-use Rattle.move_ledger.specs.Graph.{Load, at, members, mult, edge}
+use Rattle.move_ledger.specs.Graph.{Load, at, members, mult, edge, rising, edges}
 use Rattle.move_ledger.specs.Ledger.{Ledger, index}
 use Rattle.move_ledger.specs.Nodes.{placed}
 use Rattle.move_area.specs.Bodies.{laneAt, atomAt, Bodies, write}
@@ -30,16 +30,22 @@ square n f = tab (λ i. f (i / n) (i % n)) (n * n)
 abbrev pub nodewise : List ℕ → (ℕ → ℕ) → ℕ → ℕ
 nodewise sets f x = cond (ltb x (length sets)) (f (at sets x)) 0
 
--- "counts, edges, .. acyclic flag and component (none if acyclic)", "worked out from the load and placement"
+-- "counts, edges, .. acyclic flag and component (none if acyclic)", "worked out from the load and placement"; 02: "the number of occupied sets and of
+-- distinct edges"
 unfoldable pub bodies : Load → ℕ → State → Bodies
 bodies load N st =
     let place = st .ledger .place in
     let sets = st .ledger .registered in
     record {
       edges = square N (λ x y. nodewise sets (λ X. nodewise sets (λ Y. mult load place X Y) y) x);
-      registered = length sets;
-      counter = st .counter;
-      acyclic = ind (not (cyclic (edge load place) place));
+      header =
+          record {
+            registered = length sets;
+            counter = st .counter;
+            acyclic = ind (not (cyclic (edge load place) place));
+            occupied = length (rising place);
+            distinct = length (edges load place);
+          };
       words = λ j. tab (λ x. getD (parts 32 8 (at sets x)) j 0) (length sets);
       counts = tab (nodewise sets (members load place)) N;
       marks = st .marks;
@@ -80,7 +86,7 @@ in-order load N st =
 unfoldable pub alike-lists : List ℕ → List ℕ → Bool
 alike-lists k l = eqb (length k) (length l) && not (some-below (λ i. not (eqb (at k i) (at l i))) (length k))
 
--- the named state is in order, "and counts, edges, .. acyclic flag and component (none if acyclic) equal those worked out from the load and placement":
--- written anew, the area is the same
+-- the named state is in order, "and counts, edges, .. acyclic flag and component (none if acyclic) equal those worked out from the load and placement";
+-- 02: "both fall under the area check of 9": written anew, the area is the same
 unfoldable pub consistent : Load → ℕ → List ℕ → Bool
 consistent load N area = in-order load N (decode load N area) && alike-lists (encode load N (decode load N area) area) area

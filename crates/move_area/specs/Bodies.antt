@@ -13,16 +13,27 @@ laneAt n j = n * n + 24 + j * n
 abbrev pub atomAt : ℕ → ℕ
 atomAt n = n * n + 24 + 24 * n
 
--- what the fields hold
-pub record Bodies : Type 0 where
-  -- the multiplicities, N rows of N
-  pub edges : List ℕ
+-- the numbers of the header, in their order
+pub record Header : Type 0 where
   -- how many sets are registered
   pub registered : ℕ
   -- the walk counter
   pub counter : ℕ
   -- 1 where the graph has no cycle, else 0
   pub acyclic : ℕ
+  -- how many sets have an atom
+  pub occupied : ℕ
+  -- how many distinct edges there are
+  pub distinct : ℕ
+
+abbrev pub numbers : Header → List ℕ
+numbers h = h .registered ∷ h .counter ∷ h .acyclic ∷ h .occupied ∷ h .distinct ∷ []
+
+-- what the fields hold
+pub record Bodies : Type 0 where
+  -- the multiplicities, N rows of N
+  pub edges : List ℕ
+  pub header : Header
   -- word j of each registered set
   pub words : ℕ → List ℕ
   -- how many atoms each node has
@@ -34,14 +45,11 @@ pub record Bodies : Type 0 where
   -- each atom's node
   pub nodes : List ℕ
 
-abbrev pub header : Bodies → List ℕ
-header b = b .registered ∷ b .counter ∷ b .acyclic ∷ []
-
 -- what stands where
 abbrev pub fieldsOf : ℕ → Bodies → List Field
 fieldsOf n b =
     field 0 (b .edges)
-    ∷ field (n * n) (header b)
+    ∷ field (n * n) (numbers (b .header))
     ∷ field (laneAt n 0) (b .words 0)
     ∷ field (laneAt n 1) (b .words 1)
     ∷ field (laneAt n 2) (b .words 2)
@@ -63,8 +71,8 @@ write n b l = lay (fieldsOf n b) l
 -- the lists are as long as the places for them
 pub record Sized (n a : ℕ) (b : Bodies) : Type 0 where
   pub edges : length (b .edges) ≡ n * n
-  pub few : b .registered ≤ n
-  pub words : (j : ℕ) → j < 8 → length (b .words j) ≡ b .registered
+  pub few : b .header .registered ≤ n
+  pub words : (j : ℕ) → j < 8 → length (b .words j) ≡ b .header .registered
   pub counts : length (b .counts) ≡ n
   pub marks : length (b .marks) ≡ n
   pub component : length (b .component) ≡ n

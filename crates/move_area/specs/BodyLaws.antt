@@ -4,11 +4,11 @@ use mathlib.Core.List.{List, [], _∷_}
 use Prim.Native.Nat.{ℕ, zero, suc, _+_, _*_, _≤_, _<_}
 use native.Mathlib.Omega.{arith}
 use native.Mathlib.Nat.{add-zero}
-use lib.ListN.{length, getD}
-use Rattle.layout.specs.Patch.{patch, part, part-at, part-more, part-none}
+use lib.ListN.{length, getD, set}
+use Rattle.layout.specs.Patch.{patch, part, is-part, part-at, part-more, part-none, patch-same, patch-cell}
 use Rattle.layout.specs.Fields.{Field, field, lay, Fits, In, here, there, lay-long, lay-read, lay-same, lay-again}
 use Rattle.layout.specs.Change.{swap, lay-swap, swap-fits}
-use Rattle.move_area.specs.Bodies.{laneAt, atomAt, Bodies, header, fieldsOf, write, Sized}
+use Rattle.move_area.specs.Bodies.{laneAt, atomAt, Header, numbers, Bodies, fieldsOf, write, Sized}
 
 pub write-long : (n : ℕ) (b : Bodies) (l : List ℕ) → length (write n b l) ≡ length l
 unfolding write
@@ -27,22 +27,28 @@ module _ (n a : ℕ) (b : Bodies) (v : Sized n a b) (l : List ℕ) (room : atomA
   pub read-edges : part 0 (n * n) (write n b l) ≡ b .edges
   read-edges = rw (v .edges) at (reads (field 0 (b .edges)) here)
 
-  pub read-header : (i : ℕ) → i < 3 → getD (write n b l) (n * n + i) 0 ≡ getD (header b) i 0
-  read-header i h = sym (part-at (n * n) 3 (write n b l) i h) ∙ ap (λ (u : List ℕ). getD u i 0) (reads (field (n * n) (header b)) (there here))
+  pub read-header : (i : ℕ) → i < 5 → getD (write n b l) (n * n + i) 0 ≡ getD (numbers (b .header)) i 0
+  read-header i h = sym (part-at (n * n) 5 (write n b l) i h) ∙ ap (λ (u : List ℕ). getD u i 0) (reads (field (n * n) (numbers (b .header))) (there here))
 
-  pub read-registered : getD (write n b l) (n * n) 0 ≡ b .registered
+  pub read-registered : getD (write n b l) (n * n) 0 ≡ b .header .registered
   read-registered = rw add-zero at (read-header 0 (omega arith))
 
-  pub read-counter : getD (write n b l) (n * n + 1) 0 ≡ b .counter
+  pub read-counter : getD (write n b l) (n * n + 1) 0 ≡ b .header .counter
   read-counter = read-header 1 (omega arith)
 
-  pub read-acyclic : getD (write n b l) (n * n + 2) 0 ≡ b .acyclic
+  pub read-acyclic : getD (write n b l) (n * n + 2) 0 ≡ b .header .acyclic
   read-acyclic = read-header 2 (omega arith)
 
-  lane : (j : ℕ) → j < 8 → In (field (laneAt n j) (b .words j)) (fieldsOf n b) → part (laneAt n j) (b .registered) (write n b l) ≡ b .words j
+  pub read-occupied : getD (write n b l) (n * n + 3) 0 ≡ b .header .occupied
+  read-occupied = read-header 3 (omega arith)
+
+  pub read-distinct : getD (write n b l) (n * n + 4) 0 ≡ b .header .distinct
+  read-distinct = read-header 4 (omega arith)
+
+  lane : (j : ℕ) → j < 8 → In (field (laneAt n j) (b .words j)) (fieldsOf n b) → part (laneAt n j) (b .header .registered) (write n b l) ≡ b .words j
   lane j h i = rw (v .words j h) at (reads (field (laneAt n j) (b .words j)) i)
 
-  pub read-words : (j : ℕ) → j < 8 → part (laneAt n j) (b .registered) (write n b l) ≡ b .words j
+  pub read-words : (j : ℕ) → j < 8 → part (laneAt n j) (b .header .registered) (write n b l) ≡ b .words j
   read-words zero h = lane 0 h (there (there here))
   read-words (suc zero) h = lane 1 h (there (there (there here)))
   read-words (suc (suc zero)) h = lane 2 h (there (there (there (there here))))
@@ -65,6 +71,16 @@ module _ (n a : ℕ) (b : Bodies) (v : Sized n a b) (l : List ℕ) (room : atomA
   pub read-nodes : part (atomAt n) a (write n b l) ≡ b .nodes
   read-nodes = rw (v .nodes) at (reads (field (atomAt n) (b .nodes)) (there (there (there (there (there (there (there (there (there (there (there (there (there here))))))))))))))
 
+-- one number of a list that stands there is set
+pub set-field : (at : ℕ) (v l : List ℕ) (i x : ℕ) → part at (length v) l ≡ v → i < length v → at + length v ≤ length l → set l (at + i) x ≡ patch at (set v i x) l
+set-field at v l i x e h b = ap (λ (u : List ℕ). set u (at + i) x) (sym (patch-same at v l e)) ∙ patch-cell at v l i x h b
+
+-- one number of the header is set
+pub set-header : (n a : ℕ) (b : Bodies) → Sized n a b → (l : List ℕ) → atomAt n + a ≤ length l → (i x : ℕ) → i < 5
+    → set (write n b l) (n * n + i) x ≡ patch (n * n) (set (numbers (b .header)) i x) (write n b l)
+set-header n a b v l room i x h =
+    set-field (n * n) (numbers (b .header)) (write n b l) i x (is-part (n * n) (write n b l) (numbers (b .header)) (λ k z. read-header n a b v l room k z)) h (omega (arith, write-long n b l))
+
 -- written twice is written once
 pub write-again : (n a : ℕ) (b : Bodies) → Sized n a b → (l : List ℕ) → atomAt n + a ≤ length l → write n b (write n b l) ≡ write n b l
 unfolding write
@@ -79,26 +95,36 @@ stands : {l : List ℕ} {fs : List Field} → Stand l fs → (f : Field) → In 
 stands (next h s) _ (here) = h
 stands (next h s) f (there i) = stands s f i
 
+-- the numbers of a header stand in l
+pub record HeaderIn (n : ℕ) (l : List ℕ) (h : Header) : Type 0 where
+  pub registered : getD l (n * n) 0 ≡ h .registered
+  pub counter : getD l (n * n + 1) 0 ≡ h .counter
+  pub acyclic : getD l (n * n + 2) 0 ≡ h .acyclic
+  pub occupied : getD l (n * n + 3) 0 ≡ h .occupied
+  pub distinct : getD l (n * n + 4) 0 ≡ h .distinct
+
+pub header-part : {n : ℕ} {l : List ℕ} {h : Header} → HeaderIn n l h → part (n * n) 5 l ≡ numbers h
+header-part {n} {l} {h} s =
+    part-more (n * n) 4 l ∙ ap₂ {A = ℕ} {B = List ℕ} _∷_ (s .registered)
+    (part-more (n * n + 1) 3 l ∙ ap₂ {A = ℕ} {B = List ℕ} _∷_ (s .counter)
+    (part-more (n * n + 1 + 1) 2 l ∙ ap₂ {A = ℕ} {B = List ℕ} _∷_ (let z : n * n + 1 + 1 ≡ n * n + 2 = omega arith in rw z (s .acyclic))
+    (part-more (n * n + 1 + 1 + 1) 1 l ∙ ap₂ {A = ℕ} {B = List ℕ} _∷_ (let z : n * n + 1 + 1 + 1 ≡ n * n + 3 = omega arith in rw z (s .occupied))
+    (part-more (n * n + 1 + 1 + 1 + 1) 0 l ∙ ap₂ {A = ℕ} {B = List ℕ} _∷_ (let z : n * n + 1 + 1 + 1 + 1 ≡ n * n + 4 = omega arith in rw z (s .distinct)) (part-none _ l)))))
+
 -- an area's own fields, written over it, change nothing
-pub write-same : (n a : ℕ) (l : List ℕ) (b : Bodies) → Sized n a b → part 0 (n * n) l ≡ b .edges → getD l (n * n) 0 ≡ b .registered → getD l (n * n + 1) 0 ≡ b .counter
-    → getD l (n * n + 2) 0 ≡ b .acyclic → ((j : ℕ) → j < 8 → part (laneAt n j) (b .registered) l ≡ b .words j) → part (laneAt n 8) n l ≡ b .counts
+pub write-same : (n a : ℕ) (l : List ℕ) (b : Bodies) → Sized n a b → part 0 (n * n) l ≡ b .edges → HeaderIn n l (b .header)
+    → ((j : ℕ) → j < 8 → part (laneAt n j) (b .header .registered) l ≡ b .words j) → part (laneAt n 8) n l ≡ b .counts
     → part (laneAt n 9) n l ≡ b .marks → part (laneAt n 10) n l ≡ b .component → part (atomAt n) a l ≡ b .nodes → write n b l ≡ l
 unfolding write
-write-same n a l b v e r c y w k m o p = lay-same (fieldsOf n b) l (stands all)
+write-same n a l b v e h w k m o p = lay-same (fieldsOf n b) l (stands all)
   where
-    head : part (n * n) 3 l ≡ header b
-    head =
-        part-more (n * n) 2 l ∙ ap₂ {A = ℕ} {B = List ℕ} _∷_ r
-        (part-more (n * n + 1) 1 l ∙ ap₂ {A = ℕ} {B = List ℕ} _∷_ c
-        (part-more (n * n + 1 + 1) 0 l ∙ ap₂ {A = ℕ} {B = List ℕ} _∷_ (let z : n * n + 1 + 1 ≡ n * n + 2 = omega arith in rw z y) (part-none _ l)))
-
     word : (j : ℕ) → j < 8 → part (laneAt n j) (length (b .words j)) l ≡ b .words j
     word j h = rw (v .words j h) (w j h)
 
     all : Stand l (fieldsOf n b)
     all =
         next {f = field (0) (b .edges)} (rw (v .edges) e)
-        (next {f = field (n * n) (header b)} (head)
+        (next {f = field (n * n) (numbers (b .header))} (header-part h)
         (next {f = field (laneAt n 0) (b .words 0)} (word 0 (omega arith))
         (next {f = field (laneAt n 1) (b .words 1)} (word 1 (omega arith))
         (next {f = field (laneAt n 2) (b .words 2)} (word 2 (omega arith))
@@ -118,26 +144,26 @@ module _ (n a : ℕ) (b : Bodies) (v : Sized n a b) (l : List ℕ) where
   unfolding write
   renew i w e = lay-swap (fieldsOf n b) 0 (atomAt n + a) l i w (swap-fits (fieldsOf n b) 0 (atomAt n + a) i w (fields-fit n a b v) e) (omega arith)
 
-  pub renew-edges : (w : List ℕ) → length w ≡ n * n → patch (0) w (write n b l) ≡ write n (record { edges = w; registered = b .registered; counter = b .counter; acyclic = b .acyclic; words = b .words; counts = b .counts; marks = b .marks; component = b .component; nodes = b .nodes }) l
+  pub renew-edges : (w : List ℕ) → length w ≡ n * n → patch (0) w (write n b l) ≡ write n (record { edges = w; header = b .header; words = b .words; counts = b .counts; marks = b .marks; component = b .component; nodes = b .nodes }) l
   unfolding write swap
   renew-edges w e = renew here w (e ∙ sym (v .edges))
 
-  pub renew-counts : (w : List ℕ) → length w ≡ n → patch (laneAt n 8) w (write n b l) ≡ write n (record { edges = b .edges; registered = b .registered; counter = b .counter; acyclic = b .acyclic; words = b .words; counts = w; marks = b .marks; component = b .component; nodes = b .nodes }) l
+  pub renew-counts : (w : List ℕ) → length w ≡ n → patch (laneAt n 8) w (write n b l) ≡ write n (record { edges = b .edges; header = b .header; words = b .words; counts = w; marks = b .marks; component = b .component; nodes = b .nodes }) l
   unfolding write swap
   renew-counts w e = renew (there (there (there (there (there (there (there (there (there (there here)))))))))) w (e ∙ sym (v .counts))
 
-  pub renew-marks : (w : List ℕ) → length w ≡ n → patch (laneAt n 9) w (write n b l) ≡ write n (record { edges = b .edges; registered = b .registered; counter = b .counter; acyclic = b .acyclic; words = b .words; counts = b .counts; marks = w; component = b .component; nodes = b .nodes }) l
+  pub renew-marks : (w : List ℕ) → length w ≡ n → patch (laneAt n 9) w (write n b l) ≡ write n (record { edges = b .edges; header = b .header; words = b .words; counts = b .counts; marks = w; component = b .component; nodes = b .nodes }) l
   unfolding write swap
   renew-marks w e = renew (there (there (there (there (there (there (there (there (there (there (there here))))))))))) w (e ∙ sym (v .marks))
 
-  pub renew-component : (w : List ℕ) → length w ≡ n → patch (laneAt n 10) w (write n b l) ≡ write n (record { edges = b .edges; registered = b .registered; counter = b .counter; acyclic = b .acyclic; words = b .words; counts = b .counts; marks = b .marks; component = w; nodes = b .nodes }) l
+  pub renew-component : (w : List ℕ) → length w ≡ n → patch (laneAt n 10) w (write n b l) ≡ write n (record { edges = b .edges; header = b .header; words = b .words; counts = b .counts; marks = b .marks; component = w; nodes = b .nodes }) l
   unfolding write swap
   renew-component w e = renew (there (there (there (there (there (there (there (there (there (there (there (there here)))))))))))) w (e ∙ sym (v .component))
 
-  pub renew-nodes : (w : List ℕ) → length w ≡ a → patch (atomAt n) w (write n b l) ≡ write n (record { edges = b .edges; registered = b .registered; counter = b .counter; acyclic = b .acyclic; words = b .words; counts = b .counts; marks = b .marks; component = b .component; nodes = w }) l
+  pub renew-nodes : (w : List ℕ) → length w ≡ a → patch (atomAt n) w (write n b l) ≡ write n (record { edges = b .edges; header = b .header; words = b .words; counts = b .counts; marks = b .marks; component = b .component; nodes = w }) l
   unfolding write swap
   renew-nodes w e = renew (there (there (there (there (there (there (there (there (there (there (there (there (there here))))))))))))) w (e ∙ sym (v .nodes))
 
-  pub renew-header : (r c y : ℕ) → patch (n * n) (r ∷ c ∷ y ∷ []) (write n b l) ≡ write n (record { edges = b .edges; registered = r; counter = c; acyclic = y; words = b .words; counts = b .counts; marks = b .marks; component = b .component; nodes = b .nodes }) l
+  pub renew-header : (h : Header) → patch (n * n) (numbers h) (write n b l) ≡ write n (record { edges = b .edges; header = h; words = b .words; counts = b .counts; marks = b .marks; component = b .component; nodes = b .nodes }) l
   unfolding write swap
-  renew-header r c y = renew (there here) (r ∷ c ∷ y ∷ []) refl
+  renew-header h = renew (there here) (numbers h) refl

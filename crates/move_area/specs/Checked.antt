@@ -22,8 +22,9 @@ use Rattle.move_ledger.specs.Graph.{Load, at, members}
 use Rattle.move_ledger.specs.LoadLaws.{InOrder}
 use Rattle.move_ledger.specs.Nodes.{Placing, sources, targets, node-edge}
 use Rattle.move_ledger.specs.NodeLaws.{placed-length, placed-at}
+use Rattle.move_ledger.specs.Totals.{busy-nodes, filled-cells}
 use Rattle.move_area.specs.Bodies.{laneAt, atomAt, write, Sized}
-use Rattle.move_area.specs.BodyLaws.{write-same, read-edges, read-acyclic, read-counts, read-component, read-nodes}
+use Rattle.move_area.specs.BodyLaws.{HeaderIn, write-same, read-edges, read-acyclic, read-occupied, read-distinct, read-counts, read-component, read-nodes}
 use Rattle.move_area.specs.Area.{bodies, encode, setsIn, decode, in-order, consistent}
 use Rattle.move_area.specs.ListLaws.{one-alike, Distinct, one-place}
 use Rattle.move_area.specs.Held.{Held, held-in-order, held-distinct, bodies-sized, consistent-held, consistent-whole}
@@ -53,6 +54,8 @@ pub record Worked (load : Load) (N : ℕ) (area : List ℕ) : Type 0 where
       → getD area i 0 ≡ flat (sources load (nodesIn load N area) (setsIn N area)) (targets load (nodesIn load N area) (setsIn N area)) N (load .D + load .E) i
   pub acyclic : getD area (N * N + 2) 0 ≡ ind (not (cyclic (node-edge load (nodesIn load N area) (setsIn N area)) (below N)))
   pub component : (x : ℕ) → x < N → getD area (laneAt N 10 + x) 0 ≡ ind (only (node-edge load (nodesIn load N area) (setsIn N area)) (below N) x)
+  pub occupied : getD area (N * N + 3) 0 ≡ busy-nodes load (nodesIn load N area) N
+  pub distinct : getD area (N * N + 4) 0 ≡ filled-cells (sources load (nodesIn load N area) (setsIn N area)) (targets load (nodesIn load N area) (setsIn N area)) N (load .D + load .E)
 
 pub sets-length : (N : ℕ) (area : List ℕ) → length (setsIn N area) ≡ getD area (N * N) 0
 unfolding setsIn
@@ -100,10 +103,13 @@ module _ (load : Load) (N : ℕ) (area : List ℕ) (o : InOrder load) (small : N
         and-both (in-order load N (decode load N area)) _ (held-in-order (ranged-held r))
         (one-alike _ _ (encode-nodes load N s o p few area
         ∙ write-same N (load .A) area (nodeBodies load N s) sized
-        (part-is 0 (N * N) area _ (λ i b. ap (λ k. getD area k 0) (zero-add i) ∙ w .edges i b)) (sym (sets-length N area)) refl (w .acyclic) word (part-is (laneAt N 8) N area _ (w .counts)) refl (part-is (laneAt N 10) N area _ (w .component)) refl))
+        (part-is 0 (N * N) area _ (λ i b. ap (λ k. getD area k 0) (zero-add i) ∙ w .edges i b)) head word (part-is (laneAt N 8) N area _ (w .counts)) refl (part-is (laneAt N 10) N area _ (w .component)) refl))
       where
         s : Nodes
         s = nodesState load N area
+
+        head : HeaderIn N area (nodeBodies load N s .header)
+        head = record { registered = sym (sets-length N area); counter = refl; acyclic = w .acyclic; occupied = w .occupied; distinct = w .distinct }
 
         p : Placing load (nodesIn load N area) (setsIn N area)
         p = ranged-placing small r
@@ -167,4 +173,6 @@ module _ (load : Load) (N : ℕ) (area : List ℕ) (o : InOrder load) (small : N
             edges = λ i b. ap (λ k. getD area k 0) (sym (zero-add i)) ∙ cell 0 (N * N) _ (read-edges N (load .A) (nodeBodies load N (nodesState load N area)) sized area room) i b;
             acyclic = ap (λ (u : List ℕ). getD u (N * N + 2) 0) (sym by-nodes) ∙ read-acyclic N (load .A) (nodeBodies load N (nodesState load N area)) sized area room;
             component = cell (laneAt N 10) N _ (read-component N (load .A) (nodeBodies load N (nodesState load N area)) sized area room);
+            occupied = ap (λ (u : List ℕ). getD u (N * N + 3) 0) (sym by-nodes) ∙ read-occupied N (load .A) (nodeBodies load N (nodesState load N area)) sized area room;
+            distinct = ap (λ (u : List ℕ). getD u (N * N + 4) 0) (sym by-nodes) ∙ read-distinct N (load .A) (nodeBodies load N (nodesState load N area)) sized area room;
           }

@@ -23,6 +23,7 @@ use Rattle.move_ledger.specs.LoadLaws.{InOrder}
 use Rattle.move_ledger.specs.Nodes.{placed, Placing, sources, targets, node-edge}
 use Rattle.move_ledger.specs.NodeLaws.{placed-at, members-nodes}
 use Rattle.move_ledger.specs.NodeWalks.{mult-nodes, mult-outside, ends-nodes, cyclic-nodes, only-nodes, only-outside}
+use Rattle.move_ledger.specs.Totals.{busy-nodes, filled-cells, chunk-count-nodes, edge-count-cells}
 use Rattle.move_area.specs.Bodies.{Bodies, write}
 use Rattle.move_area.specs.Area.{State, square, nodewise, bodies, encode}
 use Rattle.move_area.specs.ListLaws.{Distinct, index-at}
@@ -38,9 +39,14 @@ unfoldable pub nodeBodies : Load → ℕ → Nodes → Bodies
 nodeBodies load N s =
     record {
       edges = tab (flat (sources load (s .nodes) (s .sets)) (targets load (s .nodes) (s .sets)) N (load .D + load .E)) (N * N);
-      registered = length (s .sets);
-      counter = s .counter;
-      acyclic = ind (not (cyclic (node-edge load (s .nodes) (s .sets)) (below N)));
+      header =
+          record {
+            registered = length (s .sets);
+            counter = s .counter;
+            acyclic = ind (not (cyclic (node-edge load (s .nodes) (s .sets)) (below N)));
+            occupied = busy-nodes load (s .nodes) N;
+            distinct = filled-cells (sources load (s .nodes) (s .sets)) (targets load (s .nodes) (s .sets)) N (load .D + load .E);
+          };
       words = λ j. tab (λ x. getD (parts 32 8 (at (s .sets) x)) j 0) (length (s .sets));
       counts = tab (members load (s .nodes)) N;
       marks = s .marks;
@@ -116,7 +122,7 @@ module _ (load : Load) (N : ℕ) (s : Nodes) (o : InOrder load) (p : Placing loa
 
   pub bodies-nodes : bodies load N (stateOf s) ≡ nodeBodies load N s
   unfolding bodies nodeBodies
-  bodies-nodes = rw (edges-one, ← cyclic-nodes o p N few, counts-one, component-one, nodes-alike) refl
+  bodies-nodes = rw (edges-one, ← cyclic-nodes o p N few, chunk-count-nodes p N few, edge-count-cells o p N few, counts-one, component-one, nodes-alike) refl
 
   pub encode-nodes : (l : List ℕ) → encode load N (stateOf s) l ≡ write N (nodeBodies load N s) l
   unfolding encode

@@ -2,4 +2,5 @@
 pub mod Ranges
 pub mod Matched
 pub mod Flags
+pub mod Totals
 pub mod Ready

@@ -1,4 +1,6 @@
 // Whether what is worked out from the load and the placement is what an area holds.
+use super::totals::sum;
+use super::totals::totals_are;
 ghost use mathlib.Core.Path.{_≡_};
 ghost use Rattle.graphs.specs.Bools.{Decides};
 ghost use Rattle.graphs.specs.Slots.{slotEdge};
@@ -66,7 +68,7 @@ fn flags_hold(
     flags_are(area, n, 1, &flags)
 }
 
-// Whether counts, edges, acyclic flag and component are those worked out from the load and the area's placement. The slots stand in `sources` and
+// Whether counts, edges, totals, acyclic flag and component are those worked out from the load and the area's placement. The slots stand in `sources` and
 // `targets`, grouped in `heads` and `list`; `degrees` has the atom counts first. `row` is scratch.
 pub fn is_worked(
     a: usize,
@@ -102,7 +104,9 @@ pub fn is_worked(
     );
     let m = move_slots::slot_count(n, d, e);
     let counts_fit = counts_hold(area, n, degrees);
+    let chunks = move_edges::rows::count_filled(degrees, 0, n);
     let edges_fit = edges_hold(area, n, m, sources, targets, heads, list, row, degrees);
+    let totals_fit = totals_are(area, n, chunks, sum(degrees, n));
     let flags_fit = flags_hold(area, n, m, sources, targets, heads, list);
-    counts_fit & edges_fit & flags_fit
+    counts_fit & edges_fit & totals_fit & flags_fit
 }

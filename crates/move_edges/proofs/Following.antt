@@ -9,7 +9,7 @@ use lib.Dec.{eqb, ltb}
 use lib.ListN.{length, getD, replicate, length-replicate, getD-replicate}
 use borrow.Author.Tests.{eqb-true, eq-eqb, ne-eqb, lt-ltb}
 use Rattle.graphs.specs.Bools.{and-both}
-use Rattle.graphs.specs.Count.{ind, count, count-none, count-more, count-yes, count-le, count-mono, count-ext}
+use Rattle.graphs.specs.Count.{ind, count, count-none, count-more, count-yes, count-le, count-mono, count-ext, count-all-no}
 use Rattle.graphs.specs.Total.{count-total, total-change}
 use Rattle.graphs.specs.Square.{index-lt}
 use Rattle.graphs.specs.Slots.{stands, cell, flat, added, removed}
@@ -327,4 +327,22 @@ module _ {e₀ : List ℕ} {n : ℕ} {s t u v : List ℕ} {m : ℕ} where
         z,
         filled-less n (getD s k 0) (getD t k 0) (can .both .ends .source k l) (can .both .ends .target k l) e e′ (changed s t u v k) (shed-can can h l .there)
             (λ i. rw q (shed-at e n (getD s k 0) (getD t k 0) (getD u k 0) (getD v k 0) (shed-can can h l) i)),
+      )
+
+-- from nothing: no number is there, and each edge that appears is one more
+module _ {n : ℕ} {s t : List ℕ} {m : ℕ} {e₀ : List ℕ} (can : CanFill e₀ n s t m) {e₁ : List ℕ} (c : e₁ ≡ patch 0 (replicate (n * n) 0) e₀) where
+  pub fill-none : filled e₁ n ≡ 0
+  unfolding filled
+  fill-none = count-all-no (λ i. ltb 0 (getD e₁ i 0)) (n * n) (λ i b. same-ltb (getD e₁ i 0) 0 (zero-at can c i b))
+
+  pub fill-tally : {k : ℕ} {e : List ℕ} → Grown (cell s t n) k e₁ e → k < m → {e′ : List ℕ} → e′ ≡ added e n (getD s k 0) (getD t k 0)
+      → (x : ℕ) {r : ℕ} → r ≡ ind (appears e n (getD s k 0) (getD t k 0)) → x ≡ filled e n → x + r ≡ filled e′ n
+  fill-tally {k} {e} h l {e′} q x w z =
+      let a = getD s k 0 in
+      let b = getD t k 0 in
+      omega (
+        arith,
+        w,
+        z,
+        filled-more n a b (can .ends .source k l) (can .ends .target k l) e e′ true (λ i. rw q (more-at e (a * n + b) a b i (within-place (fill-can can c h l .within)))),
       )

@@ -162,15 +162,18 @@ pub fn update(
     }
 }
 
-// The matrix of the slots, from nothing.
-pub fn fill(edges: &mut [u32], n: usize, s: &[u32], t: &[u32], m: usize)
+// The matrix of the slots, from nothing, and how many of its numbers aren't 0.
+pub fn fill(edges: &mut [u32], n: usize, s: &[u32], t: &[u32], m: usize) -> u32
     requires { ⌜ CanFill (now edges) n (now s) (now t) m ⌝ }
+    ensures { λ r. ⌜ r ≡ filled (now (edges .exit)) n ⌝ }
     ensures { λ _. ⌜ now (edges .exit) ≡ patch 0 (matrix (now (s .entry)) (now (t .entry)) n m) (now (edges .entry)) ⌝ }
 {
     layout::fill_with(edges, 0, n * n, 0);
+    let mut found = 0;
     let mut k = 0;
     while k < m {
-        add(edges, n, s[k], t[k]);
+        found += told(add(edges, n, s[k], t[k]));
         k += 1;
     }
+    found
 }

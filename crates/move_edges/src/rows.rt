@@ -87,7 +87,7 @@ fn compare(edges: &[u32], at: usize, row: &[u32], n: usize) -> u32
 }
 
 // How many of the n numbers of edges from `at` on aren't 0.
-fn count_filled(edges: &[u32], at: usize, n: usize) -> u32
+pub fn count_filled(edges: &[u32], at: usize, n: usize) -> u32
     requires { ⌜ CanCount (now edges) at n ⌝ }
     ensures { λ r. ⌜ Compared (now (edges .entry)) at (λ y. 0) n r ⌝ }
 {

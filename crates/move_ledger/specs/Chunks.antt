@@ -1,5 +1,5 @@
 -- For the code: a sum over the chunks, by rising sets, is the sum over the nodes that have an atom. Assumes nothing.
-use Prim.Native.Nat.{ℕ, zero, suc, _+_, _-_, _≤_, _<_}
+use Prim.Native.Nat.{ℕ, zero, suc, _+_, _-_, _*_, _≤_, _<_}
 use native.Mathlib.Omega.{arith}
 use mathlib.Core.Path.{_≡_, refl, sym, ap, subst, _∙_}
 use mathlib.Core.Bool.{Bool, true, false, cond, _&&_, true≢false}
@@ -18,6 +18,7 @@ use Rattle.move_ledger.specs.Nodes.{placed, Placing}
 use Rattle.move_ledger.specs.NodeLaws.{placed-length, placed-at, members-nodes}
 use Rattle.move_ledger.specs.Ledger.{kept}
 use Rattle.move_ledger.specs.Places.{has-kept, Apart}
+use Rattle.move_ledger.specs.Evict.{total-noughts}
 use Rattle.move_ledger.specs.Edges.{total-first}
 
 pub sum-total : (f : ℕ → ℕ) (l : List ℕ) → sum f l ≡ total (λ j. f (at l j)) (length l)
@@ -132,3 +133,30 @@ module _ {load : Load} {nodes sets : List ℕ} (p : Placing load nodes sets) whe
 
       longer : (d : ℕ) → total (λ x. cond (occupied load nodes x) (f (at sets x)) 0) (length sets) ≡ total (λ x. cond (occupied load nodes x) (f (at sets x)) 0) (length sets + d)
       longer d = grow (λ x. cond (occupied load nodes x) (f (at sets x)) 0) (length sets) d free
+
+total-on : (f : ℕ → ℕ) (n d : ℕ) → total f (n + d) ≡ total f n + total (λ y. f (n + y)) d
+unfolding total
+total-on f n zero = rw (native.Mathlib.Nat.add-zero n) (omega arith)
+total-on f n (suc d) = rw (native.Mathlib.Nat.add-suc) (omega (arith, total-on f n d))
+
+-- a square row by row
+pub rows-total : (f : ℕ → ℕ) (n k : ℕ) → total f (k * n) ≡ total (λ x. total (λ y. f (x * n + y)) n) k
+unfolding total
+rows-total f n zero = rw (native.Mathlib.Nat.zero-mul) refl
+rows-total f n (suc k) = rw (native.Mathlib.Nat.suc-mul) (total-on f (k * n) n ∙ ap (λ z. z + total (λ y. f (k * n + y)) n) (rows-total f n k))
+
+pull : (t : Bool) (f : ℕ → ℕ) (n : ℕ) → cond t (total f n) 0 ≡ total (λ y. cond t (f y) 0) n
+pull true f n = refl
+pull false f n = sym (total-noughts n)
+
+-- what is added up over the pairs of chunks is added up over a square of nodes
+pub pair-sum : {load : Load} {nodes sets : List ℕ} → Placing load nodes sets → (f : ℕ → ℕ → ℕ) (cell : ℕ → ℕ) (n : ℕ) → length sets ≤ n
+    → ((x y : ℕ) → x < n → y < n → cond (occupied load nodes x) (cond (occupied load nodes y) (f (at sets x) (at sets y)) 0) 0 ≡ cell (x * n + y))
+    → sum (λ X. sum (f X) (rising (placed nodes sets))) (rising (placed nodes sets)) ≡ total cell (n * n)
+pair-sum {load} {nodes} {sets} p f cell n few h =
+    chunk-sum p (λ X. sum (f X) (rising (placed nodes sets))) n few
+    ∙ total-same _ _ n (λ x hx.
+    ap (λ k. cond (occupied load nodes x) k 0) (chunk-sum p (f (at sets x)) n few)
+    ∙ pull (occupied load nodes x) (λ y. cond (occupied load nodes y) (f (at sets x) (at sets y)) 0) n
+    ∙ total-same _ _ n (λ y hy. h x y hx hy))
+    ∙ sym (rows-total cell n n)

@@ -9,33 +9,17 @@ use lib.Dec.{ltb, eqb}
 use lib.ListN.{length}
 use borrow.Author.Tests.{ne-eqb, lt-ltb}
 use Rattle.graphs.specs.Count.{ind, count, count-all-no}
-use Rattle.graphs.specs.Total.{total, total-same, count-total}
+use Rattle.graphs.specs.Total.{count-total}
 use Rattle.graphs.specs.Lists.{has, has-place}
 use Rattle.graphs.specs.Slots.{flat}
 use Rattle.graphs.specs.SlotLaws.{flat-mult}
-use Rattle.move_ledger.specs.Graph.{Load, at, members, occupied, mult, edge, rising, sum, gained}
+use Rattle.move_ledger.specs.Graph.{Load, at, members, occupied, mult, edge, gained}
 use Rattle.move_ledger.specs.GraphLaws.{occupy, edge-source, edge-target}
 use Rattle.move_ledger.specs.LoadLaws.{InOrder}
 use Rattle.move_ledger.specs.Nodes.{placed, Placing, sources, targets, node-mult}
 use Rattle.move_ledger.specs.NodeLaws.{placed-length, members-nodes}
 use Rattle.move_ledger.specs.NodeWalks.{mult-nodes, mult-outside, ends-nodes}
-use Rattle.move_ledger.specs.Evict.{total-noughts}
-use Rattle.move_ledger.specs.Chunks.{chunk-sum}
-
-total-on : (f : ℕ → ℕ) (n d : ℕ) → total f (n + d) ≡ total f n + total (λ y. f (n + y)) d
-unfolding total
-total-on f n zero = rw (native.Mathlib.Nat.add-zero n) (omega arith)
-total-on f n (suc d) = rw (native.Mathlib.Nat.add-suc) (omega (arith, total-on f n d))
-
--- a square row by row
-rows-total : (f : ℕ → ℕ) (n k : ℕ) → total f (k * n) ≡ total (λ x. total (λ y. f (x * n + y)) n) k
-unfolding total
-rows-total f n zero = rw (native.Mathlib.Nat.zero-mul) refl
-rows-total f n (suc k) = rw (native.Mathlib.Nat.suc-mul) (total-on f (k * n) n ∙ ap (λ z. z + total (λ y. f (k * n + y)) n) (rows-total f n k))
-
-pull : (t : Bool) (f : ℕ → ℕ) (n : ℕ) → cond t (total f n) 0 ≡ total (λ y. cond t (f y) 0) n
-pull true f n = refl
-pull false f n = sym (total-noughts n)
+use Rattle.move_ledger.specs.Chunks.{pair-sum}
 
 none : (t : Bool) → _≡_ {A = ℕ} (cond t 0 0) 0
 none true = refl
@@ -99,10 +83,5 @@ module _ {load : Load} {nodes nodes′ sets : List ℕ} (o : InOrder load) (p : 
   pub gained-cells : gained load P Q ≡ count (λ i. eqb (flat (sources load nodes sets) (targets load nodes sets) n m i) 0 && ltb 0 (flat (sources load nodes′ sets) (targets load nodes′ sets) n m i)) (n * n)
   unfolding gained
   gained-cells =
-      chunk-sum q (λ X. sum (λ Y. ind (edge load Q X Y && not (edge load P X Y))) (rising Q)) n few
-      ∙ total-same _ _ n (λ x hx.
-      ap (λ k. cond (occupied load nodes′ x) k 0) (chunk-sum q (λ Y. ind (edge load Q (at sets x) Y && not (edge load P (at sets x) Y))) n few)
-      ∙ pull (occupied load nodes′ x) (λ y. cond (occupied load nodes′ y) (ind (edge load Q (at sets x) (at sets y) && not (edge load P (at sets x) (at sets y)))) 0) n
-      ∙ total-same _ _ n (λ y hy. one x y hx hy))
-      ∙ sym (rows-total cell n n)
+      pair-sum q (λ X Y. ind (edge load Q X Y && not (edge load P X Y))) cell n few one
       ∙ sym (count-total (λ i. eqb (flat (sources load nodes sets) (targets load nodes sets) n m i) 0 && ltb 0 (flat (sources load nodes′ sets) (targets load nodes′ sets) n m i)) (n * n))

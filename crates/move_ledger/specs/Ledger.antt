@@ -1,4 +1,4 @@
--- The plain ledger of moves and questions (01, "A move, from its entry", "Where a call turns back", "What a move asks of the graph"; 02, (ii), (iii), (xi)).
+-- The plain ledger of moves and questions (01, "A move, from its entry", "Where a call turns back", "What a move asks of the graph"; 02, (ii), (iii), (viii), (xi)).
 -- Assumes nothing.
 use Prim.Native.Nat.{ℕ, zero, suc}
 use mathlib.Core.Bool.{Bool, not, cond, _&&_, _||_}
@@ -105,6 +105,8 @@ pub data Question : Type 0 where
   atom-count : List ℕ → Question
   multiplicity : List ℕ → List ℕ → Question
   edge-count : Question
+  -- 02: "the number of occupied sets"
+  chunk-count : Question
   edge-at : ℕ → Question
   has-cycle : Question
 
@@ -120,6 +122,7 @@ ask load place (atom-set a) = cond (leb (load .A) a) (refused 10) (answer.set (w
 ask load place (atom-count s) = cond (legal (load .E) s) (answer.number (members load place (value s))) (refused 11)
 ask load place (multiplicity s t) = cond (legal (load .E) s && legal (load .E) t) (answer.number (mult load place (value s) (value t))) (refused 11)
 ask load place edge-count = answer.number (length (edges load place))
+ask load place chunk-count = answer.number (length (rising place))
 ask load place (edge-at k) = kth (edges load place) k
 ask load place has-cycle = cond (cyclic (edge load place) place) answer.cyclic answer.acyclic
 

@@ -1,20 +1,23 @@
 -- What the writes of the graph and of the flags ask and make. Assumes nothing.
-use mathlib.Core.Path.{_≡_, refl, sym, ap, _∙_}
+use mathlib.Core.Path.{_≡_, refl, sym, ap, ap₂, _∙_}
 use mathlib.Core.Bool.{Bool, true, false, true≢false}
 use mathlib.Core.List.{List}
 use Prim.Native.Nat.{ℕ, _+_, _*_, _≤_}
 use native.Mathlib.Omega.{arith}
 use native.Mathlib.Nat.{zero-add}
+use lib.Dec.{ltb}
 use lib.ListN.{length, getD, set}
 use borrow.Author.Tests.{lt-ltb}
+use Rattle.graphs.specs.Count.{count-ext}
 use Rattle.graphs.specs.Lists.{below}
 use Rattle.graphs.specs.Tab.{tab-at, is-tab}
 use Rattle.graphs.specs.Walk.{cyclic}
-use Rattle.layout.specs.Patch.{patch, part, part-long, part-at}
-use Rattle.move_edges.specs.Matrix.{matrix}
-use Rattle.move_edges.specs.Steps.{CanFill}
+use Rattle.layout.specs.Patch.{patch, patch-in, part, part-long, part-at}
+use Rattle.move_edges.specs.Matrix.{matrix, matrix-long, matrix-at}
+use Rattle.move_edges.specs.Steps.{CanFill, filled}
 use Rattle.graph_components.specs.Only.{flagged}
 use Rattle.move_ledger.specs.Graph.{Load}
+use Rattle.move_ledger.specs.Totals.{filled-cells}
 use Rattle.move_area.specs.Bodies.{laneAt}
 use Rattle.move_area.specs.Area.{setsIn}
 use Rattle.move_area.specs.Checked.{nodesIn, Ranged, ranged-placing, sets-length}
@@ -34,19 +37,31 @@ module _ {load : Load} {n : ℕ} {l counts s₀ t₀ : List ℕ} (can : CanFillO
   }
 
   -- the slots may be counted into the matrix
-  pub fill-can : {l′ : List ℕ} → length l′ ≡ length l → length s ≡ length s₀ → length t ≡ length t₀ → CanFill l′ n s t m
+  pub fill-can : {l′ : List ℕ} → length l′ ≡ length l → length s ≡ length s₀ → length t ≡ length t₀ → CanFill l′ n s t m × (n * n + 5 ≤ length l′)
   fill-can {l′} a b c =
-      let z = counted-le own-counted in
-      record {
-        square = omega (arith, can .loadable .sizes .area);
-        sources = omega (arith, can .sources-long);
-        targets = omega (arith, can .targets-long);
-        ends = counted-ends own-counted;
-        few = omega (arith, can .loadable .sizes .entries, can .loadable .sizes .bits);
-      }
+      let z = counted-le own-counted in (
+        record {
+          square = omega (arith, can .loadable .sizes .area);
+          sources = omega (arith, can .sources-long);
+          targets = omega (arith, can .targets-long);
+          ends = counted-ends own-counted;
+          few = omega (arith, can .loadable .sizes .entries, can .loadable .sizes .bits);
+        },
+        omega (arith, can .loadable .sizes .area),
+      )
 
-  pub graph-written : {l₁ l₂ : List ℕ} → l₁ ≡ patch (laneAt n 8) (part 0 n counts′) l → l₂ ≡ patch 0 (matrix s t n m) l₁ → GraphWritten load n l counts′ s t m l₂
-  graph-written e₁ e₂ = record { filled = f; many = q; area = e₂ ∙ ap (patch 0 (matrix s t n m)) e₁ }
+  pub graph-written : {l₁ l₂ : List ℕ} → l₁ ≡ patch (laneAt n 8) (part 0 n counts′) l → l₂ ≡ set (patch 0 (matrix s t n m) l₁) (n * n + 4) (filled-cells s t n m)
+      → GraphWritten load n l counts′ s t m l₂
+  graph-written e₁ e₂ = record { filled = f; many = q; area = e₂ ∙ ap (λ (u : List ℕ). set (patch 0 (matrix s t n m) u) (n * n + 4) (filled-cells s t n m)) e₁ }
+
+-- the numbers of the written matrix that aren't 0 are the cells that the slots fill
+pub edges-written : (n m : ℕ) (s t l : List ℕ) {e : List ℕ} {k : ℕ} → n * n ≤ length l → k ≡ filled e n → e ≡ patch 0 (matrix s t n m) l
+    → set e (n * n + 4) k ≡ set (patch 0 (matrix s t n m) l) (n * n + 4) (filled-cells s t n m)
+unfolding filled filled-cells
+edges-written n m s t l h q r =
+    ap₂ (λ (u : List ℕ) j. set u (n * n + 4) j) r (q ∙ count-ext _ _ (n * n) (λ i b.
+    ap (ltb 0) (ap (λ (u : List ℕ). getD u i 0) r ∙ ap (λ j. getD (patch 0 (matrix s t n m) l) j 0) (sym (zero-add i))
+    ∙ patch-in 0 (matrix s t n m) l i (omega (arith, matrix-long s t n m)) (omega (arith, matrix-long s t n m)) ∙ matrix-at s t n m i b)))
 
 -- the flags of the first n nodes
 flags-part : (edge : ℕ → ℕ → Bool) (n : ℕ) (l : List ℕ) {flags : List ℕ} → n ≤ length l → flags ≡ flagged edge n l → part 0 n flags ≡ componentLane edge n

@@ -1,18 +1,19 @@
 -- The steps of a loading make the area of the first state. Assumes nothing.
 use mathlib.Core.Path.{_≡_, refl, sym, ap, ap₂, _∙_}
 use mathlib.Core.Bool.{Bool, true, false, not}
-use mathlib.Core.List.{List, [], _∷_}
+use mathlib.Core.List.{List}
 use Prim.Native.Nat.{ℕ, _+_, _*_, _≤_}
 use native.Mathlib.Omega.{arith}
 use native.Mathlib.Nat.{zero-add}
-use lib.ListN.{length, getD, set, replicate, length-replicate}
-use Rattle.graphs.specs.Count.{ind}
+use lib.Dec.{ltb}
+use lib.ListN.{length, getD, set, length-set, replicate, length-replicate}
+use Rattle.graphs.specs.Count.{ind, count-ext}
 use Rattle.graphs.specs.Lists.{below}
 use Rattle.graphs.specs.Slots.{flat, slotEdge}
 use Rattle.graphs.specs.Tab.{tab, tab-length, is-tab, zeros, tab-alike}
 use Rattle.graphs.specs.Walk.{cyclic, only}
 use Rattle.graphs.specs.Walks.{acyclic-none}
-use Rattle.layout.specs.Patch.{patch, part, part-long, part-at, part-none, part-more, patch-long, patch-one, patch-append}
+use Rattle.layout.specs.Patch.{patch, part, part-long, part-at, patch-long}
 use Rattle.move_edges.specs.Matrix.{matrix}
 use Rattle.move_ledger.specs.Graph.{Load, at, edge, members}
 use Rattle.move_ledger.specs.Loading.{entry-sets}
@@ -20,8 +21,9 @@ use Rattle.move_ledger.specs.LoadLaws.{Loadable-sets, entry-sets-length}
 use Rattle.move_ledger.specs.Nodes.{sources, targets, node-edge}
 use Rattle.move_ledger.specs.NodeMoves.{placed-first, placing-first}
 use Rattle.move_ledger.specs.NodeWalks.{cyclic-nodes}
-use Rattle.move_area.specs.Bodies.{laneAt, Bodies, write, Sized}
-use Rattle.move_area.specs.BodyLaws.{write-long, read-registered, read-counter, renew-edges, renew-counts, renew-component, renew-header}
+use Rattle.move_ledger.specs.Totals.{filled-cells, busy-first}
+use Rattle.move_area.specs.Bodies.{laneAt, Header, Bodies, write, Sized}
+use Rattle.move_area.specs.BodyLaws.{set-header, renew-edges, renew-counts, renew-component, renew-header}
 use Rattle.move_area.specs.Area.{encode}
 use Rattle.move_area.specs.Calls.{first}
 use Rattle.move_area.specs.NodeBodies.{Nodes, nodeBodies, stateOf, encode-nodes}
@@ -53,13 +55,21 @@ module _ (load : Load) (n : ℕ) (sets l : List ℕ) (r : Loadable-sets load n s
   firstNodes = record { sets = X; nodes = nodes; counter = 0; marks = replicate n 0 }
 
   -- what the area holds when the graph is written, with an acyclic flag and a component
+  abbrev graphHeader : ℕ → Header
+  graphHeader y =
+      record {
+        registered = load .A;
+        counter = 0;
+        acyclic = y;
+        occupied = load .A;
+        distinct = filled-cells (sources load nodes X) (targets load nodes X) n (load .D + load .E);
+      }
+
   abbrev graphBodies : ℕ → List ℕ → Bodies
   graphBodies y w =
       record {
         edges = tab (flat (sources load nodes X) (targets load nodes X) n (load .D + load .E)) (n * n);
-        registered = load .A;
-        counter = 0;
-        acyclic = y;
+        header = graphHeader y;
         words = startOf load n sets l r .words;
         counts = tab (members load nodes) n;
         marks = replicate n 0;
@@ -82,7 +92,7 @@ module _ (load : Load) (n : ℕ) (sets l : List ℕ) (r : Loadable-sets load n s
   -- with the flag and the component of the edges, it is the first state
   bodies-are : graphBodies (ind (not (cyclic edges (below n)))) (componentLane edges n) ≡ nodeBodies load n firstNodes
   unfolding nodeBodies
-  bodies-are = rw long refl
+  bodies-are = rw (long, busy-first load n (omega (arith, r .loadable .sizes .wide))) refl
 
   state-is : stateOf firstNodes ≡ first load n sets
   state-is = rw (placed-first X (load .A) long) refl
@@ -95,19 +105,7 @@ module _ (load : Load) (n : ℕ) (sets l : List ℕ) (r : Loadable-sets load n s
   -- the acyclic flag is set
   set-flag : (y z : ℕ) (w : List ℕ) → length w ≡ n → set (write n (graphBodies y w) l) (n * n + 2) z ≡ write n (graphBodies z w) l
   set-flag y z w e =
-      patch-one (n * n + 2) z L (omega (arith, write-long n (graphBodies y w) l, room-is load n sets l r))
-      ∙ patch-append (n * n) (load .A ∷ 0 ∷ []) (z ∷ []) L front
-      ∙ renew-header n (load .A) (graphBodies y w) (graph-sized y w e) l (load .A) 0 z
-    where
-      L : List ℕ
-      L = write n (graphBodies y w) l
-
-      front : part (n * n) 2 L ≡ load .A ∷ 0 ∷ []
-      front =
-          part-more (n * n) 1 L
-          ∙ ap₂ {A = ℕ} {B = List ℕ} _∷_ (read-registered n (load .A) (graphBodies y w) (graph-sized y w e) l (room-is load n sets l r))
-          (part-more (n * n + 1) 0 L
-          ∙ ap₂ {A = ℕ} {B = List ℕ} _∷_ (read-counter n (load .A) (graphBodies y w) (graph-sized y w e) l (room-is load n sets l r)) (part-none (n * n + 1 + 1) L))
+      set-header n (load .A) (graphBodies y w) (graph-sized y w e) l (room-is load n sets l r) 2 z (omega arith) ∙ renew-header n (load .A) (graphBodies y w) (graph-sized y w e) l (graphHeader z)
 
   module _ (l₁ : List ℕ) (e₁ : l₁ ≡ write n (startOf load n sets l r) l) {counts s t : List ℕ} {m : ℕ} {l₂ : List ℕ} (g : GraphWritten load n l₁ counts s t m l₂) where
     filled : Filled load n nodes X counts s t
@@ -123,23 +121,51 @@ module _ (load : Load) (n : ℕ) (sets l : List ℕ) (r : Loadable-sets load n s
     unfolding matrix
     matrix-is = tab-alike _ _ (n * n) (counted-flat counted)
 
+    cells-are : filled-cells s t n m ≡ filled-cells (sources load nodes X) (targets load nodes X) n (load .D + load .E)
+    unfolding filled-cells
+    cells-are = count-ext _ _ (n * n) (λ i b. ap (ltb 0) (counted-flat counted i b))
+
     graph-is : l₂ ≡ write n (graphBodies 0 (replicate n 0)) l
     graph-is =
-        g .area ∙ ap₂ (λ (u v : List ℕ). patch 0 u (patch (laneAt n 8) v l₁)) matrix-is counts-are
-        ∙ ap (λ (u : List ℕ). patch 0 M (patch (laneAt n 8) (tab (members load nodes) n) u)) e₁
-        ∙ ap (patch 0 M) (renew-counts n (load .A) (startOf load n sets l r) (start-sized load n sets l r) l (tab (members load nodes) n) (tab-length _ n))
-        ∙ renew-edges n (load .A) _ (record {
-          edges = start-sized load n sets l r .edges;
-          few = omega (arith, r .loadable .sizes .wide);
-          words = λ j b. tab-length _ (load .A);
-          counts = tab-length _ n;
-          marks = length-replicate n 0;
-          component = length-replicate n 0;
-          nodes = tab-length _ (load .A);
-        }) l M (tab-length _ (n * n))
+        g .area ∙ ap (set (patch 0 (matrix s t n m) (patch (laneAt n 8) (part 0 n counts) l₁)) (n * n + 4)) cells-are
+        ∙ ap₂ (λ (u v : List ℕ). set (patch 0 u (patch (laneAt n 8) v l₁)) (n * n + 4) F) matrix-is counts-are
+        ∙ ap (λ (u : List ℕ). set (patch 0 M (patch (laneAt n 8) (tab (members load nodes) n) u)) (n * n + 4) F) e₁
+        ∙ ap (λ (u : List ℕ). set (patch 0 M u) (n * n + 4) F)
+        (renew-counts n (load .A) (startOf load n sets l r) (start-sized load n sets l r) l (tab (members load nodes) n) (tab-length _ n))
+        ∙ ap (λ (u : List ℕ). set u (n * n + 4) F) (renew-edges n (load .A) (made (part 0 (n * n) l)) (made-sized (part 0 (n * n) l) (part-long 0 (n * n) l)) l M (tab-length _ (n * n)))
+        ∙ set-header n (load .A) (made M) (made-sized M (tab-length _ (n * n))) l (room-is load n sets l r) 4 F (omega arith)
+        ∙ renew-header n (load .A) (made M) (made-sized M (tab-length _ (n * n))) l (graphHeader 0)
       where
         M : List ℕ
         M = tab (flat (sources load nodes X) (targets load nodes X) n (load .D + load .E)) (n * n)
+
+        F : ℕ
+        F = filled-cells (sources load nodes X) (targets load nodes X) n (load .D + load .E)
+
+        -- with the counts, and the edges e, that aren't counted yet
+        made : List ℕ → Bodies
+        made e =
+            record {
+              edges = e;
+              header = startOf load n sets l r .header;
+              words = startOf load n sets l r .words;
+              counts = tab (members load nodes) n;
+              marks = replicate n 0;
+              component = replicate n 0;
+              nodes = nodes;
+            }
+
+        made-sized : (e : List ℕ) → length e ≡ n * n → Sized n (load .A) (made e)
+        made-sized e h =
+            record {
+              edges = h;
+              few = omega (arith, r .loadable .sizes .wide);
+              words = λ j b. tab-length _ (load .A);
+              counts = tab-length _ n;
+              marks = length-replicate n 0;
+              component = length-replicate n 0;
+              nodes = tab-length _ (load .A);
+            }
 
     component-is : componentLane (slotEdge s t m) n ≡ componentLane edges n
     component-is = tab-alike _ _ n (λ x b. ap (λ e. ind (only e (below n) x)) (counted-edge counted (omega arith)))
@@ -173,7 +199,8 @@ module _ {load : Load} {n : ℕ} {sets area sources targets heads list : List �
   flags-can {l} {heads′} {s} {t} {m} {l′} e g h a b =
       let q = counted load n sets area (can .loadable) l e g in
       let z = counted-le q in
-      let y : length l′ ≡ length area = ap length (g .area) ∙ patch-long 0 _ _ ∙ patch-long (laneAt n 8) _ l ∙ start-long load n sets area (can .loadable) l e in
+      let graph : List ℕ = patch 0 (matrix s t n m) (patch (laneAt n 8) (part 0 n heads′) l) in
+      let y : length l′ ≡ length area = ap length (g .area) ∙ length-set graph (n * n + 4) (filled-cells s t n m) ∙ patch-long 0 (matrix s t n m) (patch (laneAt n 8) (part 0 n heads′) l) ∙ patch-long (laneAt n 8) (part 0 n heads′) l ∙ start-long load n sets area (can .loadable) l e in
       record {
         room = omega (arith, can .loadable .loadable .sizes .area);
         slots = record {

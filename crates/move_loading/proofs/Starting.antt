@@ -18,14 +18,24 @@ use Rattle.move_ledger.specs.LoadLaws.{entry-sets-at}
 use Rattle.move_area.specs.Bodies.{laneAt, atomAt, write}
 use Rattle.move_loading.specs.Start.{lentWord, wordFields, startBodies, CanWords, CanStart}
 
--- three numbers set are a patch
-pub set-three : (at x y z : ℕ) (l : List ℕ) → at + 3 ≤ length l → set (set (set l at x) (at + 1) y) (at + 2) z ≡ patch at (x ∷ y ∷ z ∷ []) l
-set-three at x y z l b =
-    let e : at + 1 + 1 ≡ at + 2 = omega arith in
-    let p = patch-set at x (y ∷ z ∷ []) l (omega arith) in
-    let q = patch-set (at + 1) y (z ∷ []) (set l at x) (omega (arith, length-set l at x)) in
-    let r = patch-set (at + 1 + 1) z [] (set (set l at x) (at + 1) y) (omega (arith, length-set l at x, length-set (set l at x) (at + 1) y)) in
-    ap (λ i. set (set (set l at x) (at + 1) y) i z) (sym e) ∙ sym (patch-none (at + 1 + 1 + 1) _) ∙ r ∙ q ∙ p
+-- five numbers set are a patch
+pub set-five : (at v w x y z : ℕ) (l : List ℕ) → at + 5 ≤ length l
+    → set (set (set (set (set l at v) (at + 1) w) (at + 2) x) (at + 3) y) (at + 4) z ≡ patch at (v ∷ w ∷ x ∷ y ∷ z ∷ []) l
+set-five at v w x y z l b =
+    let two : at + 1 + 1 ≡ at + 2 = omega arith in
+    let three : at + 1 + 1 + 1 ≡ at + 3 = omega arith in
+    let four : at + 1 + 1 + 1 + 1 ≡ at + 4 = omega arith in
+    let l₁ = set l at v in
+    let l₂ = set l₁ (at + 1) w in
+    let l₃ = set l₂ (at + 1 + 1) x in
+    let l₄ = set l₃ (at + 1 + 1 + 1) y in
+    let n₁ = length-set l at v in
+    let n₂ = length-set l₁ (at + 1) w in
+    let n₃ = length-set l₂ (at + 1 + 1) x in
+    let n₄ = length-set l₃ (at + 1 + 1 + 1) y in
+    rw (← two, ← three, ← four)
+    (sym (patch-none (at + 1 + 1 + 1 + 1 + 1) _) ∙ patch-set (at + 1 + 1 + 1 + 1) z [] l₄ (omega arith) ∙ patch-set (at + 1 + 1 + 1) y (z ∷ []) l₃ (omega arith)
+    ∙ patch-set (at + 1 + 1) x (y ∷ z ∷ []) l₂ (omega arith) ∙ patch-set (at + 1) w (x ∷ y ∷ z ∷ []) l₁ (omega arith) ∙ patch-set at v (w ∷ x ∷ y ∷ z ∷ []) l (omega arith))
 
 -- a lane of words ends before the atoms' lanes
 pub lane-room : {area : List ℕ} {n : ℕ} {sets : List ℕ} {w a : ℕ} → CanWords area n sets w a → (j : ℕ) → j < 8 → n * n + 24 + j * n + a ≤ length area
@@ -49,7 +59,7 @@ words-alike : (a e w : ℕ) (sets : List ℕ) → w ≡ width e → (j : ℕ) �
 words-alike a e w sets q j = rw q (tab-alike _ _ a (λ x b. ap (λ X. getD (parts 32 8 X) j 0) (entry-sets-at (bounds a e) sets x b)))
 
 -- the start's writes
-pub start-written : (a e n w : ℕ) (sets l₀ : List ℕ) {l₁ l₂ l₃ l₄ l₅ l₆ : List ℕ} → w ≡ width e → l₁ ≡ patch (n * n) (a ∷ 0 ∷ 0 ∷ []) l₀ → l₂ ≡ lay (wordFields n w sets a) l₁
+pub start-written : (a e n w : ℕ) (sets l₀ : List ℕ) {l₁ l₂ l₃ l₄ l₅ l₆ : List ℕ} → w ≡ width e → l₁ ≡ patch (n * n) (a ∷ 0 ∷ 0 ∷ a ∷ 0 ∷ []) l₀ → l₂ ≡ lay (wordFields n w sets a) l₁
     → l₃ ≡ patch (laneAt n 8) (replicate n 0) l₂ → l₄ ≡ patch (laneAt n 9) (replicate n 0) l₃ → l₅ ≡ patch (laneAt n 10) (replicate n 0) l₄
     → l₆ ≡ patch (atomAt n) (tab (λ i. i) a) l₅ → l₆ ≡ write n (startBodies a n (entry-sets (bounds a e) sets) l₀) l₀
 unfolding write lay

@@ -28,14 +28,12 @@ wordFields n w sets a =
     ∷ field (laneAt n 7) (tab (lentWord w sets 7) a)
     ∷ []
 
--- the header, the sets of a atoms, a node for each atom, and no walk yet; the edges are those of l
+-- the header, the sets of a atoms, a node for each atom, and no walk yet; the edges are those of l, and not counted
 abbrev pub startBodies : ℕ → ℕ → List ℕ → List ℕ → Bodies
 startBodies a n sets l =
     record {
       edges = part 0 (n * n) l;
-      registered = a;
-      counter = 0;
-      acyclic = 0;
+      header = record { registered = a; counter = 0; acyclic = 0; occupied = a; distinct = 0 };
       words = λ j. tab (λ x. getD (parts 32 8 (at sets x)) j 0) a;
       counts = replicate n 0;
       marks = replicate n 0;

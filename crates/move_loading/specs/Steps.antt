@@ -12,6 +12,7 @@ use Rattle.layout.specs.Patch.{patch, part}
 use Rattle.move_edges.specs.Matrix.{matrix}
 use Rattle.move_ledger.specs.Graph.{Load}
 use Rattle.move_ledger.specs.LoadLaws.{Loadable-sets}
+use Rattle.move_ledger.specs.Totals.{filled-cells}
 use Rattle.move_area.specs.Bodies.{laneAt, atomAt}
 use Rattle.move_area.specs.Area.{setsIn}
 use Rattle.move_area.specs.Checked.{nodesIn}
@@ -19,11 +20,11 @@ use Rattle.move_slots.specs.Counted.{slotCount}
 use Rattle.move_slots.specs.Filled.{Filled}
 use Rattle.graph_slots.specs.Asked.{Slots, ListRoom}
 
--- the slots and the atom counts of the placement that l names are worked out; l′ is l with the counts and the edges
+-- the slots and the atom counts of the placement that l names are worked out; l′ is l with the counts, the edges and how many they are
 pub record GraphWritten (load : Load) (n : ℕ) (l counts sources targets : List ℕ) (m : ℕ) (l′ : List ℕ) : Type 0 where
   pub filled : Filled load n (nodesIn load n l) (setsIn n l) counts sources targets
   pub many : m ≡ slotCount n (load .D) (load .E)
-  pub area : l′ ≡ patch 0 (matrix sources targets n m) (patch (laneAt n 8) (part 0 n counts) l)
+  pub area : l′ ≡ set (patch 0 (matrix sources targets n m) (patch (laneAt n 8) (part 0 n counts) l)) (n * n + 4) (filled-cells sources targets n m)
 
 -- the component's flags of n nodes
 abbrev pub componentLane : (ℕ → ℕ → Bool) → ℕ → List ℕ

@@ -1,8 +1,24 @@
-// The atom counts and the edges of an area whose sets and nodes stand.
+// The atom counts, the edges and how many they are, in an area whose sets and nodes stand.
+ghost use mathlib.Core.Path.{_≡_};
+ghost use Prim.Native.Nat.{_+_, _*_, _≤_};
+ghost use lib.ListN.{length, set};
+ghost use Rattle.layout.specs.Patch.{patch};
+ghost use Rattle.move_edges.specs.Matrix.{matrix};
+ghost use Rattle.move_edges.specs.Steps.{CanFill};
 ghost use Rattle.move_ledger.specs.Graph.{lent};
+ghost use Rattle.move_ledger.specs.Totals.{filled-cells};
 ghost use Rattle.move_area.specs.Checked.{Ranged};
 ghost use Rattle.move_slots.specs.Filled.{CanFillOwn};
 ghost use Rattle.move_loading.specs.Steps.{GraphWritten};
+
+// The edges of m slots, and how many they are.
+fn write_edges(area: &mut [u32], n: usize, sources: &[u32], targets: &[u32], m: usize)
+    requires { ⌜ CanFill (now area) n (now sources) (now targets) m × (n * n + 5 ≤ length (now area)) ⌝ }
+    ensures { λ _. ⌜ now (area .exit) ≡ set (patch 0 (matrix (now (sources .entry)) (now (targets .entry)) n m) (now (area .entry))) (n * n + 4) (filled-cells (now (sources .entry)) (now (targets .entry)) n m) ⌝ }
+{
+    let found = move_edges::fill(area, n, sources, targets, m);
+    area[n * n + 4] = found;
+}
 
 // Writes them, and gives back how many slots there are; the slots stand in `sources` and `targets`.
 pub fn write_graph(
@@ -37,6 +53,6 @@ pub fn write_graph(
     );
     let m = move_slots::slot_count(n, d, e);
     layout::copy(area, at, counts, 0, n);
-    move_edges::fill(area, n, sources, targets, m);
+    write_edges(area, n, sources, targets, m);
     m
 }

@@ -59,14 +59,17 @@ fn write_numbers(area: &mut [u32], at: usize, k: usize)
     }
 }
 
-// The header: a registered sets, the walk counter 0, and no acyclic flag yet.
+// The header: a registered sets, the walk counter 0, no acyclic flag yet, each set occupied, and no edge counted yet.
 fn write_header(area: &mut [u32], at: usize, a: usize)
-    requires { ⌜ (at + 3 ≤ length (now area)) × (a ≤ 512) ⌝ }
-    ensures { λ _. ⌜ now (area .exit) ≡ patch at (a ∷ 0 ∷ 0 ∷ []) (now (area .entry)) ⌝ }
+    requires { ⌜ (at + 5 ≤ length (now area)) × (a ≤ 512) ⌝ }
+    ensures { λ _. ⌜ now (area .exit) ≡ patch at (a ∷ 0 ∷ 0 ∷ a ∷ 0 ∷ []) (now (area .entry)) ⌝ }
 {
-    area[at] = a as u32;
+    let sets = a as u32;
+    area[at] = sets;
     area[at + 1] = 0;
     area[at + 2] = 0;
+    area[at + 3] = sets;
+    area[at + 4] = 0;
 }
 
 // The header, the sets, and each atom's node; counts, marks and component are 0, and the edges as they were.

@@ -1,33 +1,28 @@
 -- Questions about sets on a checked area: the node of a set, its atom count, and the multiplicity between two. Assumes nothing.
-use Prim.Native.Nat.{ℕ, zero, suc, _+_, _*_, _≤_, _<_}
+use Prim.Native.Nat.{ℕ, _+_, _*_, _≤_, _<_}
 use native.Mathlib.Omega.{arith}
 use mathlib.Core.Path.{_≡_, refl, sym, ap, ap₂, _∙_}
 use mathlib.Core.Bool.{false, not, true≢false}
 use mathlib.Core.List.{List}
 use lib.Dec.{eqb, ltb}
 use lib.ListN.{length, getD}
-use borrow.Author.Tests.{ne-eqb, lt-ltb}
 use Rattle.graphs.specs.Bools.{fails, and-right}
 use Rattle.graphs.specs.Lists.{has, has-place}
 use Rattle.graphs.specs.Slots.{slotEdge}
 use Rattle.graphs.specs.SlotLaws.{flat-mult}
 use Rattle.graphs.specs.Square.{index-lt}
 use Rattle.entry_set.specs.Lanes.{lanes}
-use Rattle.move_ledger.specs.Graph.{Load, at, members, mult}
+use Rattle.move_ledger.specs.Graph.{Load, at, members, mult, rising, edges}
 use Rattle.move_ledger.specs.LoadLaws.{InOrder}
 use Rattle.move_ledger.specs.Nodes.{placed, Placing, node-edge, node-mult}
 use Rattle.move_ledger.specs.NodeLaws.{members-nodes}
 use Rattle.move_ledger.specs.NodeWalks.{ends-nodes, mult-nodes, members-unseen, mult-unseen}
+use Rattle.move_ledger.specs.Totals.{chunk-count-nodes, edge-count-cells, above-none}
 use Rattle.move_area.specs.Area.{setsIn, decode}
 use Rattle.move_area.specs.Bodies.{laneAt}
 use Rattle.move_area.specs.Checked.{nodesIn, sets-length, sets-at, ranged-placing}
 use Rattle.set_order.specs.Order.{laneSet, First}
 use Rattle.move_questions.specs.Answers.{placeIn, setLane, Checked}
-
--- a number that isn't 0 is above it
-pub above-none : (a : ℕ) → not (eqb a 0) ≡ ltb 0 a
-above-none zero = refl
-above-none (suc a) = ap not (ne-eqb (suc a) 0 (λ e. omega arith)) ∙ sym (lt-ltb 0 (suc a) (omega arith))
 
 module _ {load : Load} {n : ℕ} {area : List ℕ} {registered : ℕ} (h : Checked load n area registered) where
   pub order-of : InOrder load
@@ -45,6 +40,15 @@ module _ {load : Load} {n : ℕ} {area : List ℕ} {registered : ℕ} (h : Check
   pub room : n * n + 24 + 24 * n ≤ length area
   room = omega (arith, h .loadable .sizes .area)
 
+  -- the kept totals are those of the placement
+  pub edge-total : getD area (n * n + 4) 0 ≡ length (edges load (placeIn load n area))
+  unfolding decode
+  edge-total = h .worked .distinct ∙ sym (edge-count-cells order-of placing n (omega (arith, long, few)))
+
+  pub chunk-total : getD area (n * n + 3) 0 ≡ length (rising (placeIn load n area))
+  unfolding decode
+  chunk-total = h .worked .occupied ∙ sym (chunk-count-nodes placing n (omega (arith, long, few)))
+
   -- the set of a node
   pub set-at : (x : ℕ) → x < length (setsIn n area) → laneSet area (setLane n) n x ≡ at (setsIn n area) x
   set-at x b =
@@ -58,7 +62,7 @@ module _ {load : Load} {n : ℕ} {area : List ℕ} {registered : ℕ} (h : Check
 
   pub cell-edge : (x y : ℕ) → x < n → y < n → not (eqb (getD area (x * n + y) 0) 0) ≡ node-edge load (nodesIn load n area) (setsIn n area) x y
   unfolding slotEdge
-  cell-edge x y bx by = above-none (getD area (x * n + y) 0) ∙ ap (ltb 0) (cell-mult x y bx by)
+  cell-edge x y bx by = sym (above-none (getD area (x * n + y) 0)) ∙ ap (ltb 0) (cell-mult x y bx by)
 
   pub cell-inside : (x y : ℕ) → x < registered → y < registered → x * n + y < length area
   cell-inside x y bx by = omega (arith, index-lt n x y (omega (arith, few)) (omega (arith, few)), room)

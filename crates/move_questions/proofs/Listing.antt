@@ -1,5 +1,5 @@
--- The number of edges and the k-th edge on a checked area. Assumes nothing.
-use Prim.Native.Nat.{ℕ, zero, suc, _+_, _-_, _≤_, _<_}
+-- The k-th edge on a checked area. Assumes nothing.
+use Prim.Native.Nat.{ℕ, _+_, _≤_, _<_}
 use native.Mathlib.Omega.{arith}
 use native.Mathlib.Nat.{zero-add}
 use native.Mathlib.Decide.{decLt}
@@ -8,33 +8,24 @@ use mathlib.Core.Bool.{true, not}
 use mathlib.Core.List.{List}
 use lib.ListN.{length, getD}
 use borrow.Author.Tests.{ne-eqb}
-use Rattle.graphs.specs.Bools.{fails}
-use Rattle.graphs.specs.Count.{count-ext, count-all-no}
-use Rattle.graphs.specs.Total.{total, total-same}
+use Rattle.graphs.specs.Count.{count-ext}
+use Rattle.graphs.specs.Total.{total-same}
 use Rattle.layout.specs.Patch.{part, part-long, part-at}
 use Rattle.entry_set.specs.Sets.{number}
 use Rattle.move_ledger.specs.Graph.{Load, Edge, at, edges}
 use Rattle.move_ledger.specs.Answer as answer
 use Rattle.move_ledger.specs.Ledger.{kth}
 use Rattle.move_ledger.specs.Nodes.{node-edge, node-mult}
-use Rattle.move_ledger.specs.NodeWalks.{edge-inside}
-use Rattle.move_ledger.specs.NodeListing.{Sorted, in-row, in-rows, edge-count-nodes, edge-at-nodes, edge-past-nodes}
+use Rattle.move_ledger.specs.NodeListing.{Sorted, in-row, in-rows, edge-at-nodes, edge-past-nodes}
 use Rattle.move_area.specs.Area.{setsIn, decode}
 use Rattle.move_area.specs.Checked.{nodesIn}
 use Rattle.set_order.specs.Order.{laneSet, Ordered, order-inside}
 use Rattle.move_questions.specs.Counts as counts
-use Rattle.move_questions.specs.Permute.{total-order}
 use Rattle.move_questions.specs.Steps.{edges-before, cells-before, CanFindRow, RowFound, CanFindCell, CellFound}
 use Rattle.move_questions.specs.Answers.{placeIn, setLane, Listable, CanReadEdge, EdgeRead, ofListed}
 use Rattle.move_questions.specs.declared.Edge as declared
 use Rattle.move_questions.specs.declared.Listed.the-variants.{Found, None}
 use Rattle.move_questions.proofs.Asking.{order-of, placing, long, few, room, set-at, cell-mult, cell-edge}
-
--- a sum that gets nothing from r on
-total-short : (f : ℕ → ℕ) (r d : ℕ) → ((x : ℕ) → r ≤ x → x < d + r → f x ≡ 0) → total f (d + r) ≡ total f r
-unfolding total
-total-short f r zero h = ap (total f) (zero-add r)
-total-short f r (suc d) h = rw (native.Mathlib.Nat.suc-add) (omega (arith, total-short f r d (λ x a b. h x a (omega arith)), h (d + r) (omega arith) (omega arith)))
 
 module _ {load : Load} {n : ℕ} {area : List ℕ} {registered : ℕ} {order degrees : List ℕ} (l : Listable load n area registered order degrees) where
   -- the nodes by rising sets
@@ -71,25 +62,6 @@ module _ {load : Load} {n : ℕ} {area : List ℕ} {registered : ℕ} {order deg
       count-ext _ _ j (λ q c.
       cell-edge (l .checked) (at order i) (at order q) (omega (arith, node i a, few (l .checked))) (omega (arith, node q (omega arith), few (l .checked)))
       ∙ ap₂ (node-edge load (nodesIn load n area) (setsIn n area)) (sym (first-at i a)) (sym (first-at q (omega arith))))
-
-  -- a node that has no set has no edge
-  no-degree : (x : ℕ) → registered ≤ x → x < n → at degrees x ≡ 0
-  no-degree x a b =
-      l .degree-at x b
-      ∙ count-all-no _ n (λ y c. fails _ (λ t. omega (arith, edge-inside (order-of (l .checked)) (placing (l .checked)) x y t .0, long (l .checked))))
-
-  pub edge-count-is : total (at degrees) n ≡ length (edges load (placeIn load n area))
-  unfolding decode
-  edge-count-is =
-      ap (total (at degrees)) e
-      ∙ total-short (at degrees) registered (n - registered) (λ x a b. no-degree x a (omega arith))
-      ∙ sym (total-order (at degrees) (at order) (counts.place (l .ordered)) registered (counts.ordering (l .ordered)))
-      ∙ rows registered (omega arith)
-      ∙ ap (in-rows load (nodesIn load n area) (setsIn n area) first) (sym first-long)
-      ∙ sym (edge-count-nodes (order-of (l .checked)) (placing (l .checked)) sorted)
-    where
-      e : n ≡ (n - registered) + registered
-      e = omega (arith, few (l .checked))
 
   pub can-find-row : CanFindRow order degrees registered
   can-find-row = record { long = l .order-long; node = λ q b. omega (arith, node q b, few (l .checked), l .degrees-long) }

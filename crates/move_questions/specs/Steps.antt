@@ -12,10 +12,6 @@ use Rattle.graphs.specs.Total.{total}
 abbrev pub at : List ℕ → ℕ → ℕ
 at l x = getD l x 0
 
-pub record CanSum (degrees : List ℕ) (n : ℕ) : Type 0 where
-  pub long : n ≤ length degrees
-  pub short : n ≤ 1024
-
 -- the numbers of edges of the first i nodes of an order
 abbrev pub edges-before : List ℕ → List ℕ → ℕ → ℕ
 edges-before order degrees i = total (λ q. at degrees (at order q)) i

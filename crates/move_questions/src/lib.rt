@@ -1,14 +1,12 @@
-// Questions about a move graph on an area that was checked: a set's atom count, the multiplicity between two sets, how many edges there are,
-// and the k-th edge by rising sets.
+// Questions about a move graph on an area that was checked: a set's atom count, the multiplicity between two sets, how many chunks and
+// edges there are, and the k-th edge by rising sets.
 use entry_set::EntrySet;
 ghost use mathlib.Core.Path.{_≡_};
-ghost use mathlib.Core.List.{List};
-ghost use Prim.Native.Nat.{ℕ, _<_, _^_};
+ghost use Prim.Native.Nat.{ℕ, _+_, _*_, _≤_, _<_, _^_};
 ghost use lib.ListN.{length};
-ghost use Rattle.graphs.specs.Total.{total};
-ghost use Rattle.move_questions.specs.Steps.{at, CanSum, CanFindRow, RowFound, CanFindCell, CellFound, CanPass, passed};
+ghost use Rattle.move_questions.specs.Steps.{CanFindRow, RowFound, CanFindCell, CellFound, CanPass, passed};
 ghost use Rattle.entry_set.specs.Sets.{number};
-ghost use Rattle.move_ledger.specs.Graph.{Load, members, mult, edges};
+ghost use Rattle.move_ledger.specs.Graph.{Load, members, mult, rising, edges};
 ghost use Rattle.move_ledger.specs.Ledger.{kth};
 ghost use Rattle.move_questions.specs.Answers.{placeIn, Checked, Listable, CanReadEdge, EdgeRead, ofListed};
 
@@ -30,20 +28,6 @@ fn wide(x: u32) -> u64
     ensures { λ r. ⌜ (r ≡ x) × (r < 2 ^ 32) ⌝ }
 {
     x as u64
-}
-
-// The sum of the first n numbers.
-pub fn sum(degrees: &[u32], n: usize) -> u64
-    requires { ⌜ CanSum (now degrees) n ⌝ }
-    ensures { λ r. ⌜ r ≡ total (at (now (degrees .entry))) n ⌝ }
-{
-    let mut all: u64 = 0;
-    let mut x = 0;
-    while x < n {
-        all += wide(degrees[x]);
-        x += 1;
-    }
-    all
 }
 
 // A place in the order of the nodes, and how many edges of that node come before.
@@ -110,12 +94,20 @@ pub fn find_cell(
     j
 }
 
-// The number of distinct edges.
-pub fn edge_count(degrees: &[u32], n: usize) -> u64
-    requires { ⌜ CanSum (now degrees) n ⌝ }
-    ensures { λ r. ⌜ ((load : Load) (area order : List ℕ) (registered : ℕ) → Listable load n area registered order (now (degrees .entry)) → r ≡ length (edges load (placeIn load n area))) ⌝ }
+// The number of distinct edges: the area keeps it.
+pub fn edge_count(area: &[u32], n: usize) -> u64
+    requires { ⌜ n * n + 5 ≤ length (now area) ⌝ }
+    ensures { λ r. ⌜ ((load : Load) (registered : ℕ) → Checked load n (now (area .entry)) registered → r ≡ length (edges load (placeIn load n (now (area .entry))))) ⌝ }
 {
-    sum(degrees, n)
+    wide(area[n * n + 4])
+}
+
+// The number of chunks, sets that have an atom: the area keeps it too.
+pub fn chunk_count(area: &[u32], n: usize) -> u64
+    requires { ⌜ n * n + 5 ≤ length (now area) ⌝ }
+    ensures { λ r. ⌜ ((load : Load) (registered : ℕ) → Checked load n (now (area .entry)) registered → r ≡ length (rising (placeIn load n (now (area .entry))))) ⌝ }
+{
+    wide(area[n * n + 3])
 }
 
 // The edge from node x to node y.

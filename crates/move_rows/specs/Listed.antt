@@ -14,7 +14,6 @@ use Rattle.move_area.specs.Fixed.{flagged}
 use Rattle.move_fixed.specs.Flags.{atoms, CanKeep, flagged-atoms}
 use Rattle.move_consistency.specs.Ready.{CanCheck, Told}
 use Rattle.move_questions.specs.Answers.{Listable}
-use Rattle.move_questions.specs.Steps.{CanSum}
 use Rattle.move_rows.specs.Later.{later, later-first, later-none, later-nine}
 
 -- room for a number of each node, of as many as there can be
@@ -87,9 +86,6 @@ module _ {load : Load} {fixed : List ℕ} {n : ℕ} {area degrees order : List �
 
 -- none fits: what the questions ask
 module _ {load : Load} {fixed : List ℕ} {n : ℕ} {area degrees order : List ℕ} {q : ℕ} (t : RowTold load fixed n area degrees order q) (zero : q ≡ 0) where
-  pub can-sum : CanSum degrees n
-  can-sum = let y = t .listable zero in record { long = y .degrees-long; short = y .checked .loadable .sizes .sets }
-
   pub listable-known : {known : ℕ} → known ≡ getD area (n * n) 0 → Listable load n area known order degrees
   listable-known e = subst (λ k. Listable load n area k order degrees) (sym e) (t .listable zero)
 

@@ -9,6 +9,7 @@ use mathlib.Core.List.{List}
 use Prim.Native.Nat.{ℕ, _+_, _-_, _*_, _≤_, _<_}
 use lib.Dec.{eqb}
 use lib.ListN.{length, getD, set, replicate}
+use Rattle.graphs.specs.Count.{ind}
 use Rattle.layout.specs.Patch.{patch, part, part-long, patch-same}
 use Rattle.layout.specs.Lent.{mid-part, put-patch}
 use Rattle.entry_set.specs.Lanes.{setLanes}
@@ -77,7 +78,20 @@ module _ (n : ℕ) (area : List ℕ) (room : atomAt n ≤ length area) where
       put-patch at (at + n) area m (omega arith) (omega arith) long ∙ ap (λ (u : List ℕ). patch at u area) (e ∙ ap (unmarked (counterIn n area)) marks-lent) ∙ started-marks (last (counterIn n area)) in
       ap₂ (λ (u : List ℕ) k. set u (n * n + 1) k) q c
 
--- an accepted move: the moved graph's edges and counts, the atom's node, no cycle and no component
-unfoldable pub committed : ℕ → List ℕ → List ℕ → ℕ → ℕ → List ℕ → List ℕ
-committed n edges counts atom to l =
-    patch (laneAt n 10) (replicate n 0) (set (set (patch (laneAt n 8) counts (patch 0 edges l)) (atomAt n + atom) to) (n * n + 2) 1)
+-- the totals of the header
+abbrev pub totalled : ℕ → ℕ → ℕ → List ℕ → List ℕ
+totalled n chunks found l = set (set l (n * n + 3) chunks) (n * n + 4) found
+
+-- how many sets have an atom after a move of `atom` to node `to`, where `counts` has the counts after it: one more where the target had none,
+-- one fewer where the atom's node has none left
+abbrev pub chunks-after : ℕ → List ℕ → ℕ → ℕ → List ℕ → ℕ
+chunks-after n counts atom to l = getD l (n * n + 3) 0 + ind (eqb (getD l (laneAt n 8 + to) 0) 0) - ind (eqb (getD counts (getD l (atomAt n + atom) 0) 0) 0)
+
+-- how many distinct edges there are once some have appeared and vanished
+abbrev pub edges-after : ℕ → ℕ → ℕ → List ℕ → ℕ
+edges-after n come gone l = getD l (n * n + 4) 0 + come - gone
+
+-- an accepted move: the moved graph's edges, the totals, the counts, the atom's node, no cycle and no component
+unfoldable pub committed : ℕ → List ℕ → List ℕ → ℕ → ℕ → ℕ → ℕ → List ℕ → List ℕ
+committed n edges counts atom to chunks found l =
+    patch (laneAt n 10) (replicate n 0) (set (set (patch (laneAt n 8) counts (totalled n chunks found (patch 0 edges l))) (atomAt n + atom) to) (n * n + 2) 1)

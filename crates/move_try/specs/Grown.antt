@@ -7,8 +7,8 @@ use lib.ListN.{length, getD}
 use Rattle.layout.specs.Patch.{part}
 use Rattle.layout.specs.Fields.{Field, field, In, here, there}
 use Rattle.layout.specs.Change.{Clear, lay-agree, lay-clear, lay-over}
-use Rattle.move_area.specs.Bodies.{laneAt, atomAt, Bodies, header, fieldsOf, write, Sized}
-use Rattle.move_area.specs.BodyLaws.{write-same}
+use Rattle.move_area.specs.Bodies.{laneAt, atomAt, Bodies, numbers, fieldsOf, write, Sized}
+use Rattle.move_area.specs.BodyLaws.{HeaderIn, write-same}
 
 -- each field stands where the other does, and isn't longer
 data Under : List Field → List Field → Type 0 where
@@ -40,7 +40,7 @@ pub record Free (n r k : ℕ) : Type 0 where
   pub mark : k ≡ laneAt n 9 + r → ⊥
   pub word : (j : ℕ) → j < 8 → k ≡ laneAt n j + r → ⊥
 
-module _ (n a : ℕ) (b b′ : Bodies) (v : Sized n a b) (v′ : Sized n a b′) (more : b .registered ≤ b′ .registered) where
+module _ (n a : ℕ) (b b′ : Bodies) (v : Sized n a b) (v′ : Sized n a b′) (more : b .header .registered ≤ b′ .header .registered) where
   under : Under (fieldsOf n b) (fieldsOf n b′)
   under =
       next refl edges
@@ -61,7 +61,7 @@ module _ (n a : ℕ) (b b′ : Bodies) (v : Sized n a b) (v′ : Sized n a b′)
       edges : length (b .edges) ≤ length (b′ .edges)
       edges = omega (arith, v .edges, v′ .edges)
 
-      head : length (header b) ≤ length (header b′)
+      head : length (numbers (b .header)) ≤ length (numbers (b′ .header))
       head = omega arith
 
       word : (j : ℕ) → j < 8 → length (b .words j) ≤ length (b′ .words j)
@@ -79,23 +79,23 @@ module _ (n a : ℕ) (b b′ : Bodies) (v : Sized n a b) (v′ : Sized n a b′)
       nodes : length (b .nodes) ≤ length (b′ .nodes)
       nodes = omega (arith, v .nodes, v′ .nodes)
 
-  clear-free : (r k : ℕ) → r < b′ .registered → r < n → Clear (fieldsOf n b′) k → Free n r k
+  clear-free : (r k : ℕ) → r < b′ .header .registered → r < n → Clear (fieldsOf n b′) k → Free n r k
   clear-free r k h z c =
       record {
-        header = λ e. omega (arith, c .of (field (n * n) (header b′)) (there here) (omega arith));
+        header = λ e. omega (arith, c .of (field (n * n) (numbers (b′ .header))) (there here) (omega arith));
         mark = λ e. omega (arith, v′ .marks, c .of (field (laneAt n 9) (b′ .marks)) (there (there (there (there (there (there (there (there (there (there (there here))))))))))) (omega arith));
         word = λ j q e. omega (arith, v′ .words j q, c .of (field (laneAt n j) (b′ .words j)) (in-words n b′ j q) (omega arith));
       }
 
   -- an area that has the new fields, and is as before at each place that no field has
-  pub is-write : (l₀ l′ : List ℕ) (r : ℕ) → r < b′ .registered → r < n → length l′ ≡ length l₀
-      → part 0 (n * n) l′ ≡ b′ .edges → getD l′ (n * n) 0 ≡ b′ .registered → getD l′ (n * n + 1) 0 ≡ b′ .counter → getD l′ (n * n + 2) 0 ≡ b′ .acyclic
-      → ((j : ℕ) → j < 8 → part (laneAt n j) (b′ .registered) l′ ≡ b′ .words j) → part (laneAt n 8) n l′ ≡ b′ .counts → part (laneAt n 9) n l′ ≡ b′ .marks
+  pub is-write : (l₀ l′ : List ℕ) (r : ℕ) → r < b′ .header .registered → r < n → length l′ ≡ length l₀
+      → part 0 (n * n) l′ ≡ b′ .edges → HeaderIn n l′ (b′ .header)
+      → ((j : ℕ) → j < 8 → part (laneAt n j) (b′ .header .registered) l′ ≡ b′ .words j) → part (laneAt n 8) n l′ ≡ b′ .counts → part (laneAt n 9) n l′ ≡ b′ .marks
       → part (laneAt n 10) n l′ ≡ b′ .component → part (atomAt n) a l′ ≡ b′ .nodes
       → ((k : ℕ) → k < length l₀ → Free n r k → getD l′ k 0 ≡ getD (write n b l₀) k 0) → l′ ≡ write n b′ l₀
   unfolding write
-  is-write l₀ l′ r hr hn long e g c y w k m o p far =
-      sym (write-same n a l′ b′ v′ e g c y w k m o p)
+  is-write l₀ l′ r hr hn long e g w k m o p far =
+      sym (write-same n a l′ b′ v′ e g w k m o p)
       ∙ lay-agree (fieldsOf n b′) l₀ l′ long (λ i h q. far i h (clear-free r i hr hn q) ∙ lay-clear (fieldsOf n b) l₀ i h (under-clear under q))
 
   -- the new fields over the old ones

@@ -23,7 +23,7 @@ use Rattle.move_ledger.specs.Nodes.{Placing}
 use Rattle.move_ledger.specs.NodePlaces.{placing-put, sources-put, targets-put}
 use Rattle.move_area.specs.Bodies.{laneAt, atomAt, Bodies, write, Sized}
 use Rattle.move_area.specs.NodeBodies.{Nodes, nodeBodies}
-use Rattle.move_try.specs.Stands.{Stands, nodes-sized, stands-sized, stands-long, counter-at, acyclic-at, edge-at, word-at, count-at, mark-at, component-at, node-at}
+use Rattle.move_try.specs.Stands.{Stands, nodes-sized, stands-sized, stands-long, counter-at, acyclic-at, occupied-at, distinct-at, edge-at, word-at, count-at, mark-at, component-at, node-at}
 use Rattle.move_try.specs.Areas.{registered}
 use Rattle.move_try.specs.Grown.{Free, is-write}
 
@@ -109,6 +109,10 @@ module _ {load : Load} {N : ℕ} {s : Nodes} {l₀ l : List ℕ} (v : Stands loa
   lane-free : (j x : ℕ) → laneAt N 8 ≤ laneAt N j + x → (laneAt N j + x ≡ laneAt N 9 + r → ⊥) → Free N r (laneAt N j + x)
   lane-free j x b ne = record { header = λ e. omega arith; mark = ne; word = λ i h e. omega (arith, lane-below N i r h free) }
 
+  -- and so are the other numbers of the header
+  header-free : (i : ℕ) → 0 < i → i < 24 → Free N r (N * N + i)
+  header-free i a b = record { header = λ e. omega arith; mark = λ e. omega arith; word = λ j q e. omega arith }
+
   abbrev b₀ : Bodies
   b₀ = nodeBodies load N s
 
@@ -116,9 +120,14 @@ module _ {load : Load} {N : ℕ} {s : Nodes} {l₀ l : List ℕ} (v : Stands loa
   b₁ =
       record {
         edges = b₀ .edges;
-        registered = length (put r T (s .sets));
-        counter = s .counter;
-        acyclic = b₀ .acyclic;
+        header =
+            record {
+              registered = length (put r T (s .sets));
+              counter = s .counter;
+              acyclic = b₀ .header .acyclic;
+              occupied = b₀ .header .occupied;
+              distinct = b₀ .header .distinct;
+            };
         words = λ j. tab (λ x. getD (parts 32 8 (at (put r T (s .sets)) x)) j 0) (length (put r T (s .sets)));
         counts = b₀ .counts;
         marks = set (s .marks) r 0;
@@ -161,9 +170,13 @@ module _ {load : Load} {N : ℕ} {s : Nodes} {l₀ l : List ℕ} (v : Stands loa
   whole =
       is-write N (load .A) b₀ b₁ (stands-sized v) (subst (Sized N (load .A)) (sym same) sized) (put-grows r T (s .sets) within) l₀ l′ r (put-there r T (s .sets) within) free (registered-long N (length sets′) r T l free space ∙ stands-long v)
       (kept 0 (N * N) (b₀ .edges) (tab-length _ (N * N)) (λ x h. ap (λ k. getD l k 0) (zero-add x) ∙ edge-at v x h ∙ sym (tab-at _ (N * N) x h)) (λ x h. record { header = λ e. omega arith; mark = λ e. omega arith; word = λ j q e. omega arith }))
-      (registered-count N (length sets′) r T l free space)
-      (far (N * N + 1) (record { header = λ e. omega arith; mark = λ e. omega arith; word = λ j q e. omega arith }) ∙ counter-at v)
-      (far (N * N + 2) (record { header = λ e. omega arith; mark = λ e. omega arith; word = λ j q e. omega arith }) ∙ acyclic-at v)
+      (record {
+        registered = registered-count N (length sets′) r T l free space;
+        counter = far (N * N + 1) (header-free 1 (omega arith) (omega arith)) ∙ counter-at v;
+        acyclic = far (N * N + 2) (header-free 2 (omega arith) (omega arith)) ∙ acyclic-at v;
+        occupied = far (N * N + 3) (header-free 3 (omega arith) (omega arith)) ∙ occupied-at v;
+        distinct = far (N * N + 4) (header-free 4 (omega arith) (omega arith)) ∙ distinct-at v;
+      })
       word
       (kept (laneAt N 8) N (b₀ .counts) (tab-length _ N) (λ x h. count-at v x h ∙ sym (tab-at _ N x h)) (λ x h. lane-free 8 x (omega arith) (λ e. omega arith)))
       marks

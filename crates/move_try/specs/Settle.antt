@@ -8,7 +8,7 @@ use native.Mathlib.Nat.{zero-add}
 use lib.Dec.{eqb, ltb}
 use lib.ListN.{length, getD, set}
 use Rattle.graph_slots.specs.Asked.{ListRoom}
-use Rattle.graphs.specs.Count.{ind, count-ext}
+use Rattle.graphs.specs.Count.{ind, count-ext, count-le}
 use Rattle.graphs.specs.Lists.{below}
 use Rattle.graphs.specs.Tab.{tab, tab-at, is-tab, tab-alike}
 use Rattle.graphs.specs.Walk.{via, cyclic}
@@ -17,14 +17,15 @@ use Rattle.graph_walks.specs.Marks.{marking}
 use Rattle.layout.specs.Patch.{part, part-long, part-at}
 use Rattle.move_edges.specs.Matrix.{matrix}
 use Rattle.move_edges.specs.Steps.{fresh, Changed}
-use Rattle.move_ledger.specs.Graph.{Load, at, members}
+use Rattle.move_ledger.specs.Graph.{Load, at, members, occupied}
 use Rattle.move_ledger.specs.Answer.{Answer, accepted, rejected, is-accepted}
 use Rattle.move_ledger.specs.LoadLaws.{Loadable}
 use Rattle.move_ledger.specs.Nodes.{Placing, sources, targets, node-edge}
 use Rattle.move_ledger.specs.NodeMoves.{placing-set, moved-cyclic, moved-decides}
 use Rattle.move_slots.specs.SlotLaws.{Slotted, slotted-edge, slotted-ends, slotted-flat}
+use Rattle.move_ledger.specs.Totals.{busy-nodes, filled-cells, busy-moved}
 use Rattle.move_ledger.specs.NodeWalks.{cyclic-nodes, ends-nodes}
-use Rattle.move_area.specs.Bodies.{atomAt}
+use Rattle.move_area.specs.Bodies.{laneAt, atomAt}
 use Rattle.move_area.specs.Area.{setsIn}
 use Rattle.move_area.specs.Checked.{nodesIn, nodesState}
 use Rattle.move_area.specs.NodeBodies.{Nodes}
@@ -32,12 +33,12 @@ use Rattle.move_area.specs.Calls.{next}
 use Rattle.move_slots.specs.Filled.{CanFillOwn, Filled}
 use Rattle.move_try.specs.declared.Tried.{Tried}
 use Rattle.move_try.specs.declared.Tried.the-variants.{Accepted, Rejected}
-use Rattle.move_try.specs.Stands.{Stands, stands-long, registered-at, counter-at, acyclic-at, edge-at, sets-in, mark-at, node-at, marks-part, nodes-part}
-use Rattle.move_try.specs.Areas.{counterIn, raised, committed}
+use Rattle.move_try.specs.Stands.{Stands, stands-long, registered-at, counter-at, acyclic-at, occupied-at, distinct-at, edge-at, sets-in, count-at, mark-at, node-at, marks-part, nodes-part}
+use Rattle.move_try.specs.Areas.{counterIn, raised, chunks-after, edges-after, committed}
 use Rattle.move_try.specs.Changes.{with-marks, with-node, with-raised, stands-marks, stands-raised, raised-fresh, stands-committed}
 use Rattle.move_try.specs.Outcome.{slotReport, with-test, walk-marks}
 use Rattle.move_try.specs.Test.{CanTest, walk-area, closes, tested, marked-long}
-use Rattle.move_try.specs.Commit.{CanCommit}
+use Rattle.move_try.specs.Commit.{CanCommit, edges-now}
 use Rattle.move_try.specs.Trial.{CanTrial}
 
 -- the ledger's answer
@@ -131,6 +132,17 @@ slotted-matrix : {load : Load} {nodes sets s t : List ℕ} → Slotted load node
 unfolding matrix
 slotted-matrix v n = tab-alike _ _ (n * n) (λ i h. slotted-flat v n i)
 
+-- and fill as many of its cells
+slotted-filled : {load : Load} {nodes sets s t : List ℕ} → Slotted load nodes sets s t → (n : ℕ)
+    → filled-cells s t n (load .D + load .E) ≡ filled-cells (sources load nodes sets) (targets load nodes sets) n (load .D + load .E)
+unfolding filled-cells
+slotted-filled v n = count-ext _ _ (n * n) (λ i h. ap (ltb 0) (slotted-flat v n i))
+
+-- no more nodes have an atom than there are
+busy-few : (load : Load) (nodes : List ℕ) (n : ℕ) → busy-nodes load nodes n ≤ n
+unfolding busy-nodes
+busy-few load nodes n = count-le (occupied load nodes) n
+
 -- and the same edges that another placement's slots haven't
 slotted-fresh : {load : Load} {nodes nodes′ sets s t u v : List ℕ} → Slotted load nodes sets s t → Slotted load nodes′ sets u v → (n : ℕ)
     → fresh n s t u v (load .D + load .E) ≡ fresh n (sources load nodes sets) (targets load nodes sets) (sources load nodes′ sets) (targets load nodes′ sets) (load .D + load .E)
@@ -214,6 +226,19 @@ module _ {load : Load} {n : ℕ} {area : List ℕ} {atom to : ℕ} (can : CanSet
         old : Slotted load (nodesIn load n area) (setsIn n area) u v
         old = rw (nodes-part after, sets-in after) at (o .slots)
 
+        -- the atom's node has a place
+        home : at (nodesIn load n area) atom < n
+        home = omega (arith, can .stands .placing .inside atom (can .there), can .stands .few)
+
+        -- one chunk more where the target had no atom, one fewer where the atom's node has none left
+        chunks-balance : busy-nodes load (set (nodesIn load n area) atom to) n + ind (eqb (getD counts (getD l (atomAt n + atom) 0) 0) 0)
+            ≡ getD l (n * n + 3) 0 + ind (eqb (getD l (laneAt n 8 + to) 0) 0)
+        chunks-balance =
+            ap (λ i. busy-nodes load (set (nodesIn load n area) atom to) n + ind (eqb (getD counts i 0) 0)) (node-at after atom (can .there))
+            ∙ ap (λ i. busy-nodes load (set (nodesIn load n area) atom to) n + ind (eqb i 0)) (f .count-at (at (nodesIn load n area) atom) home)
+            ∙ busy-moved load (nodesIn load n area) atom to n (can .stands .placing .atoms) (can .there) home within
+            ∙ sym (ap₂ (λ i j. i + ind (eqb j 0)) (occupied-at after) (count-at after to within))
+
         pub settle-commit : n ≤ length counts → load .D + load .E ≤ length s → load .D + load .E ≤ length t → load .D + load .E ≤ length u → load .D + load .E ≤ length v
             → CanCommit l n atom to u v s t (load .D + load .E) counts
         settle-commit k b c y z =
@@ -237,16 +262,31 @@ module _ {load : Load} {n : ℕ} {area : List ℕ} {atom to : ℕ} (can : CanSet
               node = within;
               place = omega (arith, can .stands .room, stands-long after, can .there);
               tallies = k;
+              chunks =
+                  record {
+                    small = can .stands .small;
+                    node = within;
+                    place = omega (arith, can .stands .room, stands-long after, can .there);
+                    tallies = k;
+                    home = omega (arith, node-at after atom (can .there), home);
+                    few = subst (λ i. i ≤ n) (sym (occupied-at after)) (busy-few load (nodesIn load n area) n);
+                    left = omega (arith, chunks-balance);
+                  };
+              edges = distinct-at after ∙ sym (slotted-filled old n);
             }
 
         pub settle-accepted : r ≡ false → {come gone : ℕ} → Changed n u v s t (load .D + load .E) come gone
-            → {l′ : List ℕ} → l′ ≡ committed n (matrix s t n (load .D + load .E)) (part 0 n counts) atom to l → Settled load n area atom to (accepted (record { appeared = come; vanished = gone })) l′
+            → {l′ : List ℕ}
+            → l′ ≡ committed n (matrix s t n (load .D + load .E)) (part 0 n counts) atom to (chunks-after n counts atom to l) (edges-after n come gone l) l → Settled load n area atom to (accepted (record { appeared = come; vanished = gone })) l′
         settle-accepted h c e =
             record {
               says =
                   rw (sym answer ∙ h)
                   (ap₂ (λ i j. accepted (record { appeared = i; vanished = j })) (c .appeared ∙ slotted-fresh old (f .slots) n) (c .vanished ∙ slotted-fresh (f .slots) old n));
-              stands = rw (e, slotted-matrix (f .slots) n, tallies) (stands-committed after atom to (can .there) (can .node) (sym answer ∙ h));
+              stands =
+                  rw (e, slotted-matrix (f .slots) n, tallies)
+                  (stands-committed after atom to (can .there) (can .node) (sym answer ∙ h) (omega (arith, chunks-balance))
+                  (edges-now (can .stands .small) (distinct-at after ∙ sym (slotted-filled old n)) c ∙ slotted-filled (f .slots) n));
             }
           where
             tallies : part 0 n counts ≡ tab (members load (set (nodesIn load n area) atom to)) n

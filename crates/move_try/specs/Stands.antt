@@ -19,8 +19,9 @@ use Rattle.entry_set.specs.SetLaws.{below-256}
 use Rattle.move_ledger.specs.Graph.{Load, at, members}
 use Rattle.move_ledger.specs.LoadLaws.{InOrder}
 use Rattle.move_ledger.specs.Nodes.{Placing, sources, targets, node-edge}
+use Rattle.move_ledger.specs.Totals.{busy-nodes, filled-cells}
 use Rattle.move_area.specs.Bodies.{laneAt, atomAt, write, Sized}
-use Rattle.move_area.specs.BodyLaws.{write-long, read-edges, read-registered, read-counter, read-acyclic, read-words, read-counts, read-marks, read-component, read-nodes}
+use Rattle.move_area.specs.BodyLaws.{write-long, read-edges, read-registered, read-counter, read-acyclic, read-occupied, read-distinct, read-words, read-counts, read-marks, read-component, read-nodes}
 use Rattle.move_area.specs.Area.{setsIn, decode, encode, consistent}
 use Rattle.move_area.specs.Held.{Held, consistent-held, consistent-whole}
 use Rattle.move_area.specs.NodeBodies.{Nodes, nodeBodies, stateOf, encode-nodes}
@@ -70,6 +71,14 @@ module _ {load : Load} {N : ℕ} {s : Nodes} {l₀ l : List ℕ} (v : Stands loa
   pub acyclic-at : getD l (N * N + 2) 0 ≡ ind (not (cyclic (node-edge load (s .nodes) (s .sets)) (below N)))
   unfolding nodeBodies
   acyclic-at = ap (λ (u : List ℕ). getD u (N * N + 2) 0) (v .is) ∙ read-acyclic N (load .A) (nodeBodies load N s) stands-sized l₀ (v .room)
+
+  pub occupied-at : getD l (N * N + 3) 0 ≡ busy-nodes load (s .nodes) N
+  unfolding nodeBodies
+  occupied-at = ap (λ (u : List ℕ). getD u (N * N + 3) 0) (v .is) ∙ read-occupied N (load .A) (nodeBodies load N s) stands-sized l₀ (v .room)
+
+  pub distinct-at : getD l (N * N + 4) 0 ≡ filled-cells (sources load (s .nodes) (s .sets)) (targets load (s .nodes) (s .sets)) N (load .D + load .E)
+  unfolding nodeBodies
+  distinct-at = ap (λ (u : List ℕ). getD u (N * N + 4) 0) (v .is) ∙ read-distinct N (load .A) (nodeBodies load N s) stands-sized l₀ (v .room)
 
   cell : (b k : ℕ) (w : List ℕ) → part b k (write N (nodeBodies load N s) l₀) ≡ w → (x : ℕ) → x < k → getD l (b + x) 0 ≡ getD w x 0
   cell b k w e x h = sym (part-at b k l x h) ∙ ap (λ (u : List ℕ). getD (part b k u) x 0) (v .is) ∙ ap (λ (u : List ℕ). getD u x 0) e

@@ -19,6 +19,7 @@ pub enum Tried {
 mod early;
 mod settle;
 mod test;
+mod totals;
 mod trial;
 mod writes;
 

@@ -1,4 +1,6 @@
 // What the steps of a move write into the area.
+use super::totals::chunks_after;
+use super::totals::edges_after;
 ghost use mathlib.Core.Path.{_≡_};
 ghost use mathlib.Core.Bool.{cond};
 ghost use Prim.Native.Nat.{_+_, _*_, _≤_};
@@ -9,7 +11,7 @@ ghost use Rattle.move_area.specs.Calls.{next};
 ghost use Rattle.layout.specs.Patch.{patch, part};
 ghost use Rattle.move_edges.specs.Matrix.{matrix};
 ghost use Rattle.move_edges.specs.Steps.{Changed};
-ghost use Rattle.move_try.specs.Areas.{registered, sets-with, counterIn, raised, committed, CanRegister};
+ghost use Rattle.move_try.specs.Areas.{registered, sets-with, counterIn, raised, totalled, chunks-after, edges-after, committed, CanRegister};
 ghost use Rattle.move_try.specs.Commit.{CanFollow, CanCommit};
 
 // How many sets are registered once one has the place `to`, of m so far: one more where that is the next one.
@@ -83,7 +85,17 @@ fn follow(
     move_edges::update(&mut area[0..end], n, s, t, u, v, m)
 }
 
-// An accepted move: edges and counts, the atom's node, no cycle and no component; and how many edges come and go.
+// The two totals of the header.
+fn write_totals(area: &mut [u32], n: usize, chunks: u32, edges: u32)
+    requires { ⌜ n * n + 24 + 24 * n ≤ length (now area) ⌝ }
+    ensures { λ _. ⌜ now (area .exit) ≡ totalled n chunks edges (now (area .entry)) ⌝ }
+{
+    let square = n * n;
+    area[square + 3] = chunks;
+    area[square + 4] = edges;
+}
+
+// An accepted move: edges, totals and counts, the atom's node, no cycle and no component; and how many edges come and go.
 pub fn commit(
     area: &mut [u32],
     n: usize,
@@ -98,11 +110,15 @@ pub fn commit(
 ) -> move_edges::Changes
     requires { ⌜ CanCommit (now area) n atom to (now s) (now t) (now u) (now v) m (now counts) ⌝ }
     ensures { λ r. ⌜ Changed n (now (s .entry)) (now (t .entry)) (now (u .entry)) (now (v .entry)) m (r .appeared) (r .vanished) ⌝ }
-    ensures { λ _. ⌜ now (area .exit) ≡ committed n (matrix (now (u .entry)) (now (v .entry)) n m) (part 0 n (now (counts .entry))) atom to (now (area .entry)) ⌝ }
+    ensures { λ r. ⌜ now (area .exit) ≡ committed n (matrix (now (u .entry)) (now (v .entry)) n m) (part 0 n (now (counts .entry))) atom to (chunks-after n (now (counts .entry)) atom to (now (area .entry))) (edges-after n (r .appeared) (r .vanished) (now (area .entry))) (now (area .entry)) ⌝ }
 {
     let square = n * n;
     let lanes = square + 24;
+    let chunks = chunks_after(area, n, atom, to, counts);
+    let before = area[square + 4];
     let changes = follow(area, n, s, t, u, v, m);
+    let edges = edges_after(before, changes.appeared, changes.vanished);
+    write_totals(area, n, chunks, edges);
     layout::copy(area, lanes + 8 * n, counts, 0, n);
     area[lanes + 24 * n + atom] = to as u32;
     area[square + 2] = 1;

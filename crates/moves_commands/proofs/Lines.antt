@@ -14,8 +14,8 @@ use Rattle.move_ledger.specs.Loading.{refusal}
 use Rattle.move_area.specs.Area.{decode}
 use Rattle.move_area.specs.Fixed.{checks-out}
 use Rattle.move_area.specs.Calls.{asked, checked}
-use Rattle.move_questions.specs.Answers.{placeIn, Listable}
-use Rattle.reduced_chunk_graph.specs.Asked.{asked-back, head-inside, edges-told, edge-told}
+use Rattle.move_questions.specs.Answers.{placeIn, Checked, Listable}
+use Rattle.reduced_chunk_graph.specs.Asked.{asked-back, checks, head-inside, totals-inside, edges-told, edge-told}
 use Rattle.move_rows.specs.Listed.{RowTold, listable-known, listable-some}
 use Rattle.moves_replies.specs.Words.{reply}
 use Rattle.moves_replies.specs.Room.{Put, put-then, put-none, reply-long}
@@ -81,8 +81,11 @@ module _ {load : Load} {area order degrees : List ℕ} where
     pub head-there : N * N < length area
     head-there = head-inside load (unmarked load) N area 0 (can .told .row) refl
 
-    pub count-told : {n : ℕ} → ((l : Load) (a o : List ℕ) (registered : ℕ) → Listable l N a registered o degrees → n ≡ length (edges l (placeIn l N a))) → number n ≡ areas .asks load area edge-count
-    count-told f = edges-told load (unmarked load) N area 0 (can .told .row) refl _ (f load area order _ (can .told .listable refl))
+    pub totals-there : N * N + 5 ≤ length area
+    totals-there = totals-inside load (unmarked load) N area 0 (can .told .row) refl
+
+    pub count-told : {n : ℕ} → ((l : Load) (registered : ℕ) → Checked l N area registered → n ≡ length (edges l (placeIn l N area))) → number n ≡ areas .asks load area edge-count
+    count-told f = edges-told load (unmarked load) N area 0 (can .told .row) refl _ (f load _ (checks load (unmarked load) N area 0 (can .told .row) refl))
 
     pub all-few : {n : ℕ} → number n ≡ areas .asks load area edge-count → n ≤ 144
     all-few e = omega (arith, asked-few load (unmarked load) N area _ e, can .few)

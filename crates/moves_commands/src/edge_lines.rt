@@ -62,7 +62,7 @@ fn put_all(area: &[u32], order: &[u32], degrees: &[u32], out: &mut [u8], at: usi
     ensures { λ r. ⌜ ((load : Load) → CanListAll load (now (area .entry)) (now (order .entry)) (now (degrees .entry)) → Put (listing (areas .asks load (now (area .entry)))) (now (out .entry)) at (now (out .exit)) r) ⌝ }
 {
     let known = registered(area, 96);
-    let n = move_questions::edge_count(degrees, 96);
+    let n = move_questions::edge_count(area, 96);
     let p = put_lines(area, known, order, degrees, n, out, at);
     put_edges(out, p, n)
 }

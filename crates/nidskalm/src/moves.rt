@@ -198,6 +198,34 @@ pub extern "C" fn nidskalm_reduced_chunk_graph_edge_count(
     ))
 }
 
+// The number of chunks: sets that have an atom.
+#[no_mangle]
+pub extern "C" fn nidskalm_reduced_chunk_graph_chunk_count(
+    a: u64,
+    d: u64,
+    e: u64,
+    n: u64,
+    starts: &[u32],
+    dependencies: &[u32],
+    hosts: &[u32],
+    fixed: &[u32],
+    area: &[u32],
+) -> Reply
+    ensures { λ r. ⌜ r ≡ move-reply (calls.asked (lent a d e (now (starts .entry)) (now (dependencies .entry)) (now (hosts .entry))) (now (fixed .entry)) n (now (area .entry)) ledger.chunk-count) ⌝ }
+{
+    of_number(reduced_chunk_graph::chunk_count(
+        a as usize,
+        d as usize,
+        e as usize,
+        n as usize,
+        starts,
+        dependencies,
+        hosts,
+        fixed,
+        area,
+    ))
+}
+
 // The k-th edge, from 0, by rising source set, then target set.
 #[no_mangle]
 pub extern "C" fn nidskalm_reduced_chunk_graph_edge_at(

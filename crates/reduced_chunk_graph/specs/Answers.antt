@@ -30,7 +30,7 @@ abbrev pub ofSet : SetAnswer → Answer
 ofSet (set.Set s) = answer.set (numbers s)
 ofSet (set.Refused q) = refused q
 
--- the answer of `atom_count`, `multiplicity` and `edge_count`
+-- the answer of `atom_count`, `multiplicity`, `edge_count` and `chunk_count`
 abbrev pub ofNumber : NumberAnswer → Answer
 ofNumber (number.Number k) = answer.number k
 ofNumber (number.Refused q) = refused q

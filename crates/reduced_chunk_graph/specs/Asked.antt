@@ -12,10 +12,10 @@ use Rattle.entry_set.specs.Sets.{value, words, legal, numbers, number, Holds}
 use Rattle.entry_set.specs.SetLaws.{holds-numbers}
 use Rattle.entry_set.specs.Lanes.{lanes}
 use Rattle.entry_set.specs.declared.EntrySet.{EntrySet}
-use Rattle.move_ledger.specs.Graph.{Load, at, members, mult, edge, edges}
+use Rattle.move_ledger.specs.Graph.{Load, at, members, mult, rising, edge, edges}
 use Rattle.move_ledger.specs.Answer.{Answer, refused}
 use Rattle.move_ledger.specs.Answer as answer
-use Rattle.move_ledger.specs.Ledger.{Question, atom-set, atom-count, multiplicity, edge-count, edge-at, has-cycle, kth, ask}
+use Rattle.move_ledger.specs.Ledger.{Question, atom-set, atom-count, multiplicity, edge-count, chunk-count, edge-at, has-cycle, kth, ask}
 use Rattle.move_ledger.specs.LoadLaws.{Loadable, refusal-none}
 use Rattle.move_ledger.specs.NodeLaws.{placed-at}
 use Rattle.move_area.specs.Area.{setsIn, decode}
@@ -98,6 +98,10 @@ module _ (load : Load) (fixed : List ℕ) (N : ℕ) (area : List ℕ) (q : ℕ) 
     pub head-inside : N * N < length area
     head-inside = omega (arith, loads .sizes .area)
 
+    -- and so are the totals
+    pub totals-inside : N * N + 5 ≤ length area
+    totals-inside = omega (arith, loads .sizes .area)
+
     -- row 11: t tells whether the lent set s is legal
     module _ (s : List ℕ) where
       one : Bool → Answer
@@ -146,6 +150,10 @@ module _ (load : Load) (fixed : List ℕ) (N : ℕ) (area : List ℕ) (q : ℕ) 
     pub edges-told : (k : ℕ) → k ≡ length (edges load (placeIn load N area)) → answer.number k ≡ asked load fixed N area edge-count
     unfolding ask
     edges-told k e = ap answer.number e ∙ asked-on edge-count
+
+    pub chunks-told : (k : ℕ) → k ≡ length (rising (placeIn load N area)) → answer.number k ≡ asked load fixed N area chunk-count
+    unfolding ask
+    chunks-told k e = ap answer.number e ∙ asked-on chunk-count
 
     pub edge-told : (k : ℕ) (x : Answer) → x ≡ kth (edges load (placeIn load N area)) k → x ≡ asked load fixed N area (edge-at k)
     unfolding ask

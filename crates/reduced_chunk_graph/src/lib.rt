@@ -8,6 +8,7 @@ pub use load::new;
 pub use moves::try_move;
 pub use questions::atom_count;
 pub use questions::atom_set;
+pub use questions::chunk_count;
 pub use questions::edge_at;
 pub use questions::edge_count;
 pub use questions::multiplicity;
@@ -33,7 +34,7 @@ pub enum SetAnswer {
     Refused(u32),
 }
 
-// What `atom_count`, `multiplicity` and `edge_count` answer.
+// What `atom_count`, `multiplicity`, `edge_count` and `chunk_count` answer.
 pub enum NumberAnswer {
     Number(u64),
     Refused(u32),

@@ -1,4 +1,4 @@
-// The public questions: an atom's set, a set's atom count, one edge's multiplicity, the number of edges, and the k-th edge.
+// The public questions: an atom's set, a set's atom count, one edge's multiplicity, the number of edges and of chunks, and the k-th edge.
 use super::Edge;
 use super::EdgeAnswer;
 use super::NumberAnswer;
@@ -156,25 +156,33 @@ pub fn edge_count(
 ) -> NumberAnswer
     ensures { λ r. ⌜ ofNumber r ≡ asked (lent a d e (now (starts .entry)) (now (dependencies .entry)) (now (hosts .entry))) (now (fixed .entry)) n (now (area .entry)) ledger.edge-count ⌝ }
 {
-    let mut degrees = [0u32; 1024];
-    let mut order = [0u32; 1024];
-    let q = listed_row(
-        a,
-        d,
-        e,
-        n,
-        starts,
-        dependencies,
-        hosts,
-        fixed,
-        area,
-        &mut degrees,
-        &mut order,
-    );
+    let q = later_row(a, d, e, n, starts, dependencies, hosts, fixed, area);
     if q != 0 {
         return NumberAnswer::Refused(q);
     }
-    let count = move_questions::edge_count(&degrees, n);
+    let count = move_questions::edge_count(area, n);
+    NumberAnswer::Number(count)
+}
+
+// The number of chunks: sets that have an atom.
+pub fn chunk_count(
+    a: usize,
+    d: usize,
+    e: usize,
+    n: usize,
+    starts: &[u32],
+    dependencies: &[u32],
+    hosts: &[u32],
+    fixed: &[u32],
+    area: &[u32],
+) -> NumberAnswer
+    ensures { λ r. ⌜ ofNumber r ≡ asked (lent a d e (now (starts .entry)) (now (dependencies .entry)) (now (hosts .entry))) (now (fixed .entry)) n (now (area .entry)) ledger.chunk-count ⌝ }
+{
+    let q = later_row(a, d, e, n, starts, dependencies, hosts, fixed, area);
+    if q != 0 {
+        return NumberAnswer::Refused(q);
+    }
+    let count = move_questions::chunk_count(area, n);
     NumberAnswer::Number(count)
 }
 

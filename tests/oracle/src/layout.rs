@@ -14,6 +14,8 @@ impl MoveLayout {
     pub const REGISTERED: usize = 0;
     pub const COUNTER: usize = 1;
     pub const ACYCLIC: usize = 2;
+    pub const OCCUPIED: usize = 3;
+    pub const DISTINCT: usize = 4;
     /// Node lanes: words 0 to 7 of the set, then these.
     pub const COUNT: usize = 8;
     pub const MARK: usize = 9;

@@ -75,6 +75,7 @@ pub trait Library {
     fn atom_count(&self, load: &Load, area: &[u32], bits: &[u64]) -> Reply;
     fn multiplicity(&self, load: &Load, area: &[u32], from: &[u64], to: &[u64]) -> Reply;
     fn edge_count(&self, load: &Load, area: &[u32]) -> Reply;
+    fn chunk_count(&self, load: &Load, area: &[u32]) -> Reply;
     fn edge_at(&self, load: &Load, area: &[u32], k: u64) -> EdgeReply;
     fn has_cycle(&self, load: &Load, area: &[u32]) -> Reply;
 
@@ -167,6 +168,10 @@ mod ours {
 
         fn edge_count(&self, load: &Load, area: &[u32]) -> Reply {
             with_load!(nidskalm_reduced_chunk_graph_edge_count, load, area.as_ptr(), area.len())
+        }
+
+        fn chunk_count(&self, load: &Load, area: &[u32]) -> Reply {
+            with_load!(nidskalm_reduced_chunk_graph_chunk_count, load, area.as_ptr(), area.len())
         }
 
         fn edge_at(&self, load: &Load, area: &[u32], k: u64) -> EdgeReply {

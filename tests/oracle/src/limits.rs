@@ -69,6 +69,7 @@ fn move_calls() -> Vec<MoveCall> {
         MoveCall::AtomCount { bits: bits(512) },
         MoveCall::Multiplicity { from: bits(512), to: bits(0) },
         MoveCall::EdgeCount,
+        MoveCall::ChunkCount,
         MoveCall::EdgeAt { k: 0 },
         MoveCall::EdgeAt { k: 8192 },
         MoveCall::HasCycle,

@@ -26,6 +26,7 @@ pub enum MoveCall {
         to: Vec<u64>,
     },
     EdgeCount,
+    ChunkCount,
     EdgeAt {
         k: u64,
     },
@@ -100,6 +101,7 @@ pub fn library_answer(library: &dyn Library, load: &Load, area: &mut [u32], call
         MoveCall::AtomCount { bits } => Answer::Reply(library.atom_count(load, area, bits)),
         MoveCall::Multiplicity { from, to } => Answer::Reply(library.multiplicity(load, area, from, to)),
         MoveCall::EdgeCount => Answer::Reply(library.edge_count(load, area)),
+        MoveCall::ChunkCount => Answer::Reply(library.chunk_count(load, area)),
         MoveCall::EdgeAt { k } => Answer::Edge(library.edge_at(load, area, *k)),
         MoveCall::HasCycle => Answer::Reply(library.has_cycle(load, area)),
         MoveCall::Counter { .. } => unreachable!(),
@@ -113,6 +115,7 @@ pub fn model_answer(load: &Load, state: &mut MoveState, call: &MoveCall) -> Answ
         MoveCall::AtomCount { bits } => Answer::Reply(state.ledger().atom_count(load, bits)),
         MoveCall::Multiplicity { from, to } => Answer::Reply(state.ledger().multiplicity(load, from, to)),
         MoveCall::EdgeCount => Answer::Reply(state.ledger().edge_count(load)),
+        MoveCall::ChunkCount => Answer::Reply(state.ledger().chunk_count()),
         MoveCall::EdgeAt { k } => Answer::Edge(state.ledger().edge_at(load, *k)),
         MoveCall::HasCycle => Answer::Reply(state.ledger().has_cycle(load)),
         MoveCall::Counter { .. } => unreachable!(),

@@ -107,7 +107,7 @@ fn random_bits(random: &mut Random, sets: &[Set], e: u64, wrong: bool) -> Vec<u6
 fn random_call(random: &mut Random, sets: &[Set], load: &Load, damage: u64) -> MoveCall {
     let wrong = random.chance(damage);
     let atom = if random.chance(damage) { load.a as u32 + random.below(3) as u32 } else { random.below(load.a) as u32 };
-    match random.below(20) {
+    match random.below(22) {
         0 => MoveCall::AtomSet { atom },
         1 => MoveCall::AtomCount { bits: random_bits(random, sets, load.e, wrong) },
         2 => MoveCall::Multiplicity {
@@ -121,6 +121,7 @@ fn random_call(random: &mut Random, sets: &[Set], load: &Load, damage: u64) -> M
         4 => MoveCall::EdgeAt { k: random.pick(&[0, 1, load.d, load.d + load.e, u64::MAX, 1 << 32, load.d / 2]) },
         5 => MoveCall::EdgeAt { k: random.below(load.d + 1) },
         6 => MoveCall::HasCycle,
+        7 => MoveCall::ChunkCount,
         _ => MoveCall::Move { atom, bits: random_bits(random, sets, load.e, wrong) },
     }
 }
@@ -153,7 +154,7 @@ fn depend_on_itself(load: &mut Load) {
 }
 
 fn damage_load(random: &mut Random, load: &mut Load) {
-    match random.below(15) {
+    match random.below(16) {
         0 => load.a = damaged_size(random, load.a),
         1 => load.d = damaged_size(random, load.d),
         2 => load.e = damaged_size(random, load.e),
@@ -182,6 +183,12 @@ fn damage_load(random: &mut Random, load: &mut Load) {
             let place = random.index(load.fixed.len());
             load.fixed[place] = if load.fixed[place] == 0 { random.odd_number() } else { 0 };
         }
+        // Rows 5 and 6 at once.
+        14 if !load.dependencies.is_empty() && !load.hosts.is_empty() => {
+            let (dependency, host) = (random.index(load.dependencies.len()), random.index(load.hosts.len()));
+            load.dependencies[dependency] = random.odd_number();
+            load.hosts[host] = random.odd_number();
+        }
         _ => drop(load.starts.pop()),
     }
 }
@@ -192,7 +199,7 @@ fn damaged_cell(random: &mut Random, load: &Load, extra: usize) -> (usize, u32) 
     let node = random.index(at.n);
     let cell = match random.below(11) {
         0 if at.n > 0 => at.edge(node, random.index(at.n)),
-        1 => at.header(random.index(4)),
+        1 => at.header(random.index(6)),
         2..4 if at.n > 0 => at.node_lane(random.index(8), node),
         4 if at.n > 0 => at.node_lane(MoveLayout::COUNT, node),
         5 if at.n > 0 => at.node_lane(MoveLayout::MARK, node),

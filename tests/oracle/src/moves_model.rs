@@ -180,6 +180,11 @@ impl Graph {
     }
 }
 
+/// "The number of occupied sets": of sets that some atom has.
+fn occupied(place: &[Set]) -> u64 {
+    place.iter().collect::<BTreeSet<_>>().len() as u64
+}
+
 /// The ledger: each atom's set, and the registered sets in the order of registration.
 #[derive(Clone, Debug, PartialEq, Eq)]
 pub struct Ledger {
@@ -263,6 +268,10 @@ impl Ledger {
         Reply::value(multiplicities(load, &self.place).len() as u64)
     }
 
+    pub fn chunk_count(&self) -> Reply {
+        Reply::value(occupied(&self.place))
+    }
+
     pub fn edge_at(&self, load: &Load, k: u64) -> EdgeReply {
         let edges = multiplicities(load, &self.place);
         let edge = usize::try_from(k).ok().and_then(|k| edges.iter().nth(k));
@@ -309,6 +318,8 @@ impl MoveState {
         area[at.header(MoveLayout::REGISTERED)] = self.registered.len() as u32;
         area[at.header(MoveLayout::COUNTER)] = self.counter;
         area[at.header(MoveLayout::ACYCLIC)] = (!graph.cyclic()).into();
+        area[at.header(MoveLayout::OCCUPIED)] = occupied(&place) as u32;
+        area[at.header(MoveLayout::DISTINCT)] = graph.edges.len() as u32;
         for (node, set) in self.registered.iter().enumerate() {
             for (lane, half) in set.halves().into_iter().enumerate() {
                 area[at.node_lane(lane, node)] = half;

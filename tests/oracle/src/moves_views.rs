@@ -20,6 +20,7 @@ pub fn original_answer(view: &MoveView, call: &MoveCall) -> Option<Answer> {
             reply(view.edges.iter().find(|edge| (edge.0, edge.1) == ends).map_or(0, |edge| edge.2))
         }
         MoveCall::EdgeCount => reply(view.edges.len() as u32),
+        MoveCall::ChunkCount => reply(view.counts.values().filter(|&&count| count > 0).count() as u32),
         MoveCall::EdgeAt { k } => {
             let edge = usize::try_from(*k).ok().and_then(|k| view.edges.get(k));
             Answer::Edge(edge.map_or(EdgeReply::none(), |&(from, to, count)| EdgeReply::edge(from, to, count.into())))

@@ -40,6 +40,7 @@ fn move_call_numbers(call: &MoveCall) -> Vec<u64> {
         MoveCall::EdgeCount => vec![5],
         MoveCall::EdgeAt { k } => vec![6, *k],
         MoveCall::HasCycle => vec![7],
+        MoveCall::ChunkCount => vec![8],
         MoveCall::Counter { .. } => unreachable!("not recorded"),
     }
 }
@@ -183,7 +184,7 @@ pub fn record_merges(case: &MergeCase) -> Vec<u64> {
 
 fn asked(case: &mut MoveCase) {
     let mut calls: Vec<MoveCall> = (0..case.load.a.min(6) as u32).map(|atom| MoveCall::AtomSet { atom }).collect();
-    calls.push(MoveCall::EdgeCount);
+    calls.extend([MoveCall::EdgeCount, MoveCall::ChunkCount]);
     calls.extend((0..8.min(case.load.d + 1)).map(|k| MoveCall::EdgeAt { k }));
     calls.push(MoveCall::HasCycle);
     case.calls.extend(calls.into_iter().map(|call| (call, moves_cases::Damage::default())));

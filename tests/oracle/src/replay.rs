@@ -87,6 +87,7 @@ fn replay_moves(library: &dyn Library, reader: &mut Reader) -> Result<(), String
                 expect(place, library.multiplicity(&load, &area, &from, &to), reader.reply())?;
             }
             5 => expect(place, library.edge_count(&load, &area), reader.reply())?,
+            8 => expect(place, library.chunk_count(&load, &area), reader.reply())?,
             6 => {
                 let ours = library.edge_at(&load, &area, reader.one());
                 let (refusal, found) = (reader.one(), reader.one());

@@ -10,7 +10,7 @@ use crate::sets::{Set, lent_set, width};
 pub const HARMLESS: &str = "loading clears the flags of chunks not yet made";
 
 /// Bugs by name; the first two are none.
-pub const PLANTS: [&str; 63] = [
+pub const PLANTS: [&str; 66] = [
     "none",
     HARMLESS,
     "repeated dependency counted once",
@@ -54,6 +54,9 @@ pub const PLANTS: [&str; 63] = [
     "a fixed atom moves",
     "a mark kept as lent",
     "fixed flags not checked by 9",
+    "registered sets counted for chunks",
+    "an old total after a move",
+    "totals not checked by 9",
     "a question checks no area",
     "1,025 sets let through",
     "needs_creation cleared",
@@ -149,10 +152,14 @@ impl Library for StandIn {
         let reply = self.move_state(&seen, &mut state, atom, bits);
         if reply.refusal == 0 {
             let edges = area[..at.n * at.n].to_vec();
+            let total = area[at.header(MoveLayout::DISTINCT)];
             let component: Vec<u32> = (0..at.n).map(|node| area[at.node_lane(MoveLayout::COMPONENT, node)]).collect();
             state.encode(&seen, area);
             if self.planted("old edges after a move") {
                 area[..at.n * at.n].copy_from_slice(&edges);
+            }
+            if self.planted("an old total after a move") {
+                area[at.header(MoveLayout::DISTINCT)] = total;
             }
             if self.planted("component kept after acceptance") {
                 for (node, flag) in component.into_iter().enumerate() {
@@ -187,6 +194,14 @@ impl Library for StandIn {
 
     fn edge_count(&self, load: &Load, area: &[u32]) -> Reply {
         self.question(load, area, Reply::refused, |load, state| state.ledger().edge_count(load))
+    }
+
+    fn chunk_count(&self, load: &Load, area: &[u32]) -> Reply {
+        let planted = self.planted("registered sets counted for chunks");
+        let counted = |state: MoveState| {
+            if planted { Reply::value(state.registered.len() as u64) } else { state.ledger().chunk_count() }
+        };
+        self.question(load, area, Reply::refused, |_, state| counted(state))
     }
 
     fn edge_at(&self, load: &Load, area: &[u32], k: u64) -> EdgeReply {

@@ -79,6 +79,14 @@ impl StandIn {
                 *mark = (*mark).min(counter);
             }
         }
+        if self.planted("totals not checked by 9") {
+            if let Some(state) = placed(load, &area) {
+                let mut fresh = area.clone();
+                state.encode(load, &mut fresh);
+                let totals = at.header(MoveLayout::OCCUPIED)..=at.header(MoveLayout::DISTINCT);
+                area[totals.clone()].copy_from_slice(&fresh[totals]);
+            }
+        }
         if self.planted("fixed flags not checked by 9") {
             for (atom, &mark) in load.fixed.iter().enumerate() {
                 area[at.atom_lane(MoveLayout::FIXED, atom)] = (mark != 0).into();

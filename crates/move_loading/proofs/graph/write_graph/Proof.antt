@@ -26,8 +26,8 @@ slot-count-requires c κs = omega (arith, c .before .before .before .before .bef
 copy-requires : tie.Need-copy-requires
 copy-requires c κs = record { inside = omega (arith, c .before .before .before .before .before .before .before .before .before .before .before .before .before .before .before .before .before .before .before .before .before .pre .0 .loadable .sizes .area); there = omega (arith, c .before .before .before .before .before .before .before .before .before .before .before .before .before .before .before .before .before .before .before .before .before .pre .0 .counts-long, (c .before .before .before .before .before .before .before .before .before .fill-own-slots .kept .1 .1 .1 .1 .1 .1 .1 .1 .0)) }
 
-fill-requires : tie.Need-fill-requires
-fill-requires c κs = fill-can (c .before .before .before .before .before .before .before .before .before .before .before .before .before .before .before .before .before .before .before .before .before .before .before .before .before .before .before .pre .0) (c .before .before .before .before .before .before .before .before .before .before .before .before .before .before .before .before .before .before .before .before .before .before .before .before .before .before .before .pre .1) (c .before .before .before .before .before .before .before .before .before .before .before .before .before .before .before .fill-own-slots .ensures) (c .before .before .before .before .before .before .before .before .slot-count .ensures) (c .before .before .before .before .before .copy .kept .0) (c .before .before .before .before .before .before .before .before .before .before .before .before .before .before .before .fill-own-slots .kept .1 .1 .1 .1 .1 .1 .1 .1 .1 .0) (c .before .before .before .before .before .before .before .before .before .before .before .before .before .before .before .fill-own-slots .kept .1 .1 .1 .1 .1 .1 .1 .1 .1 .1 .0)
+write-edges-requires : tie.Need-write-edges-requires
+write-edges-requires c κs = fill-can (c .before .before .before .before .before .before .before .before .before .before .before .before .before .before .before .before .before .before .before .before .before .before .before .before .before .before .before .pre .0) (c .before .before .before .before .before .before .before .before .before .before .before .before .before .before .before .before .before .before .before .before .before .before .before .before .before .before .before .pre .1) (c .before .before .before .before .before .before .before .before .before .before .before .before .before .before .before .fill-own-slots .ensures) (c .before .before .before .before .before .before .before .before .slot-count .ensures) (c .before .before .before .before .before .copy .kept .0) (c .before .before .before .before .before .before .before .before .before .before .before .before .before .before .before .fill-own-slots .kept .1 .1 .1 .1 .1 .1 .1 .1 .1 .0) (c .before .before .before .before .before .before .before .before .before .before .before .before .before .before .before .fill-own-slots .kept .1 .1 .1 .1 .1 .1 .1 .1 .1 .1 .0)
 
 same-length : tie.Need-same-length
 same-length c = search needs
@@ -42,7 +42,7 @@ same-length-4 : tie.Need-same-length-4
 same-length-4 c = search needs
 
 returns : tie.Need-returns
-returns c = graph-written (c .before .before .before .before .before .before .before .before .before .before .before .before .before .before .before .before .before .before .before .before .before .before .before .before .before .before .before .before .before .before .pre .0) (c .before .before .before .before .before .before .before .before .before .before .before .before .before .before .before .before .before .before .before .before .before .before .before .before .before .before .before .before .before .before .pre .1) (c .before .before .before .before .before .before .before .before .before .before .before .before .before .before .before .before .before .before .fill-own-slots .ensures) (c .before .before .before .before .before .before .before .before .before .before .before .slot-count .ensures) (c .before .before .before .before .before .before .before .before .copy .ensures) (c .before .before .fill .ensures)
+returns c = graph-written (c .before .before .before .before .before .before .before .before .before .before .before .before .before .before .before .before .before .before .before .before .before .before .before .before .before .before .before .before .before .before .pre .0) (c .before .before .before .before .before .before .before .before .before .before .before .before .before .before .before .before .before .before .before .before .before .before .before .before .before .before .before .before .before .before .pre .1) (c .before .before .before .before .before .before .before .before .before .before .before .before .before .before .before .before .before .before .fill-own-slots .ensures) (c .before .before .before .before .before .before .before .before .before .before .before .slot-count .ensures) (c .before .before .before .before .before .before .before .before .copy .ensures) (c .before .before .write-edges .ensures)
 
 pub write-graph-spec : {M : Type 1} → statement M
 write-graph-spec =
@@ -55,7 +55,7 @@ write-graph-spec =
     fill-own-slots-requires
     slot-count-requires
     copy-requires
-    fill-requires
+    write-edges-requires
     same-length
     same-length-2
     same-length-3

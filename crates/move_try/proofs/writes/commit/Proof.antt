@@ -1,9 +1,12 @@
--- `commit` meets its contract. Assumes nothing.
+-- `move_try::writes::commit` meets its contract. Assumes nothing.
+use mathlib.Core.Path.{ap₂, _∙_}
 use native.Mathlib.Omega.{arith}
+use native.Mathlib.Nat.{mul-le-mul-right}
 use lib.ListN.{length-set}
 use Rattle.layout.specs.Patch.{part}
 use Rattle.move_edges.specs.Matrix.{matrix}
-use Rattle.move_try.specs.Commit.{commit-long, stored-long, commit-same, commit-done}
+use Rattle.move_try.specs.Areas.{committed}
+use Rattle.move_try.specs.Commit.{edges-can, commit-long, stored-long, commit-same, commit-done}
 use borrow.Author.Needs.{needs}
 use Rattle.move_try.proofs.writes.commit.Statement.{statement}
 use Rattle.move_try.proofs.writes.commit.Tie as tie
@@ -14,8 +17,26 @@ mul-square c = search needs
 add-lanes : tie.Need-add-lanes
 add-lanes c = search needs
 
+chunks-after-requires : tie.Need-chunks-after-requires
+chunks-after-requires c κs = search needs
+
+add-before : tie.Need-add-before
+add-before c = search needs
+
+mul-before : tie.Need-mul-before
+mul-before c = search needs
+
+slice-read-before : tie.Need-slice-read-before
+slice-read-before c = search needs
+
 follow-requires : tie.Need-follow-requires
 follow-requires c κs = search needs
+
+edges-after-requires : tie.Need-edges-after-requires
+edges-after-requires c κs = edges-can (c .before .before .before .before .before .before .before .before .before .before .before .before .before .pre .rows) (c .before .before .before .before .before .before .before .before .before .before .before .before .before .pre .edges) (c .before .before .follow .ensures .0)
+
+write-totals-requires : tie.Need-write-totals-requires
+write-totals-requires c κs = search needs
 
 mul-copy : tie.Need-mul-copy
 mul-copy c = search needs
@@ -51,22 +72,22 @@ mul-area-3 : tie.Need-mul-area-3
 mul-area-3 c = search needs
 
 slice-write-area-2 : tie.Need-slice-write-area-2
-slice-write-area-2 c = simp length-set (omega (arith, commit-long (c .before .before .before .before .before .before .before .before .before .before .before .before .before .before .args .n) (c .before .before .before .before .before .before .before .before .before .before .before .before .before .before .args .atom) (c .before .before .before .before .before .before .before .before .before .before .before .before .before .before .args .to) (matrix (c .before .before .before .before .before .before .before .before .before .before .before .before .before .before .args .u .now) (c .before .before .before .before .before .before .before .before .before .before .before .before .before .before .args .v .now) (c .before .before .before .before .before .before .before .before .before .before .before .before .before .before .args .n) (c .before .before .before .before .before .before .before .before .before .before .before .before .before .before .args .m)) (part 0 (c .before .before .before .before .before .before .before .before .before .before .before .before .before .before .args .n) (c .before .before .before .before .before .before .before .before .before .before .before .before .before .before .args .counts .now)) (c .before .before .before .before .before .before .before .before .before .before .before .before .before .before .args .area .now) (c .before .before .before .before .before .before .follow .ensures .1) (c .before .before .copy .ensures), c .before .before .before .before .before .before .before .before .before .before .before .before .before .before .pre .follow .room))
+slice-write-area-2 c = simp length-set (omega (arith, commit-long (c .before .before .before .before .before .before .before .before .before .before .before .before .before .before .before .before .before .before .before .before .before .before .args .n) (c .before .before .before .before .before .before .before .before .before .before .before .before .before .before .before .before .before .before .before .before .before .before .args .atom) (c .before .before .before .before .before .before .before .before .before .before .before .before .before .before .before .before .before .before .before .before .before .before .args .to) (c .before .before .before .before .before .before .before .before .before .before .before .before .before .before .chunks-after .result) (c .before .before .before .before .before .before .before .before .edges-after .result) (matrix (c .before .before .before .before .before .before .before .before .before .before .before .before .before .before .before .before .before .before .before .before .before .before .args .u .now) (c .before .before .before .before .before .before .before .before .before .before .before .before .before .before .before .before .before .before .before .before .before .before .args .v .now) (c .before .before .before .before .before .before .before .before .before .before .before .before .before .before .before .before .before .before .before .before .before .before .args .n) (c .before .before .before .before .before .before .before .before .before .before .before .before .before .before .before .before .before .before .before .before .before .before .args .m)) (part 0 (c .before .before .before .before .before .before .before .before .before .before .before .before .before .before .before .before .before .before .before .before .before .before .args .n) (c .before .before .before .before .before .before .before .before .before .before .before .before .before .before .before .before .before .before .before .before .before .before .args .counts .now)) (c .before .before .before .before .before .before .before .before .before .before .before .before .before .before .before .before .before .before .before .before .before .before .args .area .now) (c .before .before .before .before .before .before .before .before .before .before .before .follow .ensures .1) (c .before .before .before .before .before .before .write-totals .ensures) (c .before .before .copy .ensures), c .before .before .before .before .before .before .before .before .before .before .before .before .before .before .before .before .before .before .before .before .before .before .pre .follow .room))
 
 mul-fill-with : tie.Need-mul-fill-with
 mul-fill-with c = search needs
 
 add-fill-with : tie.Need-add-fill-with
-add-fill-with c = search needs
+add-fill-with c = omega (arith, c .before .before .before .before .before .before .before .before .before .before .before .before .before .before .before .before .before .before .before .before .before .before .before .pre .rows, mul-le-mul-right {m = c .before .before .before .before .before .before .before .before .before .before .before .before .before .before .before .before .before .before .before .before .before .before .before .args .n} {n = 1024} (c .before .before .before .before .before .before .before .before .before .before .before .before .before .before .before .before .before .before .before .before .before .before .before .args .n) (c .before .before .before .before .before .before .before .before .before .before .before .before .before .before .before .before .before .before .before .before .before .before .before .pre .rows))
 
 fill-with-requires : tie.Need-fill-with-requires
-fill-with-requires c κs = omega (arith, stored-long (c .before .before .before .before .before .before .before .before .before .before .before .before .before .before .before .args .n) (c .before .before .before .before .before .before .before .before .before .before .before .before .before .before .before .args .atom) (c .before .before .before .before .before .before .before .before .before .before .before .before .before .before .before .args .to) (matrix (c .before .before .before .before .before .before .before .before .before .before .before .before .before .before .before .args .u .now) (c .before .before .before .before .before .before .before .before .before .before .before .before .before .before .before .args .v .now) (c .before .before .before .before .before .before .before .before .before .before .before .before .before .before .before .args .n) (c .before .before .before .before .before .before .before .before .before .before .before .before .before .before .before .args .m)) (part 0 (c .before .before .before .before .before .before .before .before .before .before .before .before .before .before .before .args .n) (c .before .before .before .before .before .before .before .before .before .before .before .before .before .before .before .args .counts .now)) (c .before .before .before .before .before .before .before .before .before .before .before .before .before .before .before .args .area .now) (c .before .before .before .before .before .before .before .follow .ensures .1) (c .before .before .before .copy .ensures), c .before .before .before .before .before .before .before .before .before .before .before .before .before .before .before .pre .follow .room)
+fill-with-requires c κs = omega (arith, stored-long (c .before .before .before .before .before .before .before .before .before .before .before .before .before .before .before .before .before .before .before .before .before .before .before .args .n) (c .before .before .before .before .before .before .before .before .before .before .before .before .before .before .before .before .before .before .before .before .before .before .before .args .atom) (c .before .before .before .before .before .before .before .before .before .before .before .before .before .before .before .before .before .before .before .before .before .before .before .args .to) (c .before .before .before .before .before .before .before .before .before .before .before .before .before .before .before .chunks-after .result) (c .before .before .before .before .before .before .before .before .before .edges-after .result) (matrix (c .before .before .before .before .before .before .before .before .before .before .before .before .before .before .before .before .before .before .before .before .before .before .before .args .u .now) (c .before .before .before .before .before .before .before .before .before .before .before .before .before .before .before .before .before .before .before .before .before .before .before .args .v .now) (c .before .before .before .before .before .before .before .before .before .before .before .before .before .before .before .before .before .before .before .before .before .before .before .args .n) (c .before .before .before .before .before .before .before .before .before .before .before .before .before .before .before .before .before .before .before .before .before .before .before .args .m)) (part 0 (c .before .before .before .before .before .before .before .before .before .before .before .before .before .before .before .before .before .before .before .before .before .before .before .args .n) (c .before .before .before .before .before .before .before .before .before .before .before .before .before .before .before .before .before .before .before .before .before .before .before .args .counts .now)) (c .before .before .before .before .before .before .before .before .before .before .before .before .before .before .before .before .before .before .before .before .before .before .before .args .area .now) (c .before .before .before .before .before .before .before .before .before .before .before .before .follow .ensures .1) (c .before .before .before .before .before .before .before .write-totals .ensures) (c .before .before .before .copy .ensures), c .before .before .before .before .before .before .before .before .before .before .before .before .before .before .before .before .before .before .before .before .before .before .before .pre .follow .room)
 
 same-length : tie.Need-same-length
-same-length c = commit-same (c .before .before .before .before .before .before .before .before .before .before .before .before .before .before .before .before .before .before .args .n) (c .before .before .before .before .before .before .before .before .before .before .before .before .before .before .before .before .before .before .args .atom) (c .before .before .before .before .before .before .before .before .before .before .before .before .before .before .before .before .before .before .args .to) (matrix (c .before .before .before .before .before .before .before .before .before .before .before .before .before .before .before .before .before .before .args .u .now) (c .before .before .before .before .before .before .before .before .before .before .before .before .before .before .before .before .before .before .args .v .now) (c .before .before .before .before .before .before .before .before .before .before .before .before .before .before .before .before .before .before .args .n) (c .before .before .before .before .before .before .before .before .before .before .before .before .before .before .before .before .before .before .args .m)) (part 0 (c .before .before .before .before .before .before .before .before .before .before .before .before .before .before .before .before .before .before .args .n) (c .before .before .before .before .before .before .before .before .before .before .before .before .before .before .before .before .before .before .args .counts .now)) (c .before .before .before .before .before .before .before .before .before .before .before .before .before .before .before .before .before .before .args .area .now) (c .before .before .before .before .before .before .before .before .before .before .follow .ensures .1) (c .before .before .before .before .before .before .copy .ensures) (c .before .before .fill-with .ensures)
+same-length c = commit-same (c .before .before .before .before .before .before .before .before .before .before .before .before .before .before .before .before .before .before .before .before .before .before .before .before .before .before .args .n) (c .before .before .before .before .before .before .before .before .before .before .before .before .before .before .before .before .before .before .before .before .before .before .before .before .before .before .args .atom) (c .before .before .before .before .before .before .before .before .before .before .before .before .before .before .before .before .before .before .before .before .before .before .before .before .before .before .args .to) (c .before .before .before .before .before .before .before .before .before .before .before .before .before .before .before .before .before .before .chunks-after .result) (c .before .before .before .before .before .before .before .before .before .before .before .before .edges-after .result) (matrix (c .before .before .before .before .before .before .before .before .before .before .before .before .before .before .before .before .before .before .before .before .before .before .before .before .before .before .args .u .now) (c .before .before .before .before .before .before .before .before .before .before .before .before .before .before .before .before .before .before .before .before .before .before .before .before .before .before .args .v .now) (c .before .before .before .before .before .before .before .before .before .before .before .before .before .before .before .before .before .before .before .before .before .before .before .before .before .before .args .n) (c .before .before .before .before .before .before .before .before .before .before .before .before .before .before .before .before .before .before .before .before .before .before .before .before .before .before .args .m)) (part 0 (c .before .before .before .before .before .before .before .before .before .before .before .before .before .before .before .before .before .before .before .before .before .before .before .before .before .before .args .n) (c .before .before .before .before .before .before .before .before .before .before .before .before .before .before .before .before .before .before .before .before .before .before .before .before .before .before .args .counts .now)) (c .before .before .before .before .before .before .before .before .before .before .before .before .before .before .before .before .before .before .before .before .before .before .before .before .before .before .args .area .now) (c .before .before .before .before .before .before .before .before .before .before .before .before .before .before .before .follow .ensures .1) (c .before .before .before .before .before .before .before .before .before .before .write-totals .ensures) (c .before .before .before .before .before .before .copy .ensures) (c .before .before .fill-with .ensures)
 
 returns : tie.Need-returns
-returns c = (c .before .before .before .before .before .before .before .before .before .before .follow .ensures .0, commit-done (c .before .before .before .before .before .before .before .before .before .before .before .before .before .before .before .before .before .before .args .n) (c .before .before .before .before .before .before .before .before .before .before .before .before .before .before .before .before .before .before .args .atom) (c .before .before .before .before .before .before .before .before .before .before .before .before .before .before .before .before .before .before .args .to) (matrix (c .before .before .before .before .before .before .before .before .before .before .before .before .before .before .before .before .before .before .args .u .now) (c .before .before .before .before .before .before .before .before .before .before .before .before .before .before .before .before .before .before .args .v .now) (c .before .before .before .before .before .before .before .before .before .before .before .before .before .before .before .before .before .before .args .n) (c .before .before .before .before .before .before .before .before .before .before .before .before .before .before .before .before .before .before .args .m)) (part 0 (c .before .before .before .before .before .before .before .before .before .before .before .before .before .before .before .before .before .before .args .n) (c .before .before .before .before .before .before .before .before .before .before .before .before .before .before .before .before .before .before .args .counts .now)) (c .before .before .before .before .before .before .before .before .before .before .before .before .before .before .before .before .before .before .args .area .now) (c .before .before .before .before .before .before .before .before .before .before .follow .ensures .1) (c .before .before .before .before .before .before .copy .ensures) (c .before .before .fill-with .ensures))
+returns c = (c .before .before .before .before .before .before .before .before .before .before .before .before .before .before .before .follow .ensures .0, commit-done (c .before .before .before .before .before .before .before .before .before .before .before .before .before .before .before .before .before .before .before .before .before .before .before .before .before .before .args .n) (c .before .before .before .before .before .before .before .before .before .before .before .before .before .before .before .before .before .before .before .before .before .before .before .before .before .before .args .atom) (c .before .before .before .before .before .before .before .before .before .before .before .before .before .before .before .before .before .before .before .before .before .before .before .before .before .before .args .to) (c .before .before .before .before .before .before .before .before .before .before .before .before .before .before .before .before .before .before .chunks-after .result) (c .before .before .before .before .before .before .before .before .before .before .before .before .edges-after .result) (matrix (c .before .before .before .before .before .before .before .before .before .before .before .before .before .before .before .before .before .before .before .before .before .before .before .before .before .before .args .u .now) (c .before .before .before .before .before .before .before .before .before .before .before .before .before .before .before .before .before .before .before .before .before .before .before .before .before .before .args .v .now) (c .before .before .before .before .before .before .before .before .before .before .before .before .before .before .before .before .before .before .before .before .before .before .before .before .before .before .args .n) (c .before .before .before .before .before .before .before .before .before .before .before .before .before .before .before .before .before .before .before .before .before .before .before .before .before .before .args .m)) (part 0 (c .before .before .before .before .before .before .before .before .before .before .before .before .before .before .before .before .before .before .before .before .before .before .before .before .before .before .args .n) (c .before .before .before .before .before .before .before .before .before .before .before .before .before .before .before .before .before .before .before .before .before .before .before .before .before .before .args .counts .now)) (c .before .before .before .before .before .before .before .before .before .before .before .before .before .before .before .before .before .before .before .before .before .before .before .before .before .before .args .area .now) (c .before .before .before .before .before .before .before .before .before .before .before .before .before .before .before .follow .ensures .1) (c .before .before .before .before .before .before .before .before .before .before .write-totals .ensures) (c .before .before .before .before .before .before .copy .ensures) (c .before .before .fill-with .ensures) ∙ ap₂ (λ k f. committed (c .before .before .before .before .before .before .before .before .before .before .before .before .before .before .before .before .before .before .before .before .before .before .before .before .before .before .args .n) (matrix (c .before .before .before .before .before .before .before .before .before .before .before .before .before .before .before .before .before .before .before .before .before .before .before .before .before .before .args .u .now) (c .before .before .before .before .before .before .before .before .before .before .before .before .before .before .before .before .before .before .before .before .before .before .before .before .before .before .args .v .now) (c .before .before .before .before .before .before .before .before .before .before .before .before .before .before .before .before .before .before .before .before .before .before .before .before .before .before .args .n) (c .before .before .before .before .before .before .before .before .before .before .before .before .before .before .before .before .before .before .before .before .before .before .before .before .before .before .args .m)) (part 0 (c .before .before .before .before .before .before .before .before .before .before .before .before .before .before .before .before .before .before .before .before .before .before .before .before .before .before .args .n) (c .before .before .before .before .before .before .before .before .before .before .before .before .before .before .before .before .before .before .before .before .before .before .before .before .before .before .args .counts .now)) (c .before .before .before .before .before .before .before .before .before .before .before .before .before .before .before .before .before .before .before .before .before .before .before .before .before .before .args .atom) (c .before .before .before .before .before .before .before .before .before .before .before .before .before .before .before .before .before .before .before .before .before .before .before .before .before .before .args .to) k f (c .before .before .before .before .before .before .before .before .before .before .before .before .before .before .before .before .before .before .before .before .before .before .before .before .before .before .args .area .now)) (c .before .before .before .before .before .before .before .before .before .before .before .before .before .before .before .before .before .before .chunks-after .ensures) (c .before .before .before .before .before .before .before .before .before .before .before .before .edges-after .ensures))
 
 pub commit-spec : {M : Type 1} → statement M
 commit-spec =
@@ -74,7 +95,13 @@ commit-spec =
     (tie.spec
     mul-square
     add-lanes
+    chunks-after-requires
+    add-before
+    mul-before
+    slice-read-before
     follow-requires
+    edges-after-requires
+    write-totals-requires
     mul-copy
     add-copy
     copy-requires

@@ -1,9 +1,7 @@
 -- `moves_commands::edge_lines::put_all` meets its contract. Assumes nothing.
-use mathlib.Core.Path.{refl}
 use native.Mathlib.Omega.{arith}
 use Rattle.moves_commands.specs.Program.{areas}
-use Rattle.move_rows.specs.Listed.{can-sum}
-use Rattle.moves_commands.proofs.Lines.{list-one, head-there, count-told, all-few, lines-long, listing-steps}
+use Rattle.moves_commands.proofs.Lines.{list-one, head-there, totals-there, count-told, all-few, lines-long, listing-steps}
 use borrow.Author.Needs.{needs}
 use Rattle.moves_commands.proofs.edge_lines.put_all.Statement.{statement}
 use Rattle.moves_commands.proofs.edge_lines.put_all.Tie as tie
@@ -12,7 +10,7 @@ registered-requires : tie.Need-registered-requires
 registered-requires c κs = head-there (c .before .before .before .before .pre .0 .1)
 
 edge-count-requires : tie.Need-edge-count-requires
-edge-count-requires c κs = can-sum (c .before .before .before .before .before .pre .0 .1 .told) refl
+edge-count-requires c κs = totals-there (c .before .before .before .before .before .pre .0 .1)
 
 put-lines-requires : tie.Need-put-lines-requires
 put-lines-requires c κs = let l = c .before .before .before .before .before .before .before .pre .0 in

@@ -1,12 +1,12 @@
--- `move_questions::sum` meets its contract. Assumes nothing.
+-- `move_consistency::totals::sum` meets its contract. Assumes nothing.
 use borrow.Author.Needs.{needs}
 use native.Mathlib.Omega.{arith}
 use Prim.Native.Nat.{_-_, _*_, _≤_}
 use mathlib.Core.Path.{_≡_, sym, ap, _∙_}
 use Rattle.graphs.specs.Total.{total, total-none, total-more}
-use Rattle.move_questions.specs.Steps.{at}
-use Rattle.move_questions.proofs.sum.Statement.{statement}
-use Rattle.move_questions.proofs.sum.Tie as tie
+use Rattle.move_ledger.specs.Graph.{at}
+use Rattle.move_consistency.proofs.totals.sum.Statement.{statement}
+use Rattle.move_consistency.proofs.totals.sum.Tie as tie
 
 abbrev Inv-loop : tie.InvT-loop
 Inv-loop degrees n all₀ x₀ all x = (x ≤ n) × (all ≡ total (at degrees) x) × (all ≤ 4294967295 * x)
