@@ -20,3 +20,4 @@ pub mod Edges
 pub mod NodeListing
 pub mod Chunks
 pub mod Gained
+pub mod Reach
