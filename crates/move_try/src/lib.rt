@@ -10,6 +10,7 @@ pub enum Tried {
 }
 
 mod early;
+mod reach;
 mod settle;
 mod test;
 mod trial;
