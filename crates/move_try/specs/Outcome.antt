@@ -2,7 +2,7 @@
 use mathlib.Core.Path.{_≡_, refl, sym, ap, ap₂, _∙_}
 use mathlib.Core.Bool.{Bool, true, false, not, cond, _&&_}
 use mathlib.Core.List.{List}
-use Prim.Native.Nat.{ℕ, _^_, _≤_, _<_}
+use Prim.Native.Nat.{ℕ, _+_, _^_, _≤_, _<_}
 use native.Mathlib.Omega.{arith}
 use native.Mathlib.Decide.{decLt}
 use lib.Dec.{eqb, ltb, leb}
@@ -15,17 +15,19 @@ use Rattle.graphs.specs.Walk.{via, cyclic}
 use Rattle.graphs.specs.Walks.{sound, walk-to}
 use Rattle.graph_walks.specs.Marks.{marking, marked}
 use Rattle.entry_set.specs.Sets.{value, legal}
-use Rattle.move_ledger.specs.Graph.{Load, at, edge}
-use Rattle.move_ledger.specs.Answer.{accepted, rejected, is-refused, is-accepted}
-use Rattle.move_ledger.specs.Ledger.{Ledger, put, free-place, register, step1, step2, step3, stays, decide, move}
+use Rattle.move_ledger.specs.Graph.{Load, at, edge, gained}
+use Rattle.move_ledger.specs.Answer.{Report, accepted, rejected, is-refused, is-accepted}
+use Rattle.move_ledger.specs.Ledger.{Ledger, put, free-place, register, step1, step2, step3, stays, report, decide, move}
 use Rattle.move_ledger.specs.Evict.{place-free, register-old, register-new}
 use Rattle.move_ledger.specs.Evict as evict
 use Rattle.move_ledger.specs.MoveLaws.{Passed, decide-late, decide-unrefused, tried-after}
 use Rattle.move_ledger.specs.LoadLaws.{InOrder}
-use Rattle.move_ledger.specs.Nodes.{placed, Placing, node-edge}
+use Rattle.move_ledger.specs.Gained.{gained-cells}
+use Rattle.move_ledger.specs.Nodes.{placed, Placing, sources, targets, node-edge}
 use Rattle.move_ledger.specs.NodeWalks.{cyclic-nodes, edge-inside}
 use Rattle.move_ledger.specs.NodePlaces.{placing-apart, free-node, Kept, register-kept}
 use Rattle.move_ledger.specs.NodeMoves.{placing-set, placed-moved, moved-cyclic, moved-reaches}
+use Rattle.move_edges.specs.Steps.{fresh}
 use Rattle.move_area.specs.Area.{State}
 use Rattle.move_area.specs.Calls.{last, next, marks-for, walked, after}
 use Rattle.move_area.specs.NodeBodies.{Nodes, stateOf}
@@ -76,6 +78,15 @@ walk-marks load N s a y = marked (node-edge load (set (s .nodes) a y) (s .sets))
 abbrev pub with-test : Load → ℕ → Nodes → ℕ → ℕ → Bool → Nodes
 with-test load N s a y cyc =
     record { sets = s .sets; nodes = s .nodes; counter = cond cyc (s .counter) (next (s .counter)); marks = cond cyc (s .marks) (walk-marks load N s a y) }
+
+-- how many edges come and go where atom a goes to node y, by the slots
+abbrev pub slotReport : Load → ℕ → List ℕ → List ℕ → ℕ → ℕ → Report
+slotReport load N nodes sets a y =
+    let s = sources load nodes sets in
+    let t = targets load nodes sets in
+    let u = sources load (set nodes a y) sets in
+    let v = targets load (set nodes a y) sets in
+    record { appeared = fresh N s t u v (load .D + load .E); vanished = fresh N u v s t (load .D + load .E) }
 
 -- atom a goes to the set T, which has the node y once it is registered
 pub record Trial (load : Load) (N : ℕ) (s : Nodes) (a T y : ℕ) : Type 0 where
@@ -136,17 +147,35 @@ module _ {load : Load} {N : ℕ} {s : Nodes} {a T y : ℕ} (v : Trial load N s a
   test-cyclic : cyclic (edge load (set place a T)) (set place a T) ≡ cyclic E (below N)
   test-cyclic = moved-cyclic (v .order) (kept .placing) (kept .placed) a T y (v .node) (v .set) N wide
 
+  moved : placed (set (s .nodes) a y) sets′ ≡ set place a T
+  moved = placed-moved (v .order) (kept .placing) (kept .placed) a T y (v .node) (v .set) N wide
+
+  -- the numbers by slots are those by sets
+  told : slotReport load N (s .nodes) sets′ a y ≡ report load place (set place a T)
+  told = ap₂ (λ i j. record { appeared = i; vanished = j })
+      (sym (gained-cells (v .order) (kept .placing) there N wide some) ∙ ap₂ (gained load) (kept .placed) moved)
+      (sym (gained-cells (v .order) there (kept .placing) N wide some) ∙ ap₂ (gained load) moved (kept .placed))
+    where
+      there : Placing load (set (s .nodes) a y) sets′
+      there = placing-set (kept .placing) a y (v .node)
+
+      some : 0 < N
+      some = omega (arith, v .more)
+
+  abbrev R : Report
+  R = slotReport load N (s .nodes) sets′ a y
+
   module _ (fixed w : List ℕ) (is : value w ≡ T) (r24 : stays fixed a ≡ false) (r11 : legal (load .E) w ≡ true) (r12 : eqb T (at place a) ≡ false) (s1 : step1 load place a ≡ false) where
     passed : Passed (leb (load .A) a) (stays fixed a) (not (legal (load .E) w)) (eqb (value w) (at place a))
     passed = record { at10 = lt-leb (load .A) a (v .atom); at24 = r24; at11 = ap not r11; at12 = rw is r12 }
 
-    decided : decide load fixed place a w ≡ cond (cyclic E (below N)) rejected accepted
-    decided = decide-late load fixed place a w passed ∙ rw (s1, is, test-cyclic) refl
+    decided : decide load fixed place a w ≡ cond (cyclic E (below N)) rejected (accepted R)
+    decided = decide-late load fixed place a w passed ∙ rw (s1, is, test-cyclic) (ap (λ r. cond (cyclic E (below N)) rejected (accepted r)) (sym told))
 
     unrefused : is-refused (decide load fixed place a w) ≡ false
     unrefused = decide-unrefused load fixed place a w passed
 
-    late : move load fixed N (ledgerOf s) a w .after ≡ cond (is-accepted (cond (cyclic E (below N)) rejected accepted)) (step3 load N (ledgerOf s) a T) (step2 load N (ledgerOf s) T)
+    late : move load fixed N (ledgerOf s) a w .after ≡ cond (is-accepted (cond (cyclic E (below N)) rejected (accepted R))) (step3 load N (ledgerOf s) a T) (step2 load N (ledgerOf s) T)
     late =
         tried-after load fixed N (ledgerOf s) a w unrefused s1
         ∙ ap₂ (λ x X. cond (is-accepted x) (step3 load N (ledgerOf s) a X) (step2 load N (ledgerOf s) X)) decided is
@@ -168,12 +197,9 @@ module _ {load : Load} {N : ℕ} {s : Nodes} {a T y : ℕ} (v : Trial load N s a
 
     -- accepted: and the atom moved
     pub trial-accepted : cyclic E (below N) ≡ false
-        → (move load fixed N (ledgerOf s) a w .answer ≡ accepted) × (after load fixed N (stateOf s) a w ≡ stateOf (with-node (with-test load N (with-target load N s T) a y (cyclic (node-edge load (s .nodes) (s .sets)) (below N))) a y))
+        → (move load fixed N (ledgerOf s) a w .answer ≡ accepted R) × (after load fixed N (stateOf s) a w ≡ stateOf (with-node (with-test load N (with-target load N s T) a y (cyclic (node-edge load (s .nodes) (s .sets)) (below N))) a y))
     unfolding move
     trial-accepted q = (decided ∙ rw q refl, by-sets ∙ rw (late, q, moved) refl)
-      where
-        moved : placed (set (s .nodes) a y) sets′ ≡ set place a T
-        moved = placed-moved (v .order) (kept .placing) (kept .placed) a T y (v .node) (v .set) N wide
 
 -- a move that step 1 rejects writes nothing
 module _ (load : Load) (fixed : List ℕ) (N : ℕ) (st : State) (a : ℕ) (w : List ℕ) (r10 : a < load .A) (r24 : stays fixed a ≡ false) (r11 : legal (load .E) w ≡ true) (r12 : eqb (value w) (at (st .ledger .place) a) ≡ false) where

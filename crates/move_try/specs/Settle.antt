@@ -1,22 +1,24 @@
 -- Step 3 with the target registered: what is asked, and that the area holds the next state. Assumes nothing.
-use mathlib.Core.Path.{_≡_, refl, sym, ap, subst, _∙_}
-use mathlib.Core.Bool.{Bool, true, false, not, cond}
+use mathlib.Core.Path.{_≡_, refl, sym, ap, ap₂, subst, _∙_}
+use mathlib.Core.Bool.{Bool, true, false, not, cond, _&&_}
 use mathlib.Core.List.{List}
 use Prim.Native.Nat.{ℕ, _+_, _*_, _≤_, _<_}
 use native.Mathlib.Omega.{arith}
 use native.Mathlib.Nat.{zero-add}
-use lib.Dec.{eqb}
+use lib.Dec.{eqb, ltb}
 use lib.ListN.{length, getD, set}
 use Rattle.graph_slots.specs.Asked.{ListRoom}
-use Rattle.graphs.specs.Count.{ind}
-use Rattle.graphs.specs.Lists.{below, has-at}
+use Rattle.graphs.specs.Count.{ind, count-ext}
+use Rattle.graphs.specs.Lists.{below}
 use Rattle.graphs.specs.Tab.{tab, tab-at, is-tab, tab-alike}
 use Rattle.graphs.specs.Walk.{via, cyclic}
 use Rattle.graphs.specs.Slots.{slotEdge, Ends}
 use Rattle.graph_walks.specs.Marks.{marking}
 use Rattle.layout.specs.Patch.{part, part-long, part-at}
 use Rattle.move_edges.specs.Matrix.{matrix}
+use Rattle.move_edges.specs.Steps.{fresh, Changed}
 use Rattle.move_ledger.specs.Graph.{Load, at, members}
+use Rattle.move_ledger.specs.Answer.{Answer, accepted, rejected, is-accepted}
 use Rattle.move_ledger.specs.LoadLaws.{Loadable}
 use Rattle.move_ledger.specs.Nodes.{Placing, sources, targets, node-edge}
 use Rattle.move_ledger.specs.NodeMoves.{placing-set, moved-cyclic, moved-decides}
@@ -28,13 +30,20 @@ use Rattle.move_area.specs.Checked.{nodesIn, nodesState}
 use Rattle.move_area.specs.NodeBodies.{Nodes}
 use Rattle.move_area.specs.Calls.{next}
 use Rattle.move_slots.specs.Filled.{CanFillOwn, Filled}
+use Rattle.move_try.specs.declared.Tried.{Tried}
+use Rattle.move_try.specs.declared.Tried.the-variants.{Accepted, Rejected}
 use Rattle.move_try.specs.Stands.{Stands, stands-long, registered-at, counter-at, acyclic-at, edge-at, sets-in, mark-at, node-at, marks-part, nodes-part}
 use Rattle.move_try.specs.Areas.{counterIn, raised, committed}
 use Rattle.move_try.specs.Changes.{with-marks, with-node, with-raised, stands-marks, stands-raised, raised-fresh, stands-committed}
-use Rattle.move_try.specs.Outcome.{with-test, walk-marks}
+use Rattle.move_try.specs.Outcome.{slotReport, with-test, walk-marks}
 use Rattle.move_try.specs.Test.{CanTest, walk-area, closes, tested, marked-long}
 use Rattle.move_try.specs.Commit.{CanCommit}
 use Rattle.move_try.specs.Trial.{CanTrial}
+
+-- the ledger's answer
+abbrev pub answerOf : Tried → Answer
+answerOf (Accepted m) = accepted (record { appeared = m .appeared; vanished = m .vanished })
+answerOf Rejected = rejected
 
 -- the flag tells whether the graph has a cycle
 pub flag-tells : (t : Bool) → eqb (ind (not t)) 0 ≡ t
@@ -111,16 +120,21 @@ presentEdge load n area = node-edge load (nodesIn load n area) (setsIn n area)
 abbrev pub testedState : Load → ℕ → List ℕ → ℕ → ℕ → Nodes
 testedState load n area atom to = with-test load n (nodesState load n area) atom to (cyclic (presentEdge load n area) (below n))
 
--- the answer is yes where the moved graph has no cycle, and then the atom is moved
-pub record Settled (load : Load) (n : ℕ) (area : List ℕ) (atom to : ℕ) (r : Bool) (l : List ℕ) : Type 0 where
-  pub says : cyclic (movedEdge load n area atom to) (below n) ≡ not r
-  pub stands : Stands load n (cond r (with-node (testedState load n area atom to) atom to) (testedState load n area atom to)) area l
+-- accepted where the moved graph has no cycle, with the edges that come and go, and then the atom is moved
+pub record Settled (load : Load) (n : ℕ) (area : List ℕ) (atom to : ℕ) (x : Answer) (l : List ℕ) : Type 0 where
+  pub says : x ≡ cond (cyclic (movedEdge load n area atom to) (below n)) rejected (accepted (slotReport load n (nodesIn load n area) (setsIn n area) atom to))
+  pub stands : Stands load n (cond (is-accepted x) (with-node (testedState load n area atom to) atom to) (testedState load n area atom to)) area l
 
 -- slots that are the ledger's have its matrix
 slotted-matrix : {load : Load} {nodes sets s t : List ℕ} → Slotted load nodes sets s t → (n : ℕ)
     → matrix s t n (load .D + load .E) ≡ matrix (sources load nodes sets) (targets load nodes sets) n (load .D + load .E)
 unfolding matrix
 slotted-matrix v n = tab-alike _ _ (n * n) (λ i h. slotted-flat v n i)
+
+-- and the same edges that another placement's slots haven't
+slotted-fresh : {load : Load} {nodes nodes′ sets s t u v : List ℕ} → Slotted load nodes sets s t → Slotted load nodes′ sets u v → (n : ℕ)
+    → fresh n s t u v (load .D + load .E) ≡ fresh n (sources load nodes sets) (targets load nodes sets) (sources load nodes′ sets) (targets load nodes′ sets) (load .D + load .E)
+slotted-fresh o f n = count-ext _ _ (n * n) (λ i h. ap₂ (λ j k. eqb j 0 && ltb 0 k) (slotted-flat o n i) (slotted-flat f n i))
 
 module _ {load : Load} {n : ℕ} {area : List ℕ} {atom to : ℕ} (can : CanSettle load n area atom to) where
   some : 0 < n
@@ -180,8 +194,8 @@ module _ {load : Load} {n : ℕ} {area : List ℕ} {atom to : ℕ} (can : CanSet
       after : Stands load n (testedState load n area atom to) area l
       after = rw (q .1) (stands-tested (can .stands) atom to edges)
 
-      pub settle-rejected : r ≡ true → Settled load n area atom to false l
-      settle-rejected h = record { says = sym answer ∙ h; stands = after }
+      pub settle-rejected : r ≡ true → Settled load n area atom to rejected l
+      settle-rejected h = record { says = rw (sym answer ∙ h) refl; stands = after }
 
       -- the present placement's slots may be filled: the test left nodes and sets as they were
       pub settle-fill : {counts′ u v : List ℕ} → n ≤ length counts′ → load .D + load .E ≤ length u → load .D + load .E ≤ length v → CanFillOwn load n l counts′ u v
@@ -225,12 +239,15 @@ module _ {load : Load} {n : ℕ} {area : List ℕ} {atom to : ℕ} (can : CanSet
               tallies = k;
             }
 
-      pub settle-accepted : r ≡ false → {l′ : List ℕ} → l′ ≡ committed n (matrix s t n (load .D + load .E)) (part 0 n counts) atom to l → Settled load n area atom to true l′
-      settle-accepted h e =
-          record {
-            says = sym answer ∙ h;
-            stands = rw (e, slotted-matrix (f .slots) n, tallies) (stands-committed after atom to (can .there) (can .node) (sym answer ∙ h));
-          }
-        where
-          tallies : part 0 n counts ≡ tab (members load (set (nodesIn load n area) atom to)) n
-          tallies = is-tab (part 0 n counts) n _ (part-long 0 n counts) (λ x z. part-at 0 n counts x z ∙ ap (λ i. getD counts i 0) (zero-add x) ∙ f .count-at x z)
+        pub settle-accepted : r ≡ false → {come gone : ℕ} → Changed n u v s t (load .D + load .E) come gone
+            → {l′ : List ℕ} → l′ ≡ committed n (matrix s t n (load .D + load .E)) (part 0 n counts) atom to l → Settled load n area atom to (accepted (record { appeared = come; vanished = gone })) l′
+        settle-accepted h c e =
+            record {
+              says =
+                  rw (sym answer ∙ h)
+                  (ap₂ (λ i j. accepted (record { appeared = i; vanished = j })) (c .appeared ∙ slotted-fresh old (f .slots) n) (c .vanished ∙ slotted-fresh (f .slots) old n));
+              stands = rw (e, slotted-matrix (f .slots) n, tallies) (stands-committed after atom to (can .there) (can .node) (sym answer ∙ h));
+            }
+          where
+            tallies : part 0 n counts ≡ tab (members load (set (nodesIn load n area) atom to)) n
+            tallies = is-tab (part 0 n counts) n _ (part-long 0 n counts) (λ x z. part-at 0 n counts x z ∙ ap (λ i. getD counts i 0) (zero-add x) ∙ f .count-at x z)

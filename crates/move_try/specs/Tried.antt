@@ -13,7 +13,7 @@ use Rattle.graphs.specs.Walk.{cyclic}
 use Rattle.entry_set.specs.Sets.{value, legal}
 use Rattle.entry_set.specs.SetLaws.{below-256}
 use Rattle.move_ledger.specs.Graph.{Load, at}
-use Rattle.move_ledger.specs.Answer.{Answer, accepted, rejected}
+use Rattle.move_ledger.specs.Answer.{Report, Answer, accepted, rejected, is-accepted}
 use Rattle.move_ledger.specs.Ledger.{put, step1, stays, move}
 use Rattle.move_ledger.specs.Places.{put-inside, put-behind}
 use Rattle.move_ledger.specs.Evict.{Free, place-free}
@@ -29,20 +29,13 @@ use Rattle.move_area.specs.Held.{consistent-whole}
 use Rattle.move_area.specs.Checked.{nodesIn, nodesState}
 use Rattle.move_area.specs.NodeBodies.{Nodes, nodeBodies}
 use Rattle.move_area.specs.Calls.{after}
-use Rattle.move_try.specs.declared.Tried.{Tried}
-use Rattle.move_try.specs.declared.Tried.the-variants.{Accepted, Rejected}
 use Rattle.move_try.specs.Stands.{Stands, stands-sized, stands-long, registered-at, counter-at, sets-in, node-at, marks-part, nodes-part, stands-encode, consistent-stands}
 use Rattle.move_try.specs.Areas.{registered, sets-with, CanRegister}
 use Rattle.move_try.specs.Changes.{with-node}
 use Rattle.move_try.specs.Grown.{write-over}
-use Rattle.move_try.specs.Outcome.{Trial, next-place, with-target-sets, with-target, target-area, with-test, stands-target, trial-rejected, trial-accepted, early-rejected}
+use Rattle.move_try.specs.Outcome.{slotReport, Trial, next-place, with-target-sets, with-target, target-area, with-test, stands-target, trial-rejected, trial-accepted, early-rejected}
 use Rattle.move_try.specs.Early.{CanPlace, Place, outside-step1, target-new, place-is, target-node, place-below}
 use Rattle.move_try.specs.Settle.{CanSettle, Settled}
-
--- the ledger's answer
-abbrev pub answerOf : Tried → Answer
-answerOf Accepted = accepted
-answerOf Rejected = rejected
 
 -- the rows 1 to 6 and 9 to 12 don't fit
 pub record CanTry (load : Load) (n : ℕ) (area : List ℕ) (atom T : ℕ) : Type 0 where
@@ -117,7 +110,7 @@ module _ {load : Load} {n : ℕ} {area : List ℕ} {atom T : ℕ} (can : CanTry 
   pub try-outside : (x : ℕ) → x ≡ getD area (atomAt n + atom) 0 → {r : Bool} → r ≡ eqb (getD area (n * n + 2) 0) 0 && eqb (getD area (laneAt n 10 + x) 0) 0 → r ≡ step1 load (placed (nodesIn load n area) (setsIn n area)) atom
   try-outside x e q = q ∙ outside-step1 try-stands atom x (can .there) e
 
-  pub try-rejected : {r : Bool} → r ≡ step1 load (placed (nodesIn load n area) (setsIn n area)) atom → r ≡ true → Answers load n area atom T (answerOf Rejected) area
+  pub try-rejected : {r : Bool} → r ≡ step1 load (placed (nodesIn load n area) (setsIn n area)) atom → r ≡ true → Answers load n area atom T rejected area
   unfolding decode
   try-rejected s1 q = record {
     of = λ fixed w free e legal.
@@ -225,30 +218,34 @@ module _ {load : Load} {n : ℕ} {area : List ℕ} {atom T : ℕ} (can : CanTry 
         tested z = with-test load n z atom y (cyclic (node-edge load (z .nodes) (z .sets)) (below n))
 
         module _ {l₂ : List ℕ} where
-          pub try-accepted : Settled load n l₁ atom y true l₂ → Answers load n area atom T (answerOf Accepted) l₂
+          pub try-settled : {x : Answer} → Settled load n l₁ atom y x l₂ → Answers load n area atom T x l₂
           unfolding decode
-          try-accepted z = record {
-            of = λ fixed w free e legal.
-                let x = trial-accepted trial fixed w e free legal (can .other) (sym s1 ∙ left) says in
-                (sym (x .0), stands-encode held ∙ ap (λ u. encode load n u area) (rw present (sym (x .1))));
-          }
+          try-settled {x} z = go (cyclic M (below n)) refl says
             where
-              says : cyclic (node-edge load (set (nodesIn load n area) atom y) (with-target-sets load n st T)) (below n) ≡ false
-              says = subst (λ z. cyclic (node-edge load (set (z .nodes) atom y) (z .sets)) (below n) ≡ false) named (z .says)
+              M : ℕ → ℕ → Bool
+              M = node-edge load (set (nodesIn load n area) atom y) (with-target-sets load n st T)
 
-              held : Stands load n (with-node (tested (with-target load n st T)) atom y) area l₂
-              held = stands-over target (subst (λ z. Stands load n (with-node (tested z) atom y) l₁ l₂) named (z .stands)) (omega arith)
+              R : Report
+              R = slotReport load n (nodesIn load n area) (with-target-sets load n st T) atom y
 
-          pub try-stays : Settled load n l₁ atom y false l₂ → Answers load n area atom T (answerOf Rejected) l₂
-          unfolding decode
-          try-stays z = record {
-            of = λ fixed w free e legal.
-                let x = trial-rejected trial fixed w e free legal (can .other) (sym s1 ∙ left) says in
-                (sym (x .0), stands-encode held ∙ ap (λ u. encode load n u area) (rw present (sym (x .1))));
-          }
-            where
-              says : cyclic (node-edge load (set (nodesIn load n area) atom y) (with-target-sets load n st T)) (below n) ≡ true
-              says = subst (λ z. cyclic (node-edge load (set (z .nodes) atom y) (z .sets)) (below n) ≡ true) named (z .says)
+              says : x ≡ cond (cyclic M (below n)) rejected (accepted R)
+              says = subst (λ z. x ≡ cond (cyclic (node-edge load (set (z .nodes) atom y) (z .sets)) (below n)) rejected (accepted (slotReport load n (z .nodes) (z .sets) atom y))) named (z .says)
 
-              held : Stands load n (tested (with-target load n st T)) area l₂
-              held = stands-over target (subst (λ z. Stands load n (tested z) l₁ l₂) named (z .stands)) (omega arith)
+              held : Stands load n (cond (is-accepted x) (with-node (tested (with-target load n st T)) atom y) (tested (with-target load n st T))) area l₂
+              held = stands-over target (subst (λ z. Stands load n (cond (is-accepted x) (with-node (tested z) atom y) (tested z)) l₁ l₂) named (z .stands)) (go′ (is-accepted x))
+                where
+                  go′ : (t : Bool) → length (with-target load n st T .sets) ≤ length (cond t (with-node (tested (with-target load n st T)) atom y) (tested (with-target load n st T)) .sets)
+                  go′ true = omega arith
+                  go′ false = omega arith
+
+              go : (t : Bool) → cyclic M (below n) ≡ t → x ≡ cond t rejected (accepted R) → Answers load n area atom T x l₂
+              go true q e = record {
+                of = λ fixed w free v legal.
+                    let k = trial-rejected trial fixed w v free legal (can .other) (sym s1 ∙ left) q in
+                    (e ∙ sym (k .0), stands-encode (rw e at held) ∙ ap (λ u. encode load n u area) (rw present (sym (k .1))));
+              }
+              go false q e = record {
+                of = λ fixed w free v legal.
+                    let k = trial-accepted trial fixed w v free legal (can .other) (sym s1 ∙ left) q in
+                    (e ∙ sym (k .0), stands-encode (rw e at held) ∙ ap (λ u. encode load n u area) (rw present (sym (k .1))));
+              }

@@ -1,11 +1,18 @@
 // A move on a consistent area, after the checks up to row 12: steps 1 to 3.
 ghost use Rattle.move_ledger.specs.Graph.{lent};
 ghost use Rattle.entry_set.specs.Sets.{number};
-ghost use Rattle.move_try.specs.Tried.{answerOf, CanTry, Answers};
+ghost use Rattle.move_try.specs.Settle.{answerOf};
+ghost use Rattle.move_try.specs.Tried.{CanTry, Answers};
+
+// What an accepted move reports: how many distinct edges the graph has afterwards that it hadn't before, and the other way round.
+pub struct Moved {
+    pub appeared: u32,
+    pub vanished: u32,
+}
 
 // What a move on a checked area comes to.
 pub enum Tried {
-    Accepted,
+    Accepted(Moved),
     Rejected,
 }
 
@@ -41,8 +48,5 @@ pub fn try_checked(
     let node = early::find(area, n, registered, target);
     let to = early::place(area, n, node);
     writes::register(area, n, registered, node, to, target);
-    if settle::settle(a, d, e, n, starts, dependencies, hosts, area, atom, to) {
-        return Tried::Accepted;
-    }
-    Tried::Rejected
+    settle::settle(a, d, e, n, starts, dependencies, hosts, area, atom, to)
 }

@@ -1,12 +1,14 @@
 // Step 3: the atom is moved on trial, and for good where the graph then has no cycle.
 ghost use Prim.Native.Nat.{_≤_};
 ghost use Rattle.move_ledger.specs.Graph.{lent};
-ghost use Rattle.move_try.specs.Settle.{CanSettle, SettleRoom, Settled};
+ghost use Rattle.move_try.specs.Settle.{answerOf, CanSettle, SettleRoom, Settled};
+use super::Moved;
+use super::Tried;
 use super::test;
 use super::trial;
 use super::writes;
 
-// Moves the atom to node `to` where the graph then has no cycle, and answers whether it did. The moved placement's slots stand in `sources` and
+// Moves the atom to node `to` where the graph then has no cycle, and answers whether it did and how many edges came and went. The moved placement's slots stand in `sources` and
 // `targets`, grouped in `heads` and `list`; then the present one's in `list` and `spare`, and `heads` has its atom counts.
 fn settle_in(
     a: usize,
@@ -25,9 +27,9 @@ fn settle_in(
     heads: &mut [u32],
     list: &mut [u32],
     spare: &mut [u32],
-) -> bool
+) -> Tried
     requires { ⌜ CanSettle (lent a d e (now starts) (now dependencies) (now hosts)) n (now area) atom to × SettleRoom (lent a d e (now starts) (now dependencies) (now hosts)) n (now counts) (now sources) (now targets) (now heads) (now list) (now spare) ⌝ }
-    ensures { λ r. ⌜ Settled (lent a d e (now (starts .entry)) (now (dependencies .entry)) (now (hosts .entry))) n (now (area .entry)) atom to r (now (area .exit)) ⌝ }
+    ensures { λ r. ⌜ Settled (lent a d e (now (starts .entry)) (now (dependencies .entry)) (now (hosts .entry))) n (now (area .entry)) atom to (answerOf r) (now (area .exit)) ⌝ }
 {
     trial::trial(
         a,
@@ -46,7 +48,7 @@ fn settle_in(
     );
     let m = d + e;
     if test::closes_cycle(area, n, to, sources, targets, m, heads, list) {
-        return false;
+        return Tried::Rejected;
     }
     move_slots::fill_own_slots(
         a,
@@ -61,8 +63,11 @@ fn settle_in(
         list,
         spare,
     );
-    writes::commit(area, n, atom, to, list, spare, sources, targets, m, counts);
-    true
+    let changes = writes::commit(area, n, atom, to, list, spare, sources, targets, m, counts);
+    Tried::Accepted(Moved {
+        appeared: changes.appeared,
+        vanished: changes.vanished,
+    })
 }
 
 // Room for a load of any size within the limits.
@@ -77,9 +82,9 @@ fn settle_large(
     area: &mut [u32],
     atom: usize,
     to: usize,
-) -> bool
+) -> Tried
     requires { ⌜ CanSettle (lent a d e (now starts) (now dependencies) (now hosts)) n (now area) atom to ⌝ }
-    ensures { λ r. ⌜ Settled (lent a d e (now (starts .entry)) (now (dependencies .entry)) (now (hosts .entry))) n (now (area .entry)) atom to r (now (area .exit)) ⌝ }
+    ensures { λ r. ⌜ Settled (lent a d e (now (starts .entry)) (now (dependencies .entry)) (now (hosts .entry))) n (now (area .entry)) atom to (answerOf r) (now (area .exit)) ⌝ }
 {
     let mut counts = [0u32; 1024];
     let mut sources = [0u32; 8448];
@@ -119,9 +124,9 @@ fn settle_small(
     area: &mut [u32],
     atom: usize,
     to: usize,
-) -> bool
+) -> Tried
     requires { ⌜ CanSettle (lent a d e (now starts) (now dependencies) (now hosts)) n (now area) atom to × (n ≤ 128) × (d ≤ 768) ⌝ }
-    ensures { λ r. ⌜ Settled (lent a d e (now (starts .entry)) (now (dependencies .entry)) (now (hosts .entry))) n (now (area .entry)) atom to r (now (area .exit)) ⌝ }
+    ensures { λ r. ⌜ Settled (lent a d e (now (starts .entry)) (now (dependencies .entry)) (now (hosts .entry))) n (now (area .entry)) atom to (answerOf r) (now (area .exit)) ⌝ }
 {
     let mut counts = [0u32; 128];
     let mut sources = [0u32; 1024];
@@ -161,9 +166,9 @@ pub fn settle(
     area: &mut [u32],
     atom: usize,
     to: usize,
-) -> bool
+) -> Tried
     requires { ⌜ CanSettle (lent a d e (now starts) (now dependencies) (now hosts)) n (now area) atom to ⌝ }
-    ensures { λ r. ⌜ Settled (lent a d e (now (starts .entry)) (now (dependencies .entry)) (now (hosts .entry))) n (now (area .entry)) atom to r (now (area .exit)) ⌝ }
+    ensures { λ r. ⌜ Settled (lent a d e (now (starts .entry)) (now (dependencies .entry)) (now (hosts .entry))) n (now (area .entry)) atom to (answerOf r) (now (area .exit)) ⌝ }
 {
     if move_slots::is_small(n, d) {
         return settle_small(a, d, e, n, starts, dependencies, hosts, area, atom, to);

@@ -8,6 +8,7 @@ ghost use Rattle.entry_set.specs.Sets.{number};
 ghost use Rattle.move_area.specs.Calls.{next};
 ghost use Rattle.layout.specs.Patch.{patch, part};
 ghost use Rattle.move_edges.specs.Matrix.{matrix};
+ghost use Rattle.move_edges.specs.Steps.{Changed};
 ghost use Rattle.move_try.specs.Areas.{registered, sets-with, counterIn, raised, committed, CanRegister};
 ghost use Rattle.move_try.specs.Commit.{CanFollow, CanCommit};
 
@@ -64,16 +65,25 @@ pub fn raise(area: &mut [u32], n: usize) -> u32
     counter
 }
 
-// The edges of the old slots (s, t) become those of the new ones (u, v).
-fn follow(area: &mut [u32], n: usize, s: &[u32], t: &[u32], u: &[u32], v: &[u32], m: usize)
+// The edges of the old slots (s, t) become those of the new ones (u, v), and how many come and go.
+fn follow(
+    area: &mut [u32],
+    n: usize,
+    s: &[u32],
+    t: &[u32],
+    u: &[u32],
+    v: &[u32],
+    m: usize,
+) -> move_edges::Changes
     requires { ⌜ CanFollow (now area) n (now s) (now t) (now u) (now v) m ⌝ }
+    ensures { λ r. ⌜ Changed n (now (s .entry)) (now (t .entry)) (now (u .entry)) (now (v .entry)) m (r .appeared) (r .vanished) ⌝ }
     ensures { λ _. ⌜ now (area .exit) ≡ patch 0 (matrix (now (u .entry)) (now (v .entry)) n m) (now (area .entry)) ⌝ }
 {
     let end = n * n;
-    move_edges::update(&mut area[0..end], n, s, t, u, v, m);
+    move_edges::update(&mut area[0..end], n, s, t, u, v, m)
 }
 
-// An accepted move: edges and counts, the atom's node, no cycle and no component.
+// An accepted move: edges and counts, the atom's node, no cycle and no component; and how many edges come and go.
 pub fn commit(
     area: &mut [u32],
     n: usize,
@@ -85,15 +95,17 @@ pub fn commit(
     v: &[u32],
     m: usize,
     counts: &[u32],
-)
+) -> move_edges::Changes
     requires { ⌜ CanCommit (now area) n atom to (now s) (now t) (now u) (now v) m (now counts) ⌝ }
+    ensures { λ r. ⌜ Changed n (now (s .entry)) (now (t .entry)) (now (u .entry)) (now (v .entry)) m (r .appeared) (r .vanished) ⌝ }
     ensures { λ _. ⌜ now (area .exit) ≡ committed n (matrix (now (u .entry)) (now (v .entry)) n m) (part 0 n (now (counts .entry))) atom to (now (area .entry)) ⌝ }
 {
     let square = n * n;
     let lanes = square + 24;
-    follow(area, n, s, t, u, v, m);
+    let changes = follow(area, n, s, t, u, v, m);
     layout::copy(area, lanes + 8 * n, counts, 0, n);
     area[lanes + 24 * n + atom] = to as u32;
     area[square + 2] = 1;
     layout::fill_with(area, lanes + 10 * n, n, 0);
+    changes
 }

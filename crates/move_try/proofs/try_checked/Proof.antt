@@ -5,7 +5,7 @@ use native.Mathlib.Omega.{arith}
 use lib.ListN.{getD}
 use borrow.Author.Needs.{needs}
 use Rattle.move_area.specs.Bodies.{atomAt}
-use Rattle.move_try.specs.Tried.{try-room, try-from, try-outside, try-rejected, try-find, try-place, try-register, try-settle, try-accepted, try-stays}
+use Rattle.move_try.specs.Tried.{try-room, try-from, try-outside, try-rejected, try-find, try-register, try-settle, try-settled}
 use Rattle.move_try.proofs.try_checked.Statement.{statement}
 use Rattle.move_try.proofs.try_checked.Tie as tie
 
@@ -85,20 +85,10 @@ same-length-2 c = search needs
 
 returns-2 : tie.Need-returns-2
 returns-2 c =
-    let a = c .before .before .before .before .before .before .before .before .before .before .before .before .before .before .before .before .before .before .before .before .before .before .args in
-    let can = c .before .before .before .before .before .before .before .before .before .before .before .before .before .before .before .before .before .before .before .before .before .before .pre in
-    let s1 = try-outside can (getD (a .area .now) (atomAt (a .n) + a .atom) 0) refl (c .before .before .before .before .before .before .before .before .before .before .before .before .before .before .before .outside .ensures) in
-    try-accepted can (getD (a .area .now) (a .n * a .n) 0) refl (c .before .before .before .before .before .before .before .before .before .before .before .find .ensures) (c .before .before .before .before .before .before .before .before .before .place .ensures) s1 (c .before .before .before .before .before .before .before .before .before .before .before .before .before .before .if1 .left) (c .before .before .before .before .before .before .before .register .ensures) (rw (c .if2 .taken) at (c .before .before .before .settle .ensures))
-
-same-length-3 : tie.Need-same-length-3
-same-length-3 c = search needs
-
-returns-3 : tie.Need-returns-3
-returns-3 c =
-    let a = c .before .before .before .before .before .before .before .before .before .before .before .before .before .before .before .before .before .before .before .before .before .before .args in
-    let can = c .before .before .before .before .before .before .before .before .before .before .before .before .before .before .before .before .before .before .before .before .before .before .pre in
-    let s1 = try-outside can (getD (a .area .now) (atomAt (a .n) + a .atom) 0) refl (c .before .before .before .before .before .before .before .before .before .before .before .before .before .before .before .outside .ensures) in
-    try-stays can (getD (a .area .now) (a .n * a .n) 0) refl (c .before .before .before .before .before .before .before .before .before .before .before .find .ensures) (c .before .before .before .before .before .before .before .before .before .place .ensures) s1 (c .before .before .before .before .before .before .before .before .before .before .before .before .before .before .if1 .left) (c .before .before .before .before .before .before .before .register .ensures) (rw (c .if2 .left) at (c .before .before .before .settle .ensures))
+    let a = c .before .before .before .before .before .before .before .before .before .before .before .before .before .before .before .before .before .before .before .before .before .args in
+    let can = c .before .before .before .before .before .before .before .before .before .before .before .before .before .before .before .before .before .before .before .before .before .pre in
+    let s1 = try-outside can (getD (a .area .now) (atomAt (a .n) + a .atom) 0) refl (c .before .before .before .before .before .before .before .before .before .before .before .before .before .before .outside .ensures) in
+    try-settled can (getD (a .area .now) (a .n * a .n) 0) refl (c .before .before .before .before .before .before .before .before .before .before .find .ensures) (c .before .before .before .before .before .before .before .before .place .ensures) s1 (c .before .before .before .before .before .before .before .before .before .before .before .before .before .if1 .left) (c .before .before .before .before .before .before .register .ensures) (c .before .before .settle .ensures)
 
 pub try-checked-spec : {M : Type 1} → statement M
 try-checked-spec =
@@ -123,6 +113,4 @@ try-checked-spec =
     register-requires
     settle-requires
     same-length-2
-    returns-2
-    same-length-3
-    returns-3)
+    returns-2)

@@ -23,7 +23,7 @@ same-length : tie.Need-same-length
 same-length c = search needs
 
 returns : tie.Need-returns
-returns c = follow-done (c .before .before .before .before .before .before .before .before .before .pre) (c .before .before .update .ensures)
+returns c = (c .before .before .update .ensures .0, follow-done (c .before .before .before .before .before .before .before .before .before .pre) (c .before .before .update .ensures .1))
 
 pub follow-spec : {M : Type 1} → statement M
 follow-spec =
