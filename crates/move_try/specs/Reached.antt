@@ -60,6 +60,7 @@ own-count e n to {m} few q = count-ext _ _ n (λ x b. ap (λ (l : List ℕ). eqb
         ∙ ap (λ k. eqb k 1)
         (tab-at _ (length (replicate {A = ℕ} 1024 0)) x (omega (arith, length-replicate {A = ℕ} 1024 0)) ∙ ap (cond (via e (below n) to x) 1) (getD-replicate {A = ℕ} 1024 x 0 0 (omega arith)))
         ∙ go (via e (below n) to x)
+
 -- what the test leaves
 module _ {area : List ℕ} {n to : ℕ} {s t : List ℕ} {m : ℕ} (can : CanTest area n to s t m) {heads list : List ℕ} (v : SlotLists s t m n heads list) where
   abbrev E : ℕ → ℕ → Bool
