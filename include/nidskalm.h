@@ -82,6 +82,12 @@ typedef struct {
     uint64_t refusal, value;
 } nidskalm_reply;
 
+/* accepted is 1 or 0. Where it is 1: how many distinct edges the graph has after the move that it hadn't before
+ * (appeared), and how many it had that it hasn't any more (vanished); an edge in both counts as neither. Else zeros. */
+typedef struct {
+    uint64_t refusal, accepted, appeared, vanished;
+} nidskalm_move_reply;
+
 /* A set by value; unused numbers are 0. */
 typedef struct {
     uint64_t refusal, set0, set1, set2, set3;
@@ -111,8 +117,8 @@ nidskalm_reply nidskalm_reduced_chunk_graph_new(
     const uint64_t *sets, size_t sets_length,
     uint32_t *area, size_t area_length);
 
-/* Tries to move an atom to the set `bits`. Value 1 accepted, 0 rejected: the atom stays where it was. */
-nidskalm_reply nidskalm_reduced_chunk_graph_try_move(
+/* Tries to move an atom to the set `bits`: accepted, or rejected, and then the atom stays where it was. */
+nidskalm_move_reply nidskalm_reduced_chunk_graph_try_move(
     uint64_t a, uint64_t d, uint64_t e, uint64_t n,
     const uint32_t *starts, size_t starts_length,
     const uint32_t *dependencies, size_t dependencies_length,

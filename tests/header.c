@@ -17,19 +17,22 @@ static void expect(const char *what, uint64_t refusal, uint64_t value, uint64_t 
     }
 }
 
+/* Whether a move is accepted, and the edges that appeared and vanished, as three digits. */
+#define COUNTED(moved) ((moved).accepted * 100 + (moved).appeared * 10 + (moved).vanished)
+
 static void moves(void) {
     const uint64_t sets[] = {3, 1, 2};
     const size_t length = sizeof area / sizeof *area;
     nidskalm_reply reply = nidskalm_reduced_chunk_graph_new(LOAD, sets, 3, area, length);
     expect("loading", reply.refusal, reply.value, 0, 0);
-    reply = nidskalm_reduced_chunk_graph_try_move(LOAD, area, length, 0, &sets[1], 1);
-    expect("a move", reply.refusal, reply.value, 0, 1);
-    reply = nidskalm_reduced_chunk_graph_try_move(LOAD, area, length, 1, &sets[0], 1);
-    expect("a move that closes a cycle", reply.refusal, reply.value, 0, 0);
-    reply = nidskalm_reduced_chunk_graph_try_move(LOAD, area, length, 3, &sets[0], 1);
-    expect("a move of no atom", reply.refusal, reply.value, 10, 0);
-    reply = nidskalm_reduced_chunk_graph_try_move(LOAD, area, length, 2, &sets[0], 1);
-    expect("a move of a fixed atom", reply.refusal, reply.value, 24, 0);
+    nidskalm_move_reply moved = nidskalm_reduced_chunk_graph_try_move(LOAD, area, length, 0, &sets[1], 1);
+    expect("a move", moved.refusal, COUNTED(moved), 0, 112);
+    moved = nidskalm_reduced_chunk_graph_try_move(LOAD, area, length, 1, &sets[0], 1);
+    expect("a move that closes a cycle", moved.refusal, COUNTED(moved), 0, 0);
+    moved = nidskalm_reduced_chunk_graph_try_move(LOAD, area, length, 3, &sets[0], 1);
+    expect("a move of no atom", moved.refusal, COUNTED(moved), 10, 0);
+    moved = nidskalm_reduced_chunk_graph_try_move(LOAD, area, length, 2, &sets[0], 1);
+    expect("a move of a fixed atom", moved.refusal, COUNTED(moved), 24, 0);
     nidskalm_set_reply set = nidskalm_reduced_chunk_graph_atom_set(LOAD, area, length, 0);
     expect("an atom's set", set.refusal, set.set0, 0, 1);
     reply = nidskalm_reduced_chunk_graph_atom_count(LOAD, area, length, &sets[1], 1);

@@ -23,8 +23,9 @@ static void loaded(const char *name, load x, const uint64_t *sets, size_t sets_l
 }
 
 static void moved(const char *name, load x, uint32_t *area, size_t length, uint32_t atom, const uint64_t *bits, size_t w) {
-    nidskalm_reply reply = nidskalm_reduced_chunk_graph_try_move(LENT(x), area, length, atom, bits, w);
-    say(name, reply.refusal != 0 ? row(reply) : 200 - 100 * reply.value);
+    nidskalm_move_reply reply = nidskalm_reduced_chunk_graph_try_move(LENT(x), area, length, atom, bits, w);
+    const nidskalm_reply told = {reply.refusal, reply.accepted};
+    say(name, reply.refusal != 0 ? row(told) : 200 - 100 * reply.accepted);
 }
 
 /* 0, 1, 2, .. */
@@ -65,12 +66,34 @@ static void month_of_moves(void) {
     loaded("four atoms with room for five sets", x, sets, LENGTH(sets), area, LENGTH(area));
     for (uint32_t k = 0; k < 10000; k++) {
         const uint64_t target = 4 + k % 1000;
-        nidskalm_reply reply = nidskalm_reduced_chunk_graph_try_move(LENT(x), area, LENGTH(area), k % 4, &target, 1);
+        nidskalm_move_reply reply = nidskalm_reduced_chunk_graph_try_move(LENT(x), area, LENGTH(area), k % 4, &target, 1);
         refused += reply.refusal != 0;
-        accepted += reply.value;
+        accepted += reply.accepted;
     }
     say("refused of 10000 moves", refused);
     say("accepted of them", accepted);
+}
+
+/* The first atom depends on all 511 others, each in a set of its own: with it its edges go to a new set, then to that of the next atom. There the
+ * edge between the two goes and no other comes. */
+static void most_edges(void) {
+    static uint32_t area[NIDSKALM_MOVE_AREA(512, 511, 10, 513)], starts[513], dependencies[511];
+    static uint64_t sets[512];
+    const uint64_t targets[] = {600, 1, 1, 2};
+    const uint32_t atoms[] = {0, 0, 1, 511};
+    const load x = {512, 511, 10, 513, starts, dependencies, nobody, zeros};
+    number(sets, LENGTH(sets));
+    fill(starts + 1, 512, 511);
+    for (uint32_t k = 0; k < 511; k++) {
+        dependencies[k] = k + 1;
+    }
+    loaded("511 edges", x, sets, LENGTH(sets), area, LENGTH(area));
+    for (size_t k = 0; k < LENGTH(targets); k++) {
+        nidskalm_move_reply reply = nidskalm_reduced_chunk_graph_try_move(LENT(x), area, LENGTH(area), atoms[k], targets + k, 1);
+        say("refused by", reply.refusal);
+        say("edges that appear", reply.appeared);
+        say("edges that vanish", reply.vanished);
+    }
 }
 
 static void too_many_atoms(void) {
@@ -189,6 +212,7 @@ static void fixed_atoms(void) {
 int main(void) {
     most_atoms();
     month_of_moves();
+    most_edges();
     too_many_atoms();
     most_chunks("room for 1024 chunks in a short area", 1024);
     most_chunks("room for 1025 chunks", 1025);

@@ -41,10 +41,18 @@ static void edge_told(uint64_t w, nidskalm_edge_reply reply) {
     counted(reply.refusal, row && found && same_from && same_to && times);
 }
 
+static void move_told(nidskalm_move_reply reply) {
+    bool row = one() == reply.refusal;
+    bool accepted = one() == reply.accepted;
+    bool appeared = one() == reply.appeared;
+    bool vanished = one() == reply.vanished;
+    counted(reply.refusal, row && accepted && appeared && vanished);
+}
+
 static void try_move(const load *x) {
     uint32_t atom = small();
     const uint64_t *bits = wides(x->w);
-    reply_told(nidskalm_reduced_chunk_graph_try_move(LENT(x), AREA(x), atom, bits, x->w));
+    move_told(nidskalm_reduced_chunk_graph_try_move(LENT(x), AREA(x), atom, bits, x->w));
 }
 
 static void atom_count(const load *x) {

@@ -83,7 +83,7 @@ fn library_moves(library: &dyn Library, input: &Input) -> f64 {
         || (loaded(library, input), 0),
         |(area, accepted), k| {
             let (atom, bits) = &input.moves[k];
-            *accepted += library.try_move(&input.load, area, *atom, bits).value;
+            *accepted += library.try_move(&input.load, area, *atom, bits).accepted;
             if k + 1 == MOVES {
                 assert_eq!(*accepted, input.accepted, "the same answers");
             }

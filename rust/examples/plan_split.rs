@@ -16,8 +16,8 @@ fn main() -> Result<(), Refusal> {
     println!("loaded, {}", if moves.cyclic_at_loading() { "cyclic" } else { "acyclic" });
     for (atom, target) in [(0, EntrySet::from(1)), (1, EntrySet::from(3)), (1, EntrySet::from(1))] {
         match moves.try_move(atom, target) {
-            Ok(true) => println!("atom {atom} to {}: accepted", bits(target)),
-            Ok(false) => println!("atom {atom} to {}: rejected, it would close a cycle", bits(target)),
+            Ok(moved) if moved.accepted => println!("atom {atom} to {}: accepted", bits(target)),
+            Ok(_) => println!("atom {atom} to {}: rejected, it would close a cycle", bits(target)),
             Err(refusal) => println!("atom {atom} to {}: {refusal}", bits(target)),
         }
     }

@@ -4,7 +4,7 @@
 //! What lies beyond is not touched. A load's numbers of atoms, dependencies and entry bits, the number of initial
 //! chunks, and those of chunks and modules of [`Entries`], are taken from the lengths of the lists in [`Load`],
 //! [`InitialChunks`] and [`Entries`]. Every row of refusals can still occur.
-use crate::raw::{self, EdgeReply, Reply, SetReply};
+use crate::raw::{self, EdgeReply, MoveReply, Reply, SetReply};
 use crate::{Entries, InitialChunks, Load, Mode, Size};
 
 /// Numbers that a move graph's area must have, or none where the sizes are over the limits.
@@ -61,8 +61,8 @@ pub fn reduced_chunk_graph_new(load: &Load, n: u64, sets: &[u64], area: &mut [u3
     with_load!(nidskalm_reduced_chunk_graph_new, load, n, sets.as_ptr(), sets.len(), area.as_mut_ptr(), area.len())
 }
 
-/// Tries a move; value 1 accepted, 0 rejected.
-pub fn reduced_chunk_graph_try_move(load: &Load, n: u64, area: &mut [u32], atom: u32, bits: &[u64]) -> Reply {
+/// Tries a move.
+pub fn reduced_chunk_graph_try_move(load: &Load, n: u64, area: &mut [u32], atom: u32, bits: &[u64]) -> MoveReply {
     let (lent, length) = (area.as_mut_ptr(), area.len());
     with_load!(nidskalm_reduced_chunk_graph_try_move, load, n, lent, length, atom, bits.as_ptr(), bits.len())
 }

@@ -21,7 +21,7 @@
 //! let load = Load { starts: &[0, 0, 1, 2], dependencies: &[0, 0], hosts: &[NONE, NONE], fixed: &[0, 0, 0] };
 //! let sets = [EntrySet::from(3), EntrySet::from(1), EntrySet::from(2)];
 //! let mut graph = MoveGraph::new(load, 8, &sets)?;
-//! assert!(graph.try_move(0, EntrySet::from(1))?);
+//! assert!(graph.try_move(0, EntrySet::from(1))?.accepted);
 //! assert_eq!(graph.atom_set(0)?, EntrySet::from(1));
 //! assert_eq!(graph.edges()?.len(), 1);
 //! assert_eq!(graph.try_move(3, EntrySet::from(1)).unwrap_err().row(), 10);
@@ -40,7 +40,7 @@ mod refusal;
 pub use entries::Entries;
 pub use entry_set::EntrySet;
 pub use merge_graph::{Assignment, ChunkIdx, InitialChunks, MergeGraph, Mode, ModuleIdx, Size};
-pub use move_graph::{Edge, Load, MoveGraph};
+pub use move_graph::{Edge, Load, MoveGraph, Moved};
 pub use refusal::Refusal;
 
 /// No host for an entry bit.

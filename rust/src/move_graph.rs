@@ -33,6 +33,18 @@ pub struct Edge {
     pub multiplicity: u64,
 }
 
+/// What a move came to: whether it is accepted, and then how many distinct edges came and went. An edge that both graphs have
+/// counts as neither; a rejected move has zeros.
+#[derive(Clone, Copy, Debug, PartialEq, Eq)]
+pub struct Moved {
+    /// Whether the atom is now in the set.
+    pub accepted: bool,
+    /// How many edges the graph has that it hadn't before the move.
+    pub appeared: u64,
+    /// How many edges the graph had before the move that it hasn't any more.
+    pub vanished: u64,
+}
+
 /// Atoms in sets of entry bits, moved only where no cycle comes of it.
 ///
 /// ```
@@ -42,8 +54,8 @@ pub struct Edge {
 /// let load = Load { starts: &[0, 1, 2], dependencies: &[1, 0], hosts: &[NONE, NONE], fixed: &[0, 0] };
 /// let mut graph = MoveGraph::new(load, 4, &[EntrySet::from(1), EntrySet::from(2)])?;
 /// assert!(graph.cyclic_at_loading());
-/// assert!(!graph.try_move(0, EntrySet::from(3))?);
-/// assert!(graph.try_move(0, EntrySet::from(2))?);
+/// assert!(!graph.try_move(0, EntrySet::from(3))?.accepted);
+/// assert!(graph.try_move(0, EntrySet::from(2))?.accepted);
 /// assert_eq!(graph.atom_count(EntrySet::from(2))?, 2);
 /// assert_eq!(graph.edge_count()?, 0);
 /// # Ok::<(), nidskalm::Refusal>(())
@@ -66,7 +78,7 @@ impl<'a> MoveGraph<'a> {
     /// let load = Load { starts: &[0, 0], dependencies: &[], hosts: &[NONE; 16], fixed: &[0] };
     /// assert_eq!(MoveGraph::new(load, 1, &[EntrySet::from(1)]).unwrap_err().row(), 1);
     /// let mut graph = MoveGraph::new(load, 2, &[EntrySet::from(1)])?;
-    /// assert!((2..1000).all(|set| graph.try_move(0, EntrySet::from(set)) == Ok(true)));
+    /// assert!((2..1000).all(|set| graph.try_move(0, EntrySet::from(set)).is_ok_and(|moved| moved.accepted)));
     /// # Ok::<(), nidskalm::Refusal>(())
     /// ```
     pub fn new(load: Load<'a>, sets: u64, entry_sets: &[EntrySet]) -> Result<Self, Refusal> {
@@ -84,21 +96,25 @@ impl<'a> MoveGraph<'a> {
         self.cyclic
     }
 
-    /// Moves an atom to another set if the chunk graph then has no cycle: true if so. A fixed atom stays.
+    /// Moves an atom to another set if the chunk graph then has no cycle, and tells how many edges came and went. A fixed
+    /// atom stays.
     ///
     /// ```
-    /// use nidskalm::{EntrySet, Load, MoveGraph, NONE};
+    /// use nidskalm::{EntrySet, Load, MoveGraph, Moved, NONE};
     ///
-    /// let load = Load { starts: &[0, 0, 0], dependencies: &[], hosts: &[NONE, NONE], fixed: &[0, 1] };
+    /// // Atom 0 depends on atom 1, which is fixed: the edge between their chunks goes when they share one.
+    /// let load = Load { starts: &[0, 1, 1], dependencies: &[1], hosts: &[NONE, NONE], fixed: &[0, 1] };
     /// let mut graph = MoveGraph::new(load, 3, &[EntrySet::from(1), EntrySet::from(2)])?;
-    /// assert!(graph.try_move(0, EntrySet::from(2))?);
+    /// let moved = graph.try_move(0, EntrySet::from(2))?;
+    /// assert_eq!(moved, Moved { accepted: true, appeared: 0, vanished: 1 });
     /// assert_eq!(graph.try_move(1, EntrySet::from(1)).unwrap_err().row(), 24);
     /// # Ok::<(), nidskalm::Refusal>(())
     /// ```
-    pub fn try_move(&mut self, atom: u32, target: EntrySet) -> Result<bool, Refusal> {
+    pub fn try_move(&mut self, atom: u32, target: EntrySet) -> Result<Moved, Refusal> {
         let bits = target.lent(self.load.hosts.len());
         let reply = lent::reduced_chunk_graph_try_move(&self.load, self.sets, &mut self.area, atom, bits);
-        Refusal::check(reply.refusal, reply.value == 1)
+        let moved = Moved { accepted: reply.accepted == 1, appeared: reply.appeared, vanished: reply.vanished };
+        Refusal::check(reply.refusal, moved)
     }
 
     /// The set that an atom is in.

@@ -15,6 +15,20 @@ pub struct Reply {
     pub value: u64,
 }
 
+/// A refusal's row and what a move came to; zeros where it is refused.
+#[repr(C)]
+#[derive(Clone, Copy, Debug, Default, PartialEq, Eq)]
+pub struct MoveReply {
+    /// 0, or the number of the row that refused the call.
+    pub refusal: u64,
+    /// 1 accepted, 0 rejected.
+    pub accepted: u64,
+    /// How many distinct edges an accepted move has made that weren't there before; 0 where it is rejected.
+    pub appeared: u64,
+    /// How many distinct edges an accepted move has taken off; 0 where it is rejected.
+    pub vanished: u64,
+}
+
 /// A refusal's row and a set, bit 0 lowest in `set0`.
 #[repr(C)]
 #[derive(Clone, Copy, Debug, Default, PartialEq, Eq)]
@@ -63,8 +77,8 @@ pub struct EdgeReply {
 unsafe extern "C" {
     /// Loads a move graph; value 0 acyclic, 1 cyclic.
     pub fn nidskalm_reduced_chunk_graph_new(a: u64, d: u64, e: u64, n: u64, starts: *const u32, starts_length: usize, dependencies: *const u32, dependencies_length: usize, hosts: *const u32, hosts_length: usize, fixed: *const u32, fixed_length: usize, sets: *const u64, sets_length: usize, area: *mut u32, area_length: usize) -> Reply;
-    /// Tries a move; value 1 accepted, 0 rejected.
-    pub fn nidskalm_reduced_chunk_graph_try_move(a: u64, d: u64, e: u64, n: u64, starts: *const u32, starts_length: usize, dependencies: *const u32, dependencies_length: usize, hosts: *const u32, hosts_length: usize, fixed: *const u32, fixed_length: usize, area: *mut u32, area_length: usize, atom: u32, bits: *const u64, bits_length: usize) -> Reply;
+    /// Tries a move.
+    pub fn nidskalm_reduced_chunk_graph_try_move(a: u64, d: u64, e: u64, n: u64, starts: *const u32, starts_length: usize, dependencies: *const u32, dependencies_length: usize, hosts: *const u32, hosts_length: usize, fixed: *const u32, fixed_length: usize, area: *mut u32, area_length: usize, atom: u32, bits: *const u64, bits_length: usize) -> MoveReply;
     /// An atom's set.
     pub fn nidskalm_reduced_chunk_graph_atom_set(a: u64, d: u64, e: u64, n: u64, starts: *const u32, starts_length: usize, dependencies: *const u32, dependencies_length: usize, hosts: *const u32, hosts_length: usize, fixed: *const u32, fixed_length: usize, area: *const u32, area_length: usize, atom: u32) -> SetReply;
     /// The number of atoms in a set.

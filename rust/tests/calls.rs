@@ -1,7 +1,7 @@
 //! Every call once through the safe crate, and the rows that only it can bring about.
 use nidskalm::{
     lent, Assignment, ChunkIdx, Edge, Entries, EntrySet, InitialChunks, Load, MergeGraph, Mode, ModuleIdx, MoveGraph,
-    Refusal, Size, NONE,
+    Moved, Refusal, Size, NONE,
 };
 
 fn set(bits: u64) -> EntrySet {
@@ -12,6 +12,14 @@ fn row<T: std::fmt::Debug>(result: Result<T, Refusal>) -> u64 {
     result.unwrap_err().row()
 }
 
+/// An accepted move, with how many edges came and went.
+fn moved(appeared: u64, vanished: u64) -> Result<Moved, Refusal> {
+    Ok(Moved { accepted: true, appeared, vanished })
+}
+
+/// A rejected move reports zeros.
+const REJECTED: Result<Moved, Refusal> = Ok(Moved { accepted: false, appeared: 0, vanished: 0 });
+
 /// Atoms 1 and 2 depend on atom 0 and host bits 0 and 1.
 const LOAD: Load = Load { starts: &[0, 0, 1, 2], dependencies: &[0, 0], hosts: &[1, 2], fixed: &[0, 0, 0] };
 
@@ -20,14 +28,24 @@ fn moves_and_questions() {
     let mut graph = MoveGraph::new(LOAD, 8, &[set(3), set(1), set(2)]).unwrap();
     assert!(!graph.cyclic_at_loading());
     assert_eq!(graph.multiplicity(set(1), set(3)), Ok(1));
-    assert_eq!(graph.try_move(0, set(1)), Ok(true));
-    assert_eq!(graph.try_move(1, set(3)), Ok(false));
+    assert_eq!(graph.try_move(0, set(1)), moved(1, 2));
+    assert_eq!(graph.try_move(1, set(3)), REJECTED);
     assert_eq!(graph.atom_set(0), Ok(set(1)));
     assert_eq!(graph.atom_count(set(1)), Ok(2));
     assert_eq!(graph.atom_count(set(3)), Ok(0));
     assert_eq!(graph.edge_count(), Ok(1));
     assert_eq!(graph.edges(), Ok(vec![Edge { from: set(2), to: set(1), multiplicity: 1 }]));
     assert_eq!(graph.edge_at(1), Ok(None));
+}
+
+#[test]
+fn an_edge_in_both_graphs_counts_as_neither() {
+    let load = Load { starts: &[0, 1, 1, 2], dependencies: &[1, 0], hosts: &[NONE; 3], fixed: &[0, 0, 0] };
+    let mut graph = MoveGraph::new(load, 4, &[set(6), set(5), set(3)]).unwrap();
+    assert_eq!(graph.try_move(2, set(6)), moved(0, 1));
+    let before = graph.edges();
+    assert_eq!(graph.try_move(0, set(5)), moved(0, 0));
+    assert_eq!(graph.edges(), before);
 }
 
 #[test]
@@ -48,7 +66,7 @@ fn empty_sets_give_their_place_back() {
     let load = Load { hosts: &[NONE; 16], ..LOAD };
     let mut graph = MoveGraph::new(load, 4, &[set(3), set(1), set(2)]).unwrap();
     for target in 4..2000 {
-        assert_eq!(graph.try_move(0, set(target)), Ok(true));
+        assert_eq!(graph.try_move(0, set(target)), moved(2, 2));
     }
     assert_eq!(graph.atom_count(set(3)), Ok(0));
     assert_eq!(graph.atom_count(set(1999)), Ok(1));
@@ -63,7 +81,7 @@ fn fixed_atoms_stay() {
     assert_eq!(row(graph.try_move(0, set(4))), 24);
     assert_eq!(row(graph.try_move(3, set(1))), 10);
     assert_eq!(row(graph.try_move(1, set(4))), 11);
-    assert_eq!(graph.try_move(1, set(2)), Ok(true));
+    assert!(graph.try_move(1, set(2)).unwrap().accepted);
     assert_eq!(graph.atom_set(0), Ok(set(3)));
 }
 

@@ -27,7 +27,7 @@ fn the_first_atom_of_a_chain_reaches_all_others() {
         let target = EntrySet::from(u64::from(n) + 1);
         let mut graph = MoveGraph::new(load, u64::from(n) + 1, &sets).unwrap();
         assert!(!graph.cyclic_at_loading());
-        assert_eq!(graph.try_move(0, target), Ok(true));
+        assert!(graph.try_move(0, target).unwrap().accepted);
         assert_eq!(reach(&graph.edges().unwrap(), target), n as usize - 1);
     }
 }

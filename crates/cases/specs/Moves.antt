@@ -18,6 +18,10 @@ free n = replicate n 0
 abbrev kept : List ℕ → List ℕ → Ledger
 kept place registered = record { place = place; registered = registered }
 
+-- an accepted move, with how many edges appeared and vanished
+abbrev moves : ℕ → ℕ → Answer
+moves come gone = accepted (record { appeared = come; vanished = gone })
+
 -- an edge answered
 abbrev found : ℕ → ℕ → ℕ → Answer
 found from to times = edge (record { from = from; to = to; multiplicity = times })
@@ -35,7 +39,7 @@ P1 =
       expected =
           record {
             start = acyclic;
-            replies = accepted ∷ rejected ∷ number 1 ∷ found 2 1 1 ∷ answer.none ∷ set (1 ∷ 0 ∷ 0 ∷ 0 ∷ []) ∷ [];
+            replies = moves 1 2 ∷ rejected ∷ number 1 ∷ found 2 1 1 ∷ answer.none ∷ set (1 ∷ 0 ∷ 0 ∷ 0 ∷ []) ∷ [];
             end = kept (1 ∷ 1 ∷ 2 ∷ []) (3 ∷ 1 ∷ 2 ∷ []);
           };
     }
@@ -63,7 +67,7 @@ P3 =
       sets = 1 ∷ 2 ∷ [];
       size = 16384;
       calls = try-move 0 (3 ∷ []) ∷ try-move 0 (2 ∷ []) ∷ [];
-      expected = record { start = cyclic; replies = rejected ∷ accepted ∷ []; end = kept (2 ∷ 2 ∷ []) (1 ∷ 2 ∷ 3 ∷ []) };
+      expected = record { start = cyclic; replies = rejected ∷ moves 0 2 ∷ []; end = kept (2 ∷ 2 ∷ []) (1 ∷ 2 ∷ 3 ∷ []) };
     }
 
 -- "a second such pair beside it, sets 4 and 8: every move that isn't refused is rejected": each of 4 atoms to each of 16 sets, by step 1,
@@ -108,7 +112,7 @@ P6 =
       sets = 3 ∷ 5 ∷ [];
       size = 16384;
       calls = try-move 0 (4 ∷ []) ∷ [];
-      expected = record { start = acyclic; replies = accepted ∷ []; end = kept (4 ∷ 5 ∷ []) (3 ∷ 5 ∷ 4 ∷ []) };
+      expected = record { start = acyclic; replies = moves 1 1 ∷ []; end = kept (4 ∷ 5 ∷ []) (3 ∷ 5 ∷ 4 ∷ []) };
     }
 
 -- "a repeated dependency: multiplicity 2"
@@ -162,7 +166,7 @@ evicting =
       expected =
           record {
             start = acyclic;
-            replies = rejected ∷ accepted ∷ accepted ∷ rejected ∷ accepted ∷ accepted ∷ accepted ∷ refused 10 ∷ refused 11 ∷ refused 12 ∷ [];
+            replies = rejected ∷ moves 1 1 ∷ moves 0 1 ∷ rejected ∷ moves 1 0 ∷ moves 1 1 ∷ moves 1 1 ∷ refused 10 ∷ refused 11 ∷ refused 12 ∷ [];
             end = kept (1 ∷ 6 ∷ []) (1 ∷ 3 ∷ 6 ∷ []);
           };
     }
@@ -228,7 +232,7 @@ fixing =
                 ∷ set (1 ∷ 0 ∷ 0 ∷ 0 ∷ [])
                 ∷ refused 11
                 ∷ refused 12
-                ∷ accepted
+                ∷ moves 0 2
                 ∷ [];
             end = kept (1 ∷ 1 ∷ []) (1 ∷ 2 ∷ []);
           };
@@ -297,13 +301,27 @@ two-numbers =
                 ∷ found 18446744073709551616 5 2
                 ∷ found 18446744073709551617 5 1
                 ∷ answer.none
-                ∷ accepted
+                ∷ moves 0 1
                 ∷ number 0
                 ∷ number 2
                 ∷ number 2
                 ∷ [];
             end = kept (18446744073709551617 ∷ 5 ∷ 18446744073709551617 ∷ []) (18446744073709551616 ∷ 5 ∷ 18446744073709551617 ∷ []);
           };
+    }
+
+-- (ii): an edge that a dependency leaves and another takes up within one move counts as neither. Atom 0 on 1 makes the edge from 6 to 5 before the move to 5,
+-- atom 2 on 0 makes it afterwards; the move before it takes the edge from 3 to 6 off
+abbrev pub returning : MoveCase
+returning =
+    record {
+      load = record { A = 3; D = 2; E = 3; starts = 0 ∷ 1 ∷ 1 ∷ 2 ∷ []; dependencies = 1 ∷ 0 ∷ []; hosts = nobody 3 };
+      fixed = free 3;
+      N = 4;
+      sets = 6 ∷ 5 ∷ 3 ∷ [];
+      size = 16384;
+      calls = try-move 2 (6 ∷ []) ∷ try-move 0 (5 ∷ []) ∷ asks (edge-at 0) ∷ asks edge-count ∷ [];
+      expected = record { start = acyclic; replies = moves 0 1 ∷ moves 0 0 ∷ found 6 5 1 ∷ number 1 ∷ []; end = kept (5 ∷ 5 ∷ 6 ∷ []) (6 ∷ 5 ∷ 3 ∷ []) };
     }
 
 -- not of 01: each row of loading. Two atoms, one dependency, two bits, sets 1 and 2 pass; each other case changes one thing, and what comes
@@ -335,4 +353,4 @@ loadings =
     ∷ []
 
 abbrev pub move-cases : List MoveCase
-move-cases = P1 ∷ P2 ∷ P3 ∷ P4 ∷ P5 ∷ P6 ∷ P7 ∷ P8 ∷ evicting ∷ outside ∷ inside ∷ fixing ∷ all-fixed ∷ vanishing ∷ two-numbers ∷ loadings
+move-cases = P1 ∷ P2 ∷ P3 ∷ P4 ∷ P5 ∷ P6 ∷ P7 ∷ P8 ∷ evicting ∷ outside ∷ inside ∷ fixing ∷ all-fixed ∷ vanishing ∷ two-numbers ∷ returning ∷ loadings

@@ -18,7 +18,7 @@ use Rattle.entry_set.specs.Joined.{joined}
 use Rattle.entry_set.specs.Sets.{value}
 use Rattle.move_ledger.specs.Graph.{none, at, owner, edge}
 use Rattle.move_ledger.specs.GraphLaws.{Why, by-entry, by-facade, edge-why, why-edge, entry-lies, lies-entry, lies-set, lies-in, edge-source}
-use Rattle.move_ledger.specs.Answer.{acyclic, accepted, is-refused}
+use Rattle.move_ledger.specs.Answer.{acyclic, is-refused, is-accepted}
 use Rattle.move_ledger.specs.Ledger.{loaded, decide, move, call, ledger}
 use Rattle.move_ledger.specs.Ledger as calls
 use Rattle.move_ledger.specs.Loading.{row1, row2, row3, row4, row5, row6, first-row, lent-set, entry-sets, row7, row8, loading-row, loading}
@@ -204,7 +204,7 @@ module _ (n : ℕ) (some : 0 < n) (few : n ≤ 512) (size : ℕ) (enough : row3 
   value-one = omega arith
 
   -- "and that the move is accepted": "20 for atom 0 to set n + 1"
-  pub chain-moves : move (chain n) (unmarked n) (n + 1) (loaded (entry-sets (chain n) (sets n))) 0 ((n + 1) ∷ []) .answer ≡ accepted
+  pub chain-moves : is-accepted (move (chain n) (unmarked n) (n + 1) (loaded (entry-sets (chain n) (sets n))) 0 ((n + 1) ∷ []) .answer) ≡ true
   unfolding move decide
   chain-moves =
       rw (
@@ -221,8 +221,8 @@ module _ (n : ℕ) (some : 0 < n) (few : n ≤ 512) (size : ℕ) (enough : row3 
 -- and so answer the calls, on every work area that is long enough
 pub chain-on-areas : (n : ℕ) → 0 < n → n ≤ 512 → (area : List ℕ) → row3 (chain n) (n + 1) (length area) ≡ false
     → (new (chain n) (unmarked n) (n + 1) (sets n) area .answer ≡ acyclic)
-    × (try-move (chain n) (unmarked n) (n + 1) (new (chain n) (unmarked n) (n + 1) (sets n) area .area) 0 ((n + 1) ∷ []) .answer ≡ accepted)
+    × (is-accepted (try-move (chain n) (unmarked n) (n + 1) (new (chain n) (unmarked n) (n + 1) (sets n) area .area) 0 ((n + 1) ∷ []) .answer) ≡ true)
 unfolding call call-area area-after ledger new
 chain-on-areas n some few area enough =
     let l : new (chain n) (unmarked n) (n + 1) (sets n) area .answer ≡ acyclic = chain-loads n some few (length area) enough in
-    (l, next-answer (chain n) (unmarked n) (n + 1) (sets n) area [] (calls.try-move 0 ((n + 1) ∷ [])) (ap is-refused l) ∙ chain-moves n some few (length area) enough)
+    (l, ap is-accepted (next-answer (chain n) (unmarked n) (n + 1) (sets n) area [] (calls.try-move 0 ((n + 1) ∷ [])) (ap is-refused l)) ∙ chain-moves n some few (length area) enough)

@@ -12,7 +12,7 @@ use Rattle.entry_set.specs.Sets.{value}
 use Rattle.move_ledger.specs.Graph.{Load, mult, edge}
 use Rattle.move_ledger.specs.GraphLaws.{edge-source}
 use Rattle.move_ledger.specs.Answer.{accepted, rejected, is-refused, is-accepted}
-use Rattle.move_ledger.specs.Ledger.{Ledger, Answered, gives, decide, move, Call}
+use Rattle.move_ledger.specs.Ledger.{Ledger, Answered, gives, report, decide, move, Call}
 use Rattle.move_ledger.specs.MoveLaws.{decide-exactly, place-after}
 use Rattle.move_ledger.specs.Loading.{refusal}
 use Rattle.move_area.specs.Area.{decode}
@@ -58,20 +58,20 @@ moved-exactly-acyclic load fixed N l a s n u =
     from : (X Y : ℕ) → edge load q X Y ≡ true → has X q ≡ true
     from = edge-source load q (rw length-set n)
 
-    by-graph : decide load fixed (l .place) a s ≡ cond (cyclic (edge load q) q) rejected accepted
+    by-graph : decide load fixed (l .place) a s ≡ cond (cyclic (edge load q) q) rejected (accepted (report load (l .place) q))
     by-graph = decide-exactly load fixed (l .place) a s n u
 
     accepts : (is-accepted (decide load fixed (l .place) a s) ≡ true) ↔ (cyclic (edge load q) q ≡ false)
     accepts = rw by-graph (go (cyclic (edge load q) q))
       where
-        go : (t : Bool) → (is-accepted (cond t rejected accepted) ≡ true) ↔ (t ≡ false)
+        go : (t : Bool) → (is-accepted (cond t rejected (accepted (report load (l .place) q))) ≡ true) ↔ (t ≡ false)
         go true = (λ h. absurd (true≢false (sym h)), λ h. absurd (true≢false h))
         go false = (λ h. refl, λ h. refl)
 
     rejects : is-accepted (decide load fixed (l .place) a s) ≡ false → decide load fixed (l .place) a s ≡ rejected
     rejects = rw by-graph (go (cyclic (edge load q) q))
       where
-        go : (t : Bool) → is-accepted (cond t rejected accepted) ≡ false → cond t rejected accepted ≡ rejected
+        go : (t : Bool) → is-accepted (cond t rejected (accepted (report load (l .place) q))) ≡ false → cond t rejected (accepted (report load (l .place) q)) ≡ rejected
         go true h = refl
         go false h = absurd (true≢false h)
 

@@ -2,7 +2,7 @@
 use Prim.Native.Nat.{ℕ, _<_}
 use native.Mathlib.Omega.{arith}
 use mathlib.Core.Path.{_≡_, refl, sym, ap, subst, _∙_}
-use mathlib.Core.Bool.{true, false, cond}
+use mathlib.Core.Bool.{Bool, true, false, cond}
 use mathlib.Core.List.{List}
 use lib.Dec.{eqb}
 use lib.ListN.{length, set}
@@ -10,8 +10,8 @@ use lib.Seq.{ext-getD, getD-set-other, set-comm}
 use Rattle.graphs.specs.Walk.{cyclic}
 use Rattle.entry_set.specs.Sets.{value}
 use Rattle.move_ledger.specs.Graph.{Load, at, edge}
-use Rattle.move_ledger.specs.Answer.{Answer, accepted, rejected, is-refused, is-accepted}
-use Rattle.move_ledger.specs.Ledger.{Ledger, decide, move, ask, Call, try-move, asks, call, loaded, answers}
+use Rattle.move_ledger.specs.Answer.{Report, zeros, Answer, accepted, rejected, is-refused, is-accepted, plain}
+use Rattle.move_ledger.specs.Ledger.{Ledger, report, decide, move, ask, Call, try-move, asks, call, loaded, answers}
 use Rattle.move_ledger.specs.MoveLaws.{decide-accepted, decide-late, place-after}
 use Rattle.move_ledger.specs.Loading.{refusal, entry-sets}
 use Rattle.move_area.specs.Area.{decode}
@@ -47,30 +47,37 @@ same-placement-same-answer load fixed N N′ sets sets′ calls calls′ next h 
     let k′ = history-length load fixed N′ sets′ calls′ in
     same-place load fixed N N′ l l′ next (ext-getD 0 (l .place) (l′ .place) (k ∙ sym k′) (λ i b. h i (omega arith)))
 
+-- the numbers left out
+left-out : (t : Bool) (r : Report) → plain (cond t rejected (accepted r)) ≡ cond t rejected (accepted zeros)
+left-out true r = refl
+left-out false r = refl
+
 -- the answer to the second of two moves that would each be accepted
 second-answer : (load : Load) (fixed place : List ℕ) (a b : ℕ) (s t : List ℕ) → (b ≡ a → ⊥) → is-accepted (decide load fixed place a s) ≡ true → is-accepted (decide load fixed place b t) ≡ true
     → let both = set (set place a (value s)) b (value t) in
-    decide load fixed (set place a (value s)) b t ≡ cond (cyclic (edge load both) both) rejected accepted
+    plain (decide load fixed (set place a (value s)) b t) ≡ cond (cyclic (edge load both) both) rejected (accepted zeros)
 second-answer load fixed place a b s t d g h =
     let x = decide-accepted load fixed place a s g in
     let y = decide-accepted load fixed place b t h .passed in
     let same : eqb (value t) (at (set place a (value s)) b) ≡ false = ap (eqb (value t)) (getD-set-other place a b (value s) 0 d) ∙ y .at12 in
-    decide-late load fixed (set place a (value s)) b t (record { at10 = y .at10; at24 = y .at24; at11 = y .at11; at12 = same })
-    ∙ rw (x .no-cycle) refl
+    let both = set (set place a (value s)) b (value t) in
+    ap plain (decide-late load fixed (set place a (value s)) b t (record { at10 = y .at10; at24 = y .at24; at11 = y .at11; at12 = same }))
+    ∙ rw (x .no-cycle) (left-out (cyclic (edge load both) both) (report load (set place a (value s)) both))
 
--- "if two moves on different atoms would each be accepted next, the second gets the same answer in either order"
+-- "if two moves on different atoms would each be accepted next, the second gets the same answer in either order", and 02: "Where two orders of moves
+-- .. are compared, these numbers are left out"
 pub either-order : (load : Load) (fixed : List ℕ) (N : ℕ) (l : Ledger) (a b : ℕ) (s t : List ℕ) → (a ≡ b → ⊥)
     → is-accepted (move load fixed N l a s .answer) ≡ true → is-accepted (move load fixed N l b t .answer) ≡ true
-    → move load fixed N (move load fixed N l a s .after) b t .answer ≡ move load fixed N (move load fixed N l b t .after) a s .answer
+    → plain (move load fixed N (move load fixed N l a s .after) b t .answer) ≡ plain (move load fixed N (move load fixed N l b t .after) a s .answer)
 unfolding move
 either-order load fixed N l a b s t d g h =
     first a s b t g ∙ second-answer load fixed (l .place) a b s t (λ z. d (sym z)) g h
-    ∙ ap (λ p. cond (cyclic (edge load p) p) rejected accepted) (set-comm (l .place) a b (value s) (value t) d)
+    ∙ ap (λ p. cond (cyclic (edge load p) p) rejected (accepted zeros)) (set-comm (l .place) a b (value s) (value t) d)
     ∙ sym (first b t a s h ∙ second-answer load fixed (l .place) b a t s d h g)
   where
     first : (a : ℕ) (s : List ℕ) (b : ℕ) (t : List ℕ) → is-accepted (decide load fixed (l .place) a s) ≡ true
-        → decide load fixed (move load fixed N l a s .after .place) b t ≡ decide load fixed (set (l .place) a (value s)) b t
-    first a s b t g = ap (λ p. decide load fixed p b t) (place-after load fixed N l a s ∙ rw g refl)
+        → plain (decide load fixed (move load fixed N l a s .after .place) b t) ≡ plain (decide load fixed (set (l .place) a (value s)) b t)
+    first a s b t g = ap (λ p. plain (decide load fixed p b t)) (place-after load fixed N l a s ∙ rw g refl)
 
 -- On the areas that the calls are lent. "For every list of moves and questions after a loading, refused ones included, every answer is the one that
 -- a plain ledger of the calls gives"
@@ -96,10 +103,10 @@ next-answer load fixed N sets area calls next h =
 -- "From any consistent area, if two moves on different atoms would each be accepted next, the second gets the same answer in either order"
 pub either-order-on-areas : (load : Load) (fixed : List ℕ) (N : ℕ) (area : List ℕ) (a b : ℕ) (s t : List ℕ) → refusal load fixed N (length area) ≡ 0 → checks-out load fixed N area ≡ true → (a ≡ b → ⊥)
     → is-accepted (on-area.try-move load fixed N area a s .answer) ≡ true → is-accepted (on-area.try-move load fixed N area b t .answer) ≡ true
-    → on-area.try-move load fixed N (on-area.try-move load fixed N area a s .area) b t .answer ≡ on-area.try-move load fixed N (on-area.try-move load fixed N area b t .area) a s .answer
+    → plain (on-area.try-move load fixed N (on-area.try-move load fixed N area a s .area) b t .answer) ≡ plain (on-area.try-move load fixed N (on-area.try-move load fixed N area b t .area) a s .answer)
 unfolding call
 either-order-on-areas load fixed N area a b s t q c d g h =
-    second a b s t ∙ either-order load fixed N l a b s t d (first a s g) (first b t h) ∙ sym (second b a t s)
+    ap plain (second a b s t) ∙ either-order load fixed N l a b s t d (first a s g) (first b t h) ∙ sym (ap plain (second b a t s))
   where
     l : Ledger
     l = decode load N area .ledger

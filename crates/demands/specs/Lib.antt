@@ -5,6 +5,7 @@ pub mod Demand1
 pub mod Demand2
 pub mod Demand3
 pub mod Room
+pub mod Changes
 pub mod Chain
 pub mod Fixed
 pub mod MergeRefused

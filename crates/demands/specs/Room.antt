@@ -12,7 +12,7 @@ use Rattle.entry_set.specs.Sets.{value, legal, words}
 use Rattle.move_ledger.specs.Graph.{Load, Edge, at, members, mult, edge, edges}
 use Rattle.move_ledger.specs.Answer.{Answer, refused, acyclic, accepted, rejected, is-refused}
 use Rattle.move_ledger.specs.Answer as answer
-use Rattle.move_ledger.specs.Ledger.{Ledger, smallest-empty, free-place, step1, stays, decide, move, Question, atom-set, atom-count, multiplicity, edge-count, edge-at, kth, ask, Call, try-move, asks}
+use Rattle.move_ledger.specs.Ledger.{Ledger, smallest-empty, free-place, step1, stays, report, decide, move, Question, atom-set, atom-count, multiplicity, edge-count, edge-at, kth, ask, Call, try-move, asks}
 use Rattle.move_ledger.specs.Loading.{row1, row2, row3, row4, row5, row6, first-row, marks-fit, refusal, entry-sets, sets-fit, row7, row8, loading-row, loading}
 use Rattle.move_ledger.specs.Evict.{Smallest, smallest, some-empty, Free, place-free}
 use Rattle.move_ledger.specs.Sound.{Sound}
@@ -51,7 +51,7 @@ abbrev row-of : Answer → ℕ
 row-of (refused n) = n
 row-of acyclic = 0
 row-of answer.cyclic = 0
-row-of accepted = 0
+row-of (accepted r) = 0
 row-of rejected = 0
 row-of (answer.set s) = 0
 row-of (answer.number n) = 0
@@ -80,7 +80,7 @@ move-rows load fixed place a s =
     (choice row-of (stays fixed a) (refused 24) _ refl
     (choice row-of (not (legal (load .E) s)) (refused 11) _ refl
     (choice row-of (eqb (value s) (at place a)) (refused 12) _ refl
-    (choice row-of (step1 load place a || cyclic (edge load (set place a (value s))) (set place a (value s))) rejected accepted refl refl))))
+    (choice row-of (step1 load place a || cyclic (edge load (set place a (value s))) (set place a (value s))) rejected (accepted (report load place (set place a (value s)))) refl refl))))
 
 ask-rows : (load : Load) (place : List ℕ) (q : Question) → other (row-of (ask load place q))
 unfolding ask

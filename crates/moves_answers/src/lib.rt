@@ -43,7 +43,7 @@ pub fn put_move(out: &mut [u8], at: usize, r: MoveAnswer) -> usize
     ensures { λ p. ⌜ Put (reply (ofMove r)) (now (out .entry)) at (now (out .exit)) p ⌝ }
 {
     match r {
-        MoveAnswer::Accepted => put(out, at, b"accepted\n"),
+        MoveAnswer::Accepted(_) => put(out, at, b"accepted\n"),
         MoveAnswer::Rejected => put(out, at, b"rejected\n"),
         MoveAnswer::Refused(row) => put_refused(out, at, row),
     }

@@ -47,7 +47,7 @@ unfolding reply
 reply-long (refused q) = simp length-append (omega (arith, decimal-long 20 q))
 reply-long acyclic = omega arith
 reply-long answer.cyclic = omega arith
-reply-long accepted = omega arith
+reply-long (accepted r) = omega arith
 reply-long rejected = omega arith
 reply-long (answer.set s) = simp length-append (omega (arith, decimal-long 20 (at s 0)))
 reply-long (number n) = simp length-append (omega (arith, decimal-long 20 n))

@@ -45,7 +45,7 @@ unfoldable pub reply : Answer → List ℕ
 reply (refused q) = line (refused-word ++ decimal q)
 reply acyclic = line acyclic-word
 reply answer.cyclic = line cyclic-word
-reply accepted = line accepted-word
+reply (accepted r) = line accepted-word
 reply rejected = line rejected-word
 reply (answer.set s) = line (printed-set s)
 reply (number n) = line (edges-word ++ decimal n)

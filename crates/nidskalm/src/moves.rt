@@ -3,8 +3,9 @@ ghost use mathlib.Core.Path.{_≡_};
 ghost use Rattle.move_ledger.specs.Graph.{lent};
 ghost use Rattle.move_ledger.specs.Ledger as ledger;
 ghost use Rattle.move_area.specs.Calls as calls;
-ghost use Rattle.nidskalm_replies.specs.Replies.{move-reply, set-reply, edge-reply};
+ghost use Rattle.nidskalm_replies.specs.Replies.{move-reply, try-reply, set-reply, edge-reply};
 use nidskalm_replies::EdgeReply;
+use nidskalm_replies::MoveReply;
 use nidskalm_replies::Reply;
 use nidskalm_replies::SetReply;
 use nidskalm_replies::of_edge;
@@ -44,7 +45,7 @@ pub extern "C" fn nidskalm_reduced_chunk_graph_new(
     ))
 }
 
-// Moves an atom to a set if no cycle arises: 1 accepted, 0 rejected.
+// Moves an atom to a set if no cycle arises, and how many distinct edges then appear and vanish.
 #[no_mangle]
 pub extern "C" fn nidskalm_reduced_chunk_graph_try_move(
     a: u64,
@@ -58,8 +59,8 @@ pub extern "C" fn nidskalm_reduced_chunk_graph_try_move(
     area: &mut [u32],
     atom: u32,
     bits: &[u64],
-) -> Reply
-    ensures { λ r. ⌜ r ≡ move-reply (calls.try-move (lent a d e (now (starts .entry)) (now (dependencies .entry)) (now (hosts .entry))) (now (fixed .entry)) n (now (area .entry)) atom (now (bits .entry)) .answer) ⌝ }
+) -> MoveReply
+    ensures { λ r. ⌜ r ≡ try-reply (calls.try-move (lent a d e (now (starts .entry)) (now (dependencies .entry)) (now (hosts .entry))) (now (fixed .entry)) n (now (area .entry)) atom (now (bits .entry)) .answer) ⌝ }
     ensures { λ _. ⌜ now (area .exit) ≡ calls.try-move (lent a d e (now (starts .entry)) (now (dependencies .entry)) (now (hosts .entry))) (now (fixed .entry)) n (now (area .entry)) atom (now (bits .entry)) .area ⌝ }
 {
     of_move(reduced_chunk_graph::try_move(

@@ -12,6 +12,7 @@ use Rattle.merge_state.specs.Table as merged
 use Rattle.chunk_optimizer.specs.declared.PassAnswer.{PassAnswer}
 use Rattle.chunk_optimizer.specs.declared.PassAnswer.the-variants as passed
 use Rattle.nidskalm_replies.specs.declared.Reply.{Reply}
+use Rattle.nidskalm_replies.specs.declared.MoveReply.{MoveReply}
 use Rattle.nidskalm_replies.specs.declared.SetReply.{SetReply}
 use Rattle.nidskalm_replies.specs.declared.EdgeReply.{EdgeReply}
 
@@ -23,17 +24,37 @@ refusing q = record { refusal = q; value = 0 }
 abbrev pub answering : ℕ → Reply
 answering k = record { refusal = 0; value = k }
 
--- the calls of the move graph, `atom_set` and `edge_at` apart
+-- the calls of the move graph, `try_move`, `atom_set` and `edge_at` apart
 unfoldable pub move-reply : moved.Answer → Reply
 move-reply (moved.refused q) = refusing q
 move-reply moved.acyclic = answering 0
 move-reply moved.cyclic = answering 1
 move-reply moved.rejected = answering 0
-move-reply moved.accepted = answering 1
+move-reply (moved.accepted r) = answering 1
 move-reply (moved.number k) = answering k
 move-reply (moved.set s) = answering 0
 move-reply (moved.edge e) = answering 0
 move-reply moved.none = answering 0
+
+-- row q refuses the move
+abbrev pub no-move : ℕ → MoveReply
+no-move q = record { refusal = q; accepted = 0; appeared = 0; vanished = 0 }
+
+-- the move isn't refused
+abbrev pub moving : ℕ → ℕ → ℕ → MoveReply
+moving yes come gone = record { refusal = 0; accepted = yes; appeared = come; vanished = gone }
+
+-- `try_move`. 02: "Rejected moves report zeros"
+unfoldable pub try-reply : moved.Answer → MoveReply
+try-reply (moved.refused q) = no-move q
+try-reply moved.rejected = moving 0 0 0
+try-reply (moved.accepted r) = moving 1 (r .appeared) (r .vanished)
+try-reply moved.acyclic = no-move 0
+try-reply moved.cyclic = no-move 0
+try-reply (moved.number k) = no-move 0
+try-reply (moved.set s) = no-move 0
+try-reply (moved.edge e) = no-move 0
+try-reply moved.none = no-move 0
 
 -- a set's four numbers
 abbrev pub set-answering : ℕ → List ℕ → SetReply
@@ -46,7 +67,7 @@ set-reply (moved.set s) = set-answering 0 s
 set-reply moved.acyclic = set-answering 0 []
 set-reply moved.cyclic = set-answering 0 []
 set-reply moved.rejected = set-answering 0 []
-set-reply moved.accepted = set-answering 0 []
+set-reply (moved.accepted r) = set-answering 0 []
 set-reply (moved.number k) = set-answering 0 []
 set-reply (moved.edge e) = set-answering 0 []
 set-reply moved.none = set-answering 0 []
@@ -70,7 +91,7 @@ edge-reply moved.none = no-edge 0
 edge-reply moved.acyclic = no-edge 0
 edge-reply moved.cyclic = no-edge 0
 edge-reply moved.rejected = no-edge 0
-edge-reply moved.accepted = no-edge 0
+edge-reply (moved.accepted r) = no-edge 0
 edge-reply (moved.number k) = no-edge 0
 edge-reply (moved.set s) = no-edge 0
 

@@ -6,7 +6,7 @@ ghost use Rattle.merge_target.specs.Answers.{target-told};
 ghost use mathlib.Core.List.{[], _∷_};
 ghost use Rattle.entry_set.specs.Sets.{value};
 ghost use Rattle.chunk_optimizer.specs.declared.TempIdxAnswer.the-variants as temps;
-ghost use Rattle.nidskalm_replies.specs.Replies.{refusing, answering, no-edge, an-edge, move-reply, set-reply, edge-reply, merge-reply, pass-reply};
+ghost use Rattle.nidskalm_replies.specs.Replies.{refusing, answering, moving, no-edge, an-edge, move-reply, try-reply, set-reply, edge-reply, merge-reply, pass-reply};
 use chunk_optimizer::DoneAnswer;
 use chunk_optimizer::OptionChunkIdx;
 use chunk_optimizer::PassAnswer;
@@ -24,6 +24,15 @@ use reduced_chunk_graph::SetAnswer;
 pub struct Reply {
     pub refusal: u64,
     pub value: u64,
+}
+
+// `accepted` is 1 or 0; where it is 1, how many distinct edges appeared and vanished.
+#[repr(C)]
+pub struct MoveReply {
+    pub refusal: u64,
+    pub accepted: u64,
+    pub appeared: u64,
+    pub vanished: u64,
 }
 
 // A set is four numbers, the lowest first.
@@ -82,13 +91,30 @@ pub fn of_load(answer: LoadAnswer) -> Reply
     }
 }
 
-pub fn of_move(answer: MoveAnswer) -> Reply
-    ensures { λ r. ⌜ r ≡ move-reply (ofMove answer) ⌝ }
+// The move isn't refused.
+fn tried(accepted: u64, appeared: u64, vanished: u64) -> MoveReply
+    ensures { λ r. ⌜ r ≡ moving accepted appeared vanished ⌝ }
+{
+    MoveReply {
+        refusal: 0,
+        accepted: accepted,
+        appeared: appeared,
+        vanished: vanished,
+    }
+}
+
+pub fn of_move(answer: MoveAnswer) -> MoveReply
+    ensures { λ r. ⌜ r ≡ try-reply (ofMove answer) ⌝ }
 {
     match answer {
-        MoveAnswer::Accepted => answered(1),
-        MoveAnswer::Rejected => answered(0),
-        MoveAnswer::Refused(q) => refused(q),
+        MoveAnswer::Accepted(moved) => tried(1, moved.appeared as u64, moved.vanished as u64),
+        MoveAnswer::Rejected => tried(0, 0, 0),
+        MoveAnswer::Refused(q) => MoveReply {
+            refusal: q as u64,
+            accepted: 0,
+            appeared: 0,
+            vanished: 0,
+        },
     }
 }
 

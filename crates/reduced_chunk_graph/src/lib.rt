@@ -18,9 +18,9 @@ pub enum LoadAnswer {
     Refused(u32),
 }
 
-// What `try_move` answers.
+// What `try_move` answers. An accepted move reports how many distinct edges appeared and vanished.
 pub enum MoveAnswer {
-    Accepted,
+    Accepted(move_try::Moved),
     Rejected,
     Refused(u32),
 }

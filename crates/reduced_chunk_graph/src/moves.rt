@@ -40,7 +40,7 @@ fn go_on(
     }
     let tried = move_try::try_checked(a, d, e, n, starts, dependencies, hosts, area, atom, target);
     match tried {
-        move_try::Tried::Accepted => MoveAnswer::Accepted,
+        move_try::Tried::Accepted(moved) => MoveAnswer::Accepted(moved),
         move_try::Tried::Rejected => MoveAnswer::Rejected,
     }
 }

@@ -3,7 +3,7 @@ use crate::merges_model::Size;
 use crate::moves_model::Load;
 use crate::sets::Set;
 
-pub use crate::raw::{EdgeReply, Reply, SetReply};
+pub use crate::raw::{EdgeReply, MoveReply, Reply, SetReply};
 
 impl Reply {
     pub fn refused(refusal: u64) -> Self {
@@ -12,6 +12,21 @@ impl Reply {
 
     pub fn value(value: u64) -> Self {
         Self { refusal: 0, value }
+    }
+}
+
+impl MoveReply {
+    pub fn refused(refusal: u64) -> Self {
+        Self { refusal, ..Self::default() }
+    }
+
+    /// "Rejected moves report zeros."
+    pub fn rejected() -> Self {
+        Self::default()
+    }
+
+    pub fn accepted(appeared: u64, vanished: u64) -> Self {
+        Self { refusal: 0, accepted: 1, appeared, vanished }
     }
 }
 
@@ -55,7 +70,7 @@ pub struct MergeLoad {
 /// One name for every call of the C interface.
 pub trait Library {
     fn move_new(&self, load: &Load, sets: &[u64], area: &mut [u32]) -> Reply;
-    fn try_move(&self, load: &Load, area: &mut [u32], atom: u32, bits: &[u64]) -> Reply;
+    fn try_move(&self, load: &Load, area: &mut [u32], atom: u32, bits: &[u64]) -> MoveReply;
     fn atom_set(&self, load: &Load, area: &[u32], atom: u32) -> SetReply;
     fn atom_count(&self, load: &Load, area: &[u32], bits: &[u64]) -> Reply;
     fn multiplicity(&self, load: &Load, area: &[u32], from: &[u64], to: &[u64]) -> Reply;
@@ -89,7 +104,7 @@ pub struct Ours;
 
 #[cfg(feature = "ours")]
 mod ours {
-    use super::{EdgeReply, Library, MergeLoad, Ours, Reply, SetReply};
+    use super::{EdgeReply, Library, MergeLoad, MoveReply, Ours, Reply, SetReply};
     use crate::merges_model::Size;
     use crate::moves_model::Load;
     use crate::raw;
@@ -122,7 +137,7 @@ mod ours {
             with_load!(nidskalm_reduced_chunk_graph_new, load, sets.as_ptr(), sets.len(), area.as_mut_ptr(), area.len())
         }
 
-        fn try_move(&self, load: &Load, area: &mut [u32], atom: u32, bits: &[u64]) -> Reply {
+        fn try_move(&self, load: &Load, area: &mut [u32], atom: u32, bits: &[u64]) -> MoveReply {
             let (lent, length) = (area.as_mut_ptr(), area.len());
             with_load!(nidskalm_reduced_chunk_graph_try_move, load, lent, length, atom, bits.as_ptr(), bits.len())
         }

@@ -1,6 +1,6 @@
 //! Move graph cases: what is run, compared and shrunk.
 use crate::layout::MoveLayout;
-use crate::library::{EdgeReply, Library, Reply, SetReply};
+use crate::library::{EdgeReply, Library, MoveReply, Reply, SetReply};
 use crate::moves_model::{Load, MoveState, NONE, entry_sets, load_refusal, whole};
 use crate::moves_views::{model_view, original_answer, original_lists};
 use crate::original::OriginalMoves;
@@ -66,6 +66,7 @@ pub struct MoveCase {
 
 #[derive(Clone, Copy, Debug, PartialEq, Eq)]
 pub enum Answer {
+    Moved(MoveReply),
     Reply(Reply),
     Set(SetReply),
     Edge(EdgeReply),
@@ -74,6 +75,7 @@ pub enum Answer {
 impl Answer {
     pub fn refusal(self) -> u64 {
         match self {
+            Self::Moved(reply) => reply.refusal,
             Self::Reply(reply) => reply.refusal,
             Self::Set(reply) => reply.refusal,
             Self::Edge(reply) => reply.refusal,
@@ -82,6 +84,7 @@ impl Answer {
 
     fn refused(call: &MoveCall, row: u64) -> Self {
         match call {
+            MoveCall::Move { .. } => Self::Moved(MoveReply::refused(row)),
             MoveCall::AtomSet { .. } => Self::Set(SetReply::refused(row)),
             MoveCall::EdgeAt { .. } => Self::Edge(EdgeReply::refused(row)),
             _ => Self::Reply(Reply::refused(row)),
@@ -91,7 +94,7 @@ impl Answer {
 
 pub fn library_answer(library: &dyn Library, load: &Load, area: &mut [u32], call: &MoveCall) -> Answer {
     match call {
-        MoveCall::Move { atom, bits } => Answer::Reply(library.try_move(load, area, *atom, bits)),
+        MoveCall::Move { atom, bits } => Answer::Moved(library.try_move(load, area, *atom, bits)),
         MoveCall::AtomSet { atom } => Answer::Set(library.atom_set(load, area, *atom)),
         MoveCall::AtomCount { bits } => Answer::Reply(library.atom_count(load, area, bits)),
         MoveCall::Multiplicity { from, to } => Answer::Reply(library.multiplicity(load, area, from, to)),
@@ -103,7 +106,7 @@ pub fn library_answer(library: &dyn Library, load: &Load, area: &mut [u32], call
 
 pub fn model_answer(load: &Load, state: &mut MoveState, call: &MoveCall) -> Answer {
     match call {
-        MoveCall::Move { atom, bits } => Answer::Reply(state.try_move(load, *atom, bits)),
+        MoveCall::Move { atom, bits } => Answer::Moved(state.try_move(load, *atom, bits)),
         MoveCall::AtomSet { atom } => Answer::Set(state.ledger().atom_set(load, *atom)),
         MoveCall::AtomCount { bits } => Answer::Reply(state.ledger().atom_count(load, bits)),
         MoveCall::Multiplicity { from, to } => Answer::Reply(state.ledger().multiplicity(load, from, to)),
@@ -259,11 +262,11 @@ impl Running<'_> {
         counts.evicted += u64::from(new.is_some() && before.len() == self.state.registered.len());
     }
 
-    /// The original's move against the model's.
-    fn same_move(&mut self, load: &Load, atom: u32, bits: &[u64], value: u64) -> Result<(), String> {
+    /// The original's move against the model's: "Where .. the Rust and ours are compared, these numbers are left out".
+    fn same_move(&mut self, load: &Load, atom: u32, bits: &[u64], reply: MoveReply) -> Result<(), String> {
         let Some(original) = &mut self.original else { return Ok(()) };
         let accepted = original.try_move(atom, &BitSet::from_words(bits));
-        same("original against the model", &u64::from(accepted), &value)?;
+        same("original against the model", &u64::from(accepted), &reply.accepted)?;
         let theirs = original.view();
         same("original's state against the model", &theirs, &model_view(load, &self.state, &self.seen))?;
         same("original's counter", &original.mark(), &self.state.counter)?;
@@ -273,8 +276,8 @@ impl Running<'_> {
 
     /// The original's answer, where it has one, against the model's.
     fn same_original(&mut self, load: &Load, call: &MoveCall, answer: Answer) -> Result<(), String> {
-        if let (MoveCall::Move { atom, bits }, Answer::Reply(Reply { refusal: 0, value })) = (call, answer) {
-            return self.same_move(load, *atom, bits, value);
+        if let (MoveCall::Move { atom, bits }, Answer::Moved(reply @ MoveReply { refusal: 0, .. })) = (call, answer) {
+            return self.same_move(load, *atom, bits, reply);
         }
         match (&self.view, answer.refusal()) {
             (Some(view), 0) => same("original against the model", &original_answer(view, call).unwrap(), &answer),
@@ -314,8 +317,8 @@ impl MoveCase {
             let answer = model_answer(load, &mut running.state, call);
             running.note_registered(&sets, counts);
             counts.refused(answer.refusal());
-            if let (MoveCall::Move { .. }, Answer::Reply(Reply { refusal: 0, value })) = (call, answer) {
-                if value == 1 { counts.accepted += 1 } else { counts.rejected += 1 }
+            if let Answer::Moved(MoveReply { refusal: 0, accepted, .. }) = answer {
+                if accepted == 1 { counts.accepted += 1 } else { counts.rejected += 1 }
             }
             running.same_original(load, call, answer).map_err(at)?;
             running.same_library(load, call, answer).map_err(at)?;

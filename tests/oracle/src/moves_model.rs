@@ -2,7 +2,7 @@
 use std::collections::{BTreeMap, BTreeSet};
 
 use crate::layout::MoveLayout;
-use crate::library::{EdgeReply, Reply, SetReply};
+use crate::library::{EdgeReply, MoveReply, Reply, SetReply};
 use crate::sets::{Set, lent_set, width};
 
 pub const NONE: u32 = u32::MAX;
@@ -94,6 +94,11 @@ pub fn multiplicities(load: &Load, place: &[Set]) -> BTreeMap<(Set, Set), u32> {
         }
     }
     edges
+}
+
+/// How many distinct edges the second graph has that the first hasn't: "an edge in both counting as neither".
+pub fn gained(before: &BTreeMap<(Set, Set), u32>, after: &BTreeMap<(Set, Set), u32>) -> u64 {
+    after.keys().filter(|edge| !before.contains_key(edge)).count() as u64
 }
 
 /// The chunk graph of a placement.
@@ -204,33 +209,35 @@ impl Ledger {
     }
 
     /// A move, after rows 1 to 9.
-    pub fn try_move(&mut self, load: &Load, atom: u32, bits: &[u64]) -> (Reply, Step) {
+    pub fn try_move(&mut self, load: &Load, atom: u32, bits: &[u64]) -> (MoveReply, Step) {
         if u64::from(atom) >= load.a {
-            return (Reply::refused(10), Step::Nothing);
+            return (MoveReply::refused(10), Step::Nothing);
         }
         if load.fixed[atom as usize] != 0 {
-            return (Reply::refused(24), Step::Nothing);
+            return (MoveReply::refused(24), Step::Nothing);
         }
-        let Some(target) = lent_set(bits, load.e) else { return (Reply::refused(11), Step::Nothing) };
+        let Some(target) = lent_set(bits, load.e) else { return (MoveReply::refused(11), Step::Nothing) };
         let atom = atom as usize;
         if target == self.place[atom] {
-            return (Reply::refused(12), Step::Nothing);
+            return (MoveReply::refused(12), Step::Nothing);
         }
         let graph = Graph::new(load, &self.place);
         let acyclic = !graph.cyclic();
         if !acyclic && !graph.component().contains(&self.place[atom]) {
-            return (Reply::value(0), Step::Nothing);
+            return (MoveReply::rejected(), Step::Nothing);
         }
         if !self.registered.contains(&target) {
             self.register(load, target);
         }
         let mut moved = self.place.clone();
         moved[atom] = target;
-        let accepted = !Graph::new(load, &moved).cyclic();
-        if accepted {
-            self.place = moved;
+        let after = Graph::new(load, &moved);
+        if after.cyclic() {
+            return (MoveReply::rejected(), Step::Tried { acyclic, accepted: false });
         }
-        (Reply::value(accepted.into()), Step::Tried { acyclic, accepted })
+        self.place = moved;
+        let reply = MoveReply::accepted(gained(&graph.edges, &after.edges), gained(&after.edges, &graph.edges));
+        (reply, Step::Tried { acyclic, accepted: true })
     }
 
     pub fn atom_set(&self, load: &Load, atom: u32) -> SetReply {
@@ -345,7 +352,7 @@ impl MoveState {
     }
 
     /// The state after a move, by the ledger's step.
-    pub fn try_move(&mut self, load: &Load, atom: u32, bits: &[u64]) -> Reply {
+    pub fn try_move(&mut self, load: &Load, atom: u32, bits: &[u64]) -> MoveReply {
         let mut ledger = self.ledger();
         let (reply, step) = ledger.try_move(load, atom, bits);
         let Step::Tried { acyclic, accepted } = step else { return reply };
@@ -380,7 +387,7 @@ impl MoveState {
 /// A whole call on an area: checks, answer, area afterwards.
 pub mod whole {
     use super::{Load, MoveState, entry_sets, load_refusal};
-    use crate::library::Reply;
+    use crate::library::{MoveReply, Reply};
     use crate::sets::width;
 
     pub fn new(load: &Load, sets: &[u64], area: &mut [u32]) -> Reply {
@@ -402,10 +409,10 @@ pub mod whole {
         MoveState::decode(load, area).ok_or(9)
     }
 
-    pub fn try_move(load: &Load, area: &mut [u32], atom: u32, bits: &[u64]) -> Reply {
+    pub fn try_move(load: &Load, area: &mut [u32], atom: u32, bits: &[u64]) -> MoveReply {
         let mut state = match open(load, area) {
             Ok(state) => state,
-            Err(refusal) => return Reply::refused(refusal),
+            Err(refusal) => return MoveReply::refused(refusal),
         };
         let reply = state.try_move(load, atom, bits);
         if reply.refusal == 0 {

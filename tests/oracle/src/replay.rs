@@ -1,6 +1,6 @@
 //! Replays recorded cases on a library.
 use crate::layout::MergeLayout;
-use crate::library::{EdgeReply, Library, MergeLoad, Reply, SetReply};
+use crate::library::{EdgeReply, Library, MergeLoad, MoveReply, Reply, SetReply};
 use crate::merges_model::Size;
 use crate::moves_model::Load;
 use crate::record::{BEFORE, MOVE_CASE};
@@ -40,6 +40,10 @@ impl Reader<'_> {
         Reply { refusal: self.one(), value: self.one() }
     }
 
+    fn moved(&mut self) -> MoveReply {
+        MoveReply { refusal: self.one(), accepted: self.one(), appeared: self.one(), vanished: self.one() }
+    }
+
     fn set(&mut self, w: u64) -> Set {
         Set::from_words(&self.list(w))
     }
@@ -68,7 +72,8 @@ fn replay_moves(library: &dyn Library, reader: &mut Reader) -> Result<(), String
         match reader.one() {
             1 => {
                 let (atom, bits) = (reader.small(), reader.list(w));
-                expect(place, library.try_move(&load, &mut area, atom, &bits), reader.reply())?;
+                let ours = library.try_move(&load, &mut area, atom, &bits);
+                expect(place, ours, reader.moved())?;
             }
             2 => {
                 let ours = library.atom_set(&load, &area, reader.small());

@@ -1,6 +1,6 @@
 //! A stand-in for the library, over the model, with bugs that can be planted: it shows that the runs find them.
 use crate::layout::{MergeLayout, MoveLayout};
-use crate::library::{EdgeReply, Library, MergeLoad, Reply, SetReply};
+use crate::library::{EdgeReply, Library, MergeLoad, MoveReply, Reply, SetReply};
 use crate::merges_calls::{self, MergeCall};
 use crate::merges_model::Size;
 use crate::moves_model::{Graph, Load, MoveState, whole};
@@ -10,7 +10,7 @@ use crate::sets::{Set, lent_set, width};
 pub const HARMLESS: &str = "loading clears the flags of chunks not yet made";
 
 /// Bugs by name; the first two are none.
-pub const PLANTS: [&str; 58] = [
+pub const PLANTS: [&str; 62] = [
     "none",
     HARMLESS,
     "repeated dependency counted once",
@@ -46,6 +46,10 @@ pub const PLANTS: [&str; 58] = [
     "11 before 10",
     "12 before 11",
     "24 after 11",
+    "edges removed before edges are added",
+    "an edge more told at every addition",
+    "appeared and vanished exchanged",
+    "a rejected move reports its trial",
     "a fixed atom moves",
     "a mark kept as lent",
     "fixed flags not checked by 9",
@@ -121,24 +125,24 @@ impl Library for StandIn {
         reply
     }
 
-    fn try_move(&self, load: &Load, area: &mut [u32], atom: u32, bits: &[u64]) -> Reply {
+    fn try_move(&self, load: &Load, area: &mut [u32], atom: u32, bits: &[u64]) -> MoveReply {
         let (seen, mut state) = match self.open(load, area, false) {
             Ok(open) => open,
-            Err(9) if self.planted("10 before 9") && u64::from(atom) >= load.a => return Reply::refused(10),
-            Err(row) => return Reply::refused(row),
+            Err(9) if self.planted("10 before 9") && u64::from(atom) >= load.a => return MoveReply::refused(10),
+            Err(row) => return MoveReply::refused(row),
         };
         let wrong_set = lent_set(bits, load.e).is_none();
         if self.planted("11 before 10") && wrong_set {
-            return Reply::refused(11);
+            return MoveReply::refused(11);
         }
         if self.planted("12 before 11") && wrong_set && u64::from(atom) < load.a && bits.len() <= 4 {
             // A list of the wrong length that names the present set.
             if Set::from_words(bits) == state.ledger().place[atom as usize] {
-                return Reply::refused(12);
+                return MoveReply::refused(12);
             }
         }
         if self.planted("24 after 11") && wrong_set && load.fixed.get(atom as usize).is_some_and(|&mark| mark != 0) {
-            return Reply::refused(11);
+            return MoveReply::refused(11);
         }
         let at = load.layout();
         let reply = self.move_state(&seen, &mut state, atom, bits);

@@ -1,11 +1,13 @@
 //! The stand-in library's move graph.
-use std::collections::BTreeSet;
+use std::collections::{BTreeMap, BTreeSet};
 
 use crate::layout::MoveLayout;
-use crate::library::Reply;
-use crate::moves_model::{Graph, Load, MoveState, NONE, entry_sets, load_refusal};
+use crate::library::MoveReply;
+use crate::moves_model::{Graph, Load, MoveState, NONE, entry_sets, gained, load_refusal, multiplicities};
 use crate::sets::{Set, lent_set, width, words};
 use crate::stand_in_library::StandIn;
+
+type Edges = BTreeMap<(Set, Set), u32>;
 
 impl StandIn {
     /// The load as a planted bug sees it; its sizes stay.
@@ -85,7 +87,7 @@ impl StandIn {
         area
     }
 
-    pub(crate) fn move_state(&self, load: &Load, state: &mut MoveState, atom: u32, bits: &[u64]) -> Reply {
+    pub(crate) fn move_state(&self, load: &Load, state: &mut MoveState, atom: u32, bits: &[u64]) -> MoveReply {
         let mut load = load.clone();
         if self.planted("a fixed atom moves") {
             load.fixed.fill(0);
@@ -102,14 +104,41 @@ impl StandIn {
             }
         }
         let before = (state.counter, state.marks.clone());
-        let reply = state.try_move(&load, atom, bits);
+        let place = state.ledger().place;
+        let reply = self.miscounted(&load, &place, atom, bits, state.try_move(&load, atom, bits));
         if self.planted("stale marks") {
             (state.counter, state.marks) = before;
-        } else if self.planted("early exit of the walk") && reply == Reply::value(0) && state.counter != before.0 {
+        } else if self.planted("early exit of the walk") && reply == MoveReply::rejected() && state.counter != before.0 {
             state.marks = before.1;
         } else if self.planted("counter wraps to 0") && before.0 == u32::MAX && state.counter == 1 {
             state.counter = 0;
             state.marks.fill(0);
+        }
+        reply
+    }
+
+    /// The edges that come and go as a planted bug counts them.
+    fn miscounted(&self, load: &Load, place: &[Set], atom: u32, bits: &[u64], reply: MoveReply) -> MoveReply {
+        let (MoveReply { refusal: 0, accepted, appeared, vanished }, Some(target)) = (reply, lent_set(bits, load.e)) else {
+            return reply;
+        };
+        let mut moved = place.to_vec();
+        moved[atom as usize] = target;
+        let (before, after) = (multiplicities(load, place), multiplicities(load, &moved));
+        if accepted == 0 && self.planted("a rejected move reports its trial") {
+            return MoveReply { accepted, ..MoveReply::accepted(gained(&before, &after), gained(&after, &before)) };
+        }
+        if accepted == 1 && self.planted("appeared and vanished exchanged") {
+            return MoveReply::accepted(vanished, appeared);
+        }
+        if accepted == 1 && self.planted("an edge more told at every addition") {
+            let more = after.iter().map(|(edge, &count)| count.saturating_sub(before.get(edge).map_or(0, |&old| old)));
+            return MoveReply::accepted(more.map(u64::from).sum(), vanished);
+        }
+        if accepted == 1 && self.planted("edges removed before edges are added") {
+            // What goes with the atom is gone before what comes with it is there: an edge of both that only the atom makes is counted twice.
+            let twice = both_ways(load, place, &moved, &before, &after);
+            return MoveReply::accepted(appeared + twice, vanished + twice);
         }
         reply
     }
@@ -131,14 +160,14 @@ impl StandIn {
     }
 
     /// An answer without a look at the graph.
-    fn early_answer(&self, trial: Trial) -> Option<Reply> {
+    fn early_answer(&self, trial: Trial) -> Option<MoveReply> {
         if trial.stays() && self.planted("12 left out") {
-            return Some(Reply::value(1));
+            return Some(MoveReply::accepted(0, 0));
         }
         if self.planted("13 where all places are taken") && trial.unseen && trial.full {
-            return Some(Reply::refused(13));
+            return Some(MoveReply::refused(13));
         }
-        (self.planted("rejects every move") && trial.has_room()).then_some(Reply::value(0))
+        (self.planted("rejects every move") && trial.has_room()).then_some(MoveReply::rejected())
     }
 
     /// Another set than the smallest empty one gives up its place, or one does although step 1 rejects the move.
@@ -174,7 +203,7 @@ impl StandIn {
     }
 
     /// A set is registered although step 1 rejects the move.
-    fn two_components(&self, load: &Load, state: &mut MoveState, trial: Trial) -> Option<Reply> {
+    fn two_components(&self, load: &Load, state: &mut MoveState, trial: Trial) -> Option<MoveReply> {
         if !self.planted("two components stored") || !trial.unseen || !trial.has_room() {
             return None;
         }
@@ -183,11 +212,11 @@ impl StandIn {
             return None;
         }
         state.registered.push(trial.target);
-        Some(Reply::value(0))
+        Some(MoveReply::rejected())
     }
 
     /// A move is accepted because the target doesn't reach itself, although the graph was cyclic.
-    fn walked_from_target(&self, load: &Load, state: &mut MoveState, trial: Trial) -> Option<Reply> {
+    fn walked_from_target(&self, load: &Load, state: &mut MoveState, trial: Trial) -> Option<MoveReply> {
         if !self.planted("walk only from the target while cyclic") || !trial.has_room() {
             return None;
         }
@@ -206,19 +235,42 @@ impl StandIn {
         }
         let node = state.registered.iter().position(|&set| set == trial.target).unwrap();
         state.node[trial.atom as usize] = node as u32;
-        Some(Reply::value(1))
+        Some(MoveReply::accepted(gained(&graph.edges, &moved.edges), gained(&moved.edges, &graph.edges)))
     }
 
     /// The edge of the left set's bit still counts: a move is rejected for it.
-    fn facade_kept(&self, load: &Load, state: &MoveState, trial: Trial) -> Option<Reply> {
+    fn facade_kept(&self, load: &Load, state: &MoveState, trial: Trial) -> Option<MoveReply> {
         if !self.planted("facade of an empty set kept") {
             return None;
         }
         let reply = state.clone().try_move(load, trial.atom, &words(trial.target, load.e));
         let alone = state.ledger().place.iter().filter(|&&set| set == trial.present).count() == 1;
         let host = (0..load.e as usize).find(|&bit| Set::single(bit) == trial.present).map(|bit| load.hosts[bit]);
-        (reply == Reply::value(1) && alone && host == Some(trial.atom)).then_some(Reply::value(0))
+        (reply.accepted == 1 && alone && host == Some(trial.atom)).then_some(MoveReply::rejected())
     }
+}
+
+/// How many edges both graphs have, with no dependency or facade that makes them in both.
+fn both_ways(load: &Load, place: &[Set], moved: &[Set], before: &Edges, after: &Edges) -> u64 {
+    let mut stays = Edges::new();
+    let mut count = |from: (Set, Set), to: (Set, Set)| {
+        if from == to {
+            *stays.entry(from).or_insert(0) += 1;
+        }
+    };
+    for atom in 0..load.a as usize {
+        for &other in load.of(atom) {
+            let other = other as usize;
+            count((place[atom], place[other]), (moved[atom], moved[other]));
+        }
+    }
+    for (bit, &host) in load.hosts.iter().enumerate() {
+        let set = Set::single(bit);
+        if host != NONE && place.contains(&set) && moved.contains(&set) {
+            count((set, place[host as usize]), (set, moved[host as usize]));
+        }
+    }
+    before.keys().filter(|edge| after.contains_key(edge) && !stays.contains_key(edge)).count() as u64
 }
 
 /// The state that an area shows, with nothing checked but that each atom's node is registered.

@@ -71,23 +71,23 @@ returns-4 c = twelve-fits (c .before .before .before .before .before .before .be
 try-checked-requires : tie.Need-try-checked-requires
 try-checked-requires c κs = can-try (c .before .before .before .before .before .before .before .before .before .before .before .before .before .before .before .before .before .before .pre) _ _ (omega arith) (c .before .before .before .before .before .before .before .before .before .if2 .left) (sym (c .before .before .before .before .before .before .before .before .is-legal .ensures) ∙ not-false _ (c .before .before .before .before .before .before .before .if3 .left)) _ _ _ refl (c .before .before .before .read-lanes .ensures .value) (c .before .before .before .before .before .before .from-list .ensures .value) (sym (c .before .before .equal .ensures) ∙ c .before .if4 .left)
 
+enum-known-tried : tie.Need-enum-known-tried
+enum-known-tried c = search needs
+
 enum-told : tie.Need-enum-told
 enum-told c = search needs
-
-enum-told-2 : tie.Need-enum-told-2
-enum-told-2 c = search needs
 
 same-length-2 : tie.Need-same-length-2
 same-length-2 c = search needs
 
 returns-5 : tie.Need-returns-5
-returns-5 c = tried-goes (c .before .before .before .before .before .before .before .before .before .before .before .before .before .before .before .before .before .before .before .before .before .before .before .pre) _ _ (omega arith) (c .before .before .before .before .before .before .before .before .before .before .before .before .before .before .if2 .left) (sym (c .before .before .before .before .before .before .before .before .before .before .before .before .before .is-legal .ensures) ∙ not-false _ (c .before .before .before .before .before .before .before .before .before .before .before .before .if3 .left)) _ _ _ refl (c .before .before .before .before .before .before .before .before .read-lanes .ensures .value) (c .before .before .before .before .before .before .before .before .before .before .before .from-list .ensures .value) _ _ (rw (c .enum-told .given .1) at (c .before .before .before .before .try-checked .ensures))
+returns-5 c = tried-goes (c .before .before .before .before .before .before .before .before .before .before .before .before .before .before .before .before .before .before .before .before .before .before .before .before .pre) _ _ (omega arith) (c .before .before .before .before .before .before .before .before .before .before .before .before .before .before .before .if2 .left) (sym (c .before .before .before .before .before .before .before .before .before .before .before .before .before .before .is-legal .ensures) ∙ not-false _ (c .before .before .before .before .before .before .before .before .before .before .before .before .before .if3 .left)) _ _ _ refl (c .before .before .before .before .before .before .before .before .before .read-lanes .ensures .value) (c .before .before .before .before .before .before .before .before .before .before .before .before .from-list .ensures .value) _ _ (rw (c .before .tried .given .1) at (c .before .before .before .before .before .try-checked .ensures))
 
 same-length-3 : tie.Need-same-length-3
 same-length-3 c = search needs
 
 returns-6 : tie.Need-returns-6
-returns-6 c = tried-goes (c .before .before .before .before .before .before .before .before .before .before .before .before .before .before .before .before .before .before .before .before .before .before .before .pre) _ _ (omega arith) (c .before .before .before .before .before .before .before .before .before .before .before .before .before .before .if2 .left) (sym (c .before .before .before .before .before .before .before .before .before .before .before .before .before .is-legal .ensures) ∙ not-false _ (c .before .before .before .before .before .before .before .before .before .before .before .before .if3 .left)) _ _ _ refl (c .before .before .before .before .before .before .before .before .read-lanes .ensures .value) (c .before .before .before .before .before .before .before .before .before .before .before .from-list .ensures .value) _ _ (rw (c .enum-told2 .given .1) at (c .before .before .before .before .try-checked .ensures))
+returns-6 c = tried-goes (c .before .before .before .before .before .before .before .before .before .before .before .before .before .before .before .before .before .before .before .before .before .before .before .pre) _ _ (omega arith) (c .before .before .before .before .before .before .before .before .before .before .before .before .before .before .if2 .left) (sym (c .before .before .before .before .before .before .before .before .before .before .before .before .before .is-legal .ensures) ∙ not-false _ (c .before .before .before .before .before .before .before .before .before .before .before .before .if3 .left)) _ _ _ refl (c .before .before .before .before .before .before .before .before .read-lanes .ensures .value) (c .before .before .before .before .before .before .before .before .before .before .before .from-list .ensures .value) _ _ (rw (c .enum-told .given .1) at (c .before .before .before .before .try-checked .ensures))
 
 pub go-on-spec : {M : Type 1} → statement M
 go-on-spec =
@@ -114,8 +114,8 @@ go-on-spec =
     same-length
     returns-4
     try-checked-requires
+    enum-known-tried
     enum-told
-    enum-told-2
     same-length-2
     returns-5
     same-length-3
