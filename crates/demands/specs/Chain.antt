@@ -223,10 +223,17 @@ module _ (n : ℕ) (some : 0 < n) (few : n ≤ 512) (size : ℕ) (enough : row3 
 
   -- "and attains it": at most n - 1 are reached, since as many other sets are occupied
   pub moved-reach : reported (move (chain n) (unmarked n) (n + 1) (loaded (entry-sets (chain n) (sets n))) 0 ((n + 1) ∷ []) .answer) .reached ≡ n - 1
-  moved-reach =
-      move-reached (chain n) (unmarked n) (n + 1) (loaded (entry-sets (chain n) (sets n))) 0 ((n + 1) ∷ [])
-      ∙ rw (chain-moves, place-after (chain n) (unmarked n) (n + 1) (loaded (entry-sets (chain n) (sets n))) 0 ((n + 1) ∷ []) ∙ rw (chain-moves, entry-sets-are n, value-one) refl, value-one) all
+  unfolding move
+  moved-reach = move-reached (chain n) (unmarked n) (n + 1) (loaded (entry-sets (chain n) (sets n))) 0 ((n + 1) ∷ []) ∙ rw (there, yes, value-one) all
     where
+      yes : is-accepted (decide (chain n) (unmarked n) (entry-sets (chain n) (sets n)) 0 ((n + 1) ∷ [])) ≡ true
+      yes = chain-moves
+
+      there : move (chain n) (unmarked n) (n + 1) (loaded (entry-sets (chain n) (sets n))) 0 ((n + 1) ∷ []) .after .place ≡ moved n
+      there =
+          let e : cond (is-accepted (decide (chain n) (unmarked n) (entry-sets (chain n) (sets n)) 0 ((n + 1) ∷ []))) (set (entry-sets (chain n) (sets n)) 0 (value ((n + 1) ∷ []))) (entry-sets (chain n) (sets n)) ≡ moved n = rw (yes, entry-sets-are n, value-one) refl in
+          place-after (chain n) (unmarked n) (n + 1) (loaded (entry-sets (chain n) (sets n))) 0 ((n + 1) ∷ []) ∙ e
+
       long : length (moved n) ≡ n
       long = moved-long n some
 
@@ -234,8 +241,9 @@ module _ (n : ℕ) (some : 0 < n) (few : n ≤ 512) (size : ℕ) (enough : row3 
       all =
           omega (
             arith,
-            reach-all (chain n) (moved n) (n + 1) (subst (λ X. has X (moved n) ≡ true) (moved-first n some) (has-at (moved n) 0 (omega arith))) (moved-reaches n some),
-            rising-length (moved n) (λ i j a b. moved-apart n some i j a (omega arith)),
+            reach-all (chain n) (moved n) (n + 1) (subst (λ X. has X (moved n) ≡ true) (moved-first n some) (has-at (moved n) 0 (omega (arith, long)))) (moved-reaches n some),
+            rising-length (moved n) (λ i j a b. moved-apart n some i j a (omega (arith, long))),
+            long,
           )
 
 -- and so answer the calls, on every work area that is long enough

@@ -189,7 +189,9 @@ move-reports load fixed N l a s = rw (reports load fixed N l a s) (go (is-accept
     go : (t : Bool) → is-accepted (decide load fixed (l .place) a s) ≡ t
         → Told load (l .place) (move load fixed N l a s .after .place) (cond t (report load (l .place) (move load fixed N l a s .after .place) (value s)) zeros)
     go true h = record { appeared = refl; vanished = refl }
-    go false h = rw (place-after load fixed N l a s ∙ rw h refl) (record { appeared = sym (gained-same load (l .place)); vanished = sym (gained-same load (l .place)) })
+    go false h =
+        let stays : move load fixed N l a s .after .place ≡ l .place = place-after load fixed N l a s ∙ rw h refl in
+        rw stays (record { appeared = sym (gained-same load (l .place)); vanished = sym (gained-same load (l .place)) })
 
 -- distinct edges after the move + vanished = distinct edges before it + appeared
 pub move-changes : (load : Load) (fixed : List ℕ) (N : ℕ) (l : Ledger) (a : ℕ) (s : List ℕ) → length (l .place) ≡ load .A

@@ -1,7 +1,7 @@
 -- 02, (xii): what a move reports of the chunks that the moved atom's chunk reaches. Assumes nothing.
 use Prim.Native.Nat.{ℕ, _-_, _≤_, _<_}
 use native.Mathlib.Omega.{arith}
-use mathlib.Core.Path.{_≡_, refl, sym, ap, subst, _∙_}
+use mathlib.Core.Path.{_≡_, refl, sym, subst, _∙_}
 use mathlib.Core.Bool.{Bool, true, false, cond}
 use mathlib.Core.List.{List}
 use lib.ListN.{length, set, length-set}
@@ -40,7 +40,7 @@ module _ (load : Load) (fixed : List ℕ) (N : ℕ) (l : Ledger) (a : ℕ) (s : 
     where
       there : is-accepted (decide load fixed (l .place) a s) ≡ true → has (value s) (move load fixed N l a s .after .place) ≡ true
       there h =
-          let b : a < length (l .place) = omega (arith, leb-false _ _ (decide-accepted load fixed (l .place) a s h .passed .at10)) in
+          let b : a < length (l .place) = omega (arith, leb-false (load .A) a (decide-accepted load fixed (l .place) a s h .passed .at10)) in
           let m : has (value s) (set (l .place) a (value s)) ≡ true = subst (λ X. has X (set (l .place) a (value s)) ≡ true) (getD-set-same (l .place) a (value s) 0 b) (has-at (set (l .place) a (value s)) a (omega (arith, length-set (l .place) a (value s)))) in
           subst (λ q. has (value s) q ≡ true) (sym (place-after load fixed N l a s ∙ rw h refl)) m
 

@@ -16,11 +16,11 @@ use Rattle.graphs.specs.Slots.{slotEdge}
 use Rattle.graph_neighbours.specs.Lists.{edge, Graph}
 use Rattle.graph_slots.specs.Asked.{SlotLists, CanMark}
 use Rattle.graph_walks.specs.Marks.{marking, marked}
-use Rattle.layout.specs.Patch.{part, part-long, patch, patch-long, patch-out}
+use Rattle.layout.specs.Patch.{part, patch, patch-long, patch-out}
 use Rattle.move_area.specs.Bodies.{laneAt, atomAt}
 use Rattle.move_area.specs.Calls.{last, next}
 use Rattle.move_try.specs.Areas.{counterIn, raised}
-use Rattle.move_try.specs.Test.{CanTest, was-cyclic, walk-area, tested, marked-long, walk-marked, raised-long, raised-below}
+use Rattle.move_try.specs.Test.{CanTest, was-cyclic, walk-area, tested, walk-marked, raised-long, raised-below}
 
 -- where the graph had no cycle before, the nodes that `to` reaches are those with the counter as their mark
 pub record CanReach (area : List ℕ) (n to : ℕ) (heads list : List ℕ) : Type 0 where

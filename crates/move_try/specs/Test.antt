@@ -12,7 +12,6 @@ use Rattle.graph_slots.specs.Asked.{Slots, SlotLists, CanMark}
 use Rattle.graphs.specs.Lists.{below}
 use Rattle.graphs.specs.Tab.{tab-length, tab-at}
 use Rattle.graphs.specs.Walk.{via, cyclic}
-use Rattle.graphs.specs.Slots.{slotEdge}
 use Rattle.graph_neighbours.specs.Lists.{Graph}
 use Rattle.graph_walks.specs.Marks.{marking, marked}
 use Rattle.layout.specs.Patch.{patch, part, part-long, part-at, patch-long, patch-in}
