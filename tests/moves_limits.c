@@ -96,8 +96,8 @@ static void most_edges(void) {
     }
 }
 
-/* The load that the program `chain` writes for 512: each of 512 atoms depends on the next, atom 0 goes to set 513 and reaches the 511 others. The last atom,
- * which then goes to the empty set 1, reaches none; the one before it in set 512, empty now, one. */
+/* The load that the program `chain` writes for 512: each of 512 atoms depends on the next, atom 0 goes to set 513 and reaches the 511 others.
+ * The last atom, which then goes to the empty set 1, reaches none; the one before it, in set 512, empty now, reaches it. */
 static void longest_walk(void) {
     static uint32_t area[NIDSKALM_MOVE_AREA(512, 511, 10, 513)], starts[513], dependencies[511];
     static uint64_t sets[512];

@@ -42,7 +42,7 @@ no-move q = record { refusal = q; accepted = 0; appeared = 0; vanished = 0; reac
 
 -- the move isn't refused
 abbrev pub moving : ℕ → ℕ → ℕ → ℕ → MoveReply
-moving yes come gone reach = record { refusal = 0; accepted = yes; appeared = come; vanished = gone; reached = reach }
+moving told come gone reach = record { refusal = 0; accepted = told; appeared = come; vanished = gone; reached = reach }
 
 -- `try_move`. 02: "Rejected moves report zeros", "a rejected one 0"
 unfoldable pub try-reply : moved.Answer → MoveReply

@@ -26,7 +26,8 @@ pub struct Reply {
     pub value: u64,
 }
 
-// `accepted` is 1 or 0; where it is 1, how many distinct edges appeared and vanished, and how many other chunks the atom's chunk then reaches.
+// `accepted` is 1 or 0; where it is 1, how many distinct edges appeared and vanished, and how many other chunks the atom's
+// chunk then reaches.
 #[repr(C)]
 pub struct MoveReply {
     pub refusal: u64,
