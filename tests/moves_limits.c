@@ -74,8 +74,8 @@ static void month_of_moves(void) {
     say("accepted of them", accepted);
 }
 
-/* The first atom depends on all 511 others, each in a set of its own: with it its edges go to a new set, then to that of the next atom. There the
- * edge between the two goes and no other comes. */
+/* The first atom depends on all 511 others, each in a set of its own. With it its edges go to a new set, then to that of atom 1, where the one
+ * between the two goes. A refused move reports zeros. The last atom joins atom 2: one edge goes, and that to atom 2 is there already. */
 static void most_edges(void) {
     static uint32_t area[NIDSKALM_MOVE_AREA(512, 511, 10, 513)], starts[513], dependencies[511];
     static uint64_t sets[512];
