@@ -11,6 +11,7 @@ use Rattle.move_ledger.specs.Ledger.{kept, index, put, smallest-empty, free-pla
 use Rattle.move_ledger.specs.Loading.{row4, row5, row6, first-row, entry-sets, row7, row8, loading-row, loading}
 use Rattle.cases.specs.Run.{MoveCase, MoveOutcome, move-outcome, tries, every, shut}
 use Rattle.cases.specs.Moves.{move-cases}
+use Rattle.cases.specs.Loadings.{loadings}
 use Rattle.graph_walks.specs.Closed.{closed}
 use Rattle.graph_walks.specs.Counted.{counted, without}
 use Rattle.merge_state.specs.Merges.{ending}
@@ -40,7 +41,7 @@ expected (moves c) = moved (c .expected)
 expected (merges c) = fused (c .expected)
 
 abbrev pub table : List Case
-table = map moves move-cases ++ map merges merge-cases
+table = map moves (move-cases ++ loadings) ++ map merges merge-cases
 
 pub cases-right : map outcome table ≡ map expected table
 unfolding move-outcome tries every shut any all has below count tab via cyclic only joined parts owner lies members entry facade mult edge insert rising row rows edges sum gained reach kept index put smallest-empty free-place register decide move kth ask call answers ledger row4 row5 row6 first-row entry-sets row7 row8 loading-row loading closed counted without ending state.put misfit reachable warns methods.warn absorbed merged created-chunk methods.merges candidate passed first-fitting any-misfit later acted turned merge-outcome among turn replies-to left-by needed-by dependencies

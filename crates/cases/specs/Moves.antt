@@ -1,8 +1,8 @@
--- The bench cases of the move graph: P1 to P8 of 01, and further ones. Assumes nothing.
+-- The bench cases of the move graph: P1 to P8 of 01, and further ones; those of loading alone are in Loadings. Assumes nothing.
 use Prim.Native.Nat.{ℕ}
 use mathlib.Core.List.{List, [], _∷_, _++_}
 use lib.ListN.{replicate}
-use Rattle.move_ledger.specs.Graph.{Load, none}
+use Rattle.move_ledger.specs.Graph.{none}
 use Rattle.move_ledger.specs.Answer.{Answer, refused, acyclic, cyclic, accepted, rejected, set, number, edge}
 use Rattle.move_ledger.specs.Answer as answer
 use Rattle.move_ledger.specs.Ledger.{Ledger, try-move, asks, atom-set, atom-count, multiplicity, edge-count, edge-at}
@@ -12,10 +12,10 @@ abbrev nobody : ℕ → List ℕ
 nobody n = replicate n none
 
 -- no atom is fixed
-abbrev free : ℕ → List ℕ
+abbrev pub free : ℕ → List ℕ
 free n = replicate n 0
 
-abbrev kept : List ℕ → List ℕ → Ledger
+abbrev pub kept : List ℕ → List ℕ → Ledger
 kept place registered = record { place = place; registered = registered }
 
 -- an accepted move, with how many edges appeared and vanished, and how many other chunks the atom's chunk reaches
@@ -343,33 +343,5 @@ reaching =
           };
     }
 
--- not of 01: each row of loading. Two atoms, one dependency, two bits, sets 1 and 2 pass; each other case changes one thing, and what comes
--- later in the table may be wrong too
-abbrev lent : List ℕ → List ℕ → List ℕ → Load
-lent starts dependencies hosts = record { A = 2; D = 1; E = 2; starts = starts; dependencies = dependencies; hosts = hosts }
-
-abbrev pub marked : Load → List ℕ → ℕ → List ℕ → ℕ → Answer → MoveCase
-marked load fixed N sets size answer =
-    record { load = load; fixed = fixed; N = N; sets = sets; size = size; calls = []; expected = record { start = answer; replies = []; end = kept sets sets } }
-
-abbrev pub loads : Load → ℕ → List ℕ → ℕ → Answer → MoveCase
-loads load N sets size answer = marked load (free 2) N sets size answer
-
-abbrev pub loadings : List MoveCase
-loadings =
-    loads (lent (0 ∷ 1 ∷ 1 ∷ []) (1 ∷ []) (none ∷ 1 ∷ [])) 3 (1 ∷ 2 ∷ []) 225 acyclic
-    ∷ loads (lent (0 ∷ 1 ∷ 1 ∷ []) (1 ∷ []) (none ∷ 1 ∷ [])) 2 (1 ∷ 2 ∷ []) 225 (refused 1)
-    ∷ loads (lent (0 ∷ 1 ∷ 1 ∷ []) (1 ∷ 0 ∷ []) (none ∷ 1 ∷ [])) 3 (1 ∷ 2 ∷ []) 0 (refused 2)
-    ∷ marked (lent (0 ∷ 1 ∷ 1 ∷ []) (1 ∷ []) (none ∷ 1 ∷ [])) (free 1) 3 (1 ∷ 2 ∷ []) 0 (refused 2)
-    ∷ marked (lent (0 ∷ 1 ∷ 1 ∷ []) (1 ∷ []) (none ∷ 1 ∷ [])) (free 3) 3 (1 ∷ 2 ∷ []) 0 (refused 2)
-    ∷ marked (lent (0 ∷ 1 ∷ 1 ∷ []) (1 ∷ []) (none ∷ 1 ∷ [])) (free 1) 2 (1 ∷ 2 ∷ []) 0 (refused 1)
-    ∷ loads (lent (0 ∷ 1 ∷ 2 ∷ []) (1 ∷ []) (none ∷ 1 ∷ [])) 3 (1 ∷ 2 ∷ []) 224 (refused 3)
-    ∷ loads (lent (0 ∷ 1 ∷ 2 ∷ []) (2 ∷ []) (none ∷ 1 ∷ [])) 3 (1 ∷ 2 ∷ []) 225 (refused 4)
-    ∷ loads (lent (0 ∷ 1 ∷ 1 ∷ []) (0 ∷ []) (none ∷ 2 ∷ [])) 3 (1 ∷ 2 ∷ []) 225 (refused 5)
-    ∷ loads (lent (0 ∷ 1 ∷ 1 ∷ []) (1 ∷ []) (none ∷ 2 ∷ [])) 3 (4 ∷ 2 ∷ []) 225 (refused 6)
-    ∷ loads (lent (0 ∷ 1 ∷ 1 ∷ []) (1 ∷ []) (none ∷ 1 ∷ [])) 3 (4 ∷ 4 ∷ []) 225 (refused 7)
-    ∷ loads (lent (0 ∷ 1 ∷ 1 ∷ []) (1 ∷ []) (none ∷ 1 ∷ [])) 3 (3 ∷ 3 ∷ []) 225 (refused 8)
-    ∷ []
-
 abbrev pub move-cases : List MoveCase
-move-cases = P1 ∷ P2 ∷ P3 ∷ P4 ∷ P5 ∷ P6 ∷ P7 ∷ P8 ∷ evicting ∷ outside ∷ inside ∷ fixing ∷ all-fixed ∷ vanishing ∷ two-numbers ∷ returning ∷ reaching ∷ loadings
+move-cases = P1 ∷ P2 ∷ P3 ∷ P4 ∷ P5 ∷ P6 ∷ P7 ∷ P8 ∷ evicting ∷ outside ∷ inside ∷ fixing ∷ all-fixed ∷ vanishing ∷ two-numbers ∷ returning ∷ reaching ∷ []

@@ -108,7 +108,8 @@ impl StandIn {
         let reply = self.miscounted(&load, &place, atom, bits, state.try_move(&load, atom, bits));
         if self.planted("stale marks") {
             (state.counter, state.marks) = before;
-        } else if self.planted("early exit of the walk") && reply == MoveReply::rejected() && state.counter != before.0 {
+        } else if self.planted("early exit of the walk") && reply == MoveReply::rejected() && state.counter != before.0
+        {
             state.marks = before.1;
         } else if self.planted("counter wraps to 0") && before.0 == u32::MAX && state.counter == 1 {
             state.counter = 0;
