@@ -120,7 +120,8 @@ impl StandIn {
 
     /// The edges that come and go, and the chunks reached, as a planted bug counts them.
     fn miscounted(&self, load: &Load, place: &[Set], atom: u32, bits: &[u64], reply: MoveReply) -> MoveReply {
-        let (MoveReply { refusal: 0, accepted, appeared, vanished, reached }, Some(target)) = (reply, lent_set(bits, load.e))
+        let (MoveReply { refusal: 0, accepted, appeared, vanished, reached }, Some(target)) =
+            (reply, lent_set(bits, load.e))
         else {
             return reply;
         };
@@ -139,7 +140,11 @@ impl StandIn {
             return MoveReply::accepted(appeared, vanished, there);
         }
         if accepted == 1 && self.planted("the reach in one step") {
-            return MoveReply::accepted(appeared, vanished, after.keys().filter(|edge| edge.0 == target).count() as u64);
+            return MoveReply::accepted(
+                appeared,
+                vanished,
+                after.keys().filter(|edge| edge.0 == target).count() as u64,
+            );
         }
         if accepted == 1 && self.planted("the reach only from an acyclic graph") && old.cyclic() {
             return MoveReply::accepted(appeared, vanished, 0);
