@@ -83,9 +83,10 @@ typedef struct {
 } nidskalm_reply;
 
 /* accepted is 1 or 0. Where it is 1: how many distinct edges the graph has after the move that it hadn't before
- * (appeared), and how many it had that it hasn't any more (vanished); an edge in both counts as neither. Else zeros. */
+ * (appeared), and how many it had that it hasn't any more (vanished); an edge in both counts as neither; and how
+ * many other chunks the atom's chunk reaches after the move (reached). Else zeros. */
 typedef struct {
-    uint64_t refusal, accepted, appeared, vanished;
+    uint64_t refusal, accepted, appeared, vanished, reached;
 } nidskalm_move_reply;
 
 /* A set by value; unused numbers are 0. */

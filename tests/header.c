@@ -17,8 +17,8 @@ static void expect(const char *what, uint64_t refusal, uint64_t value, uint64_t 
     }
 }
 
-/* Whether a move is accepted, and the edges that appeared and vanished, as three digits. */
-#define COUNTED(moved) ((moved).accepted * 100 + (moved).appeared * 10 + (moved).vanished)
+/* Whether a move is accepted, the edges that appeared and vanished, and the chunks reached, as four digits. */
+#define COUNTED(moved) ((moved).accepted * 1000 + (moved).appeared * 100 + (moved).vanished * 10 + (moved).reached)
 
 static void moves(void) {
     const uint64_t sets[] = {3, 1, 2};
@@ -26,7 +26,7 @@ static void moves(void) {
     nidskalm_reply reply = nidskalm_reduced_chunk_graph_new(LOAD, sets, 3, area, length);
     expect("loading", reply.refusal, reply.value, 0, 0);
     nidskalm_move_reply moved = nidskalm_reduced_chunk_graph_try_move(LOAD, area, length, 0, &sets[1], 1);
-    expect("a move", moved.refusal, COUNTED(moved), 0, 112);
+    expect("a move", moved.refusal, COUNTED(moved), 0, 1120);
     moved = nidskalm_reduced_chunk_graph_try_move(LOAD, area, length, 1, &sets[0], 1);
     expect("a move that closes a cycle", moved.refusal, COUNTED(moved), 0, 0);
     moved = nidskalm_reduced_chunk_graph_try_move(LOAD, area, length, 3, &sets[0], 1);

@@ -117,6 +117,27 @@ static void most_edges(void) {
     totals(x, area, LENGTH(area));
 }
 
+/* The load that the program `chain` writes for 512: each of 512 atoms depends on the next, atom 0 goes to set 513 and reaches the 511 others.
+ * The last atom, which then goes to the empty set 1, reaches none; the one before it, in set 512, empty now, reaches it. */
+static void longest_walk(void) {
+    static uint32_t area[NIDSKALM_MOVE_AREA(512, 511, 10, 513)], starts[513], dependencies[511];
+    static uint64_t sets[512];
+    const uint64_t targets[] = {513, 1, 512};
+    const uint32_t atoms[] = {0, 511, 510};
+    const load x = {512, 511, 10, 513, starts, dependencies, nobody, zeros};
+    for (uint32_t k = 0; k < 511; k++) {
+        sets[k] = starts[k + 1] = dependencies[k] = k + 1;
+    }
+    sets[511] = 512;
+    starts[512] = 511;
+    loaded("a chain of 512", x, sets, LENGTH(sets), area, LENGTH(area));
+    for (size_t k = 0; k < LENGTH(targets); k++) {
+        nidskalm_move_reply reply = nidskalm_reduced_chunk_graph_try_move(LENT(x), area, LENGTH(area), atoms[k], targets + k, 1);
+        say("refused by", reply.refusal);
+        say("chunks that are reached", reply.reached);
+    }
+}
+
 static void too_many_atoms(void) {
     static uint32_t area[NIDSKALM_MOVE_AREA(513, 0, 10, 513)];
     static uint64_t sets[513];
@@ -266,6 +287,7 @@ int main(void) {
     most_atoms();
     month_of_moves();
     most_edges();
+    longest_walk();
     too_many_atoms();
     most_chunks("room for 1024 chunks in a short area", 1024);
     most_chunks("room for 1025 chunks", 1025);

@@ -46,7 +46,8 @@ static void move_told(nidskalm_move_reply reply) {
     bool accepted = one() == reply.accepted;
     bool appeared = one() == reply.appeared;
     bool vanished = one() == reply.vanished;
-    counted(reply.refusal, row && accepted && appeared && vanished);
+    bool reached = one() == reply.reached;
+    counted(reply.refusal, row && accepted && appeared && vanished && reached);
 }
 
 static void try_move(const load *x) {

@@ -33,8 +33,8 @@ pub struct Edge {
     pub multiplicity: u64,
 }
 
-/// What a move came to: whether it is accepted, and then how many distinct edges came and went. An edge that both graphs have
-/// counts as neither; a rejected move has zeros.
+/// What a move came to: whether it is accepted, and then how many distinct edges came and went and how many other chunks the
+/// atom's chunk reaches. An edge that both graphs have counts as neither; a rejected move has zeros.
 #[derive(Clone, Copy, Debug, PartialEq, Eq)]
 pub struct Moved {
     /// Whether the atom is now in the set.
@@ -43,6 +43,8 @@ pub struct Moved {
     pub appeared: u64,
     /// How many edges the graph had before the move that it hasn't any more.
     pub vanished: u64,
+    /// How many other chunks the atom's new chunk reaches: at most the number of chunks less one.
+    pub reached: u64,
 }
 
 /// Atoms in sets of entry bits, moved only where no cycle comes of it.
@@ -97,24 +99,31 @@ impl<'a> MoveGraph<'a> {
         self.cyclic
     }
 
-    /// Moves an atom to another set if the chunk graph then has no cycle, and tells how many edges came and went. A fixed
-    /// atom stays.
+    /// Moves an atom to another set if the chunk graph then has no cycle, and tells how many edges came and went and how many
+    /// other chunks its chunk then reaches. A fixed atom stays.
     ///
     /// ```
     /// use nidskalm::{EntrySet, Load, MoveGraph, Moved, NONE};
     ///
-    /// // Atom 0 depends on atom 1, which is fixed: the edge between their chunks goes when they share one.
+    /// // Atom 0 depends on atom 1, which is fixed: in a new chunk it still reaches that one. The edge between their chunks
+    /// // goes when they share one.
     /// let load = Load { starts: &[0, 1, 1], dependencies: &[1], hosts: &[NONE, NONE], fixed: &[0, 1] };
     /// let mut graph = MoveGraph::new(load, 3, &[EntrySet::from(1), EntrySet::from(2)])?;
+    /// assert_eq!(graph.try_move(0, EntrySet::from(3))?.reached, 1);
     /// let moved = graph.try_move(0, EntrySet::from(2))?;
-    /// assert_eq!(moved, Moved { accepted: true, appeared: 0, vanished: 1 });
+    /// assert_eq!(moved, Moved { accepted: true, appeared: 0, vanished: 1, reached: 0 });
     /// assert_eq!(graph.try_move(1, EntrySet::from(1)).unwrap_err().row(), 24);
     /// # Ok::<(), nidskalm::Refusal>(())
     /// ```
     pub fn try_move(&mut self, atom: u32, target: EntrySet) -> Result<Moved, Refusal> {
         let bits = target.lent(self.load.hosts.len());
         let reply = lent::reduced_chunk_graph_try_move(&self.load, self.sets, &mut self.area, atom, bits);
-        let moved = Moved { accepted: reply.accepted == 1, appeared: reply.appeared, vanished: reply.vanished };
+        let moved = Moved {
+            accepted: reply.accepted == 1,
+            appeared: reply.appeared,
+            vanished: reply.vanished,
+            reached: reply.reached,
+        };
         Refusal::check(reply.refusal, moved)
     }
 

@@ -27,6 +27,8 @@ pub struct MoveReply {
     pub appeared: u64,
     /// How many distinct edges an accepted move has taken off; 0 where it is rejected.
     pub vanished: u64,
+    /// How many other chunks the atom's chunk reaches after an accepted move; 0 where it is rejected.
+    pub reached: u64,
 }
 
 /// A refusal's row and a set, bit 0 lowest in `set0`.

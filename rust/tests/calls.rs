@@ -12,13 +12,13 @@ fn row<T: std::fmt::Debug>(result: Result<T, Refusal>) -> u64 {
     result.unwrap_err().row()
 }
 
-/// An accepted move, with how many edges came and went.
-fn moved(appeared: u64, vanished: u64) -> Result<Moved, Refusal> {
-    Ok(Moved { accepted: true, appeared, vanished })
+/// An accepted move, with how many edges came and went, and how many other chunks the atom's chunk reaches.
+fn moved(appeared: u64, vanished: u64, reached: u64) -> Result<Moved, Refusal> {
+    Ok(Moved { accepted: true, appeared, vanished, reached })
 }
 
 /// A rejected move reports zeros.
-const REJECTED: Result<Moved, Refusal> = Ok(Moved { accepted: false, appeared: 0, vanished: 0 });
+const REJECTED: Result<Moved, Refusal> = Ok(Moved { accepted: false, appeared: 0, vanished: 0, reached: 0 });
 
 /// Atoms 1 and 2 depend on atom 0 and host bits 0 and 1.
 const LOAD: Load = Load { starts: &[0, 0, 1, 2], dependencies: &[0, 0], hosts: &[1, 2], fixed: &[0, 0, 0] };
@@ -28,7 +28,7 @@ fn moves_and_questions() {
     let mut graph = MoveGraph::new(LOAD, 8, &[set(3), set(1), set(2)]).unwrap();
     assert!(!graph.cyclic_at_loading());
     assert_eq!(graph.multiplicity(set(1), set(3)), Ok(1));
-    assert_eq!(graph.try_move(0, set(1)), moved(1, 2));
+    assert_eq!(graph.try_move(0, set(1)), moved(1, 2, 0));
     assert_eq!(graph.try_move(1, set(3)), REJECTED);
     assert_eq!(graph.atom_set(0), Ok(set(1)));
     assert_eq!(graph.atom_count(set(1)), Ok(2));
@@ -73,10 +73,22 @@ fn the_book_s_search_is_refused_as_every_question() {
 fn an_edge_in_both_graphs_counts_as_neither() {
     let load = Load { starts: &[0, 1, 1, 2], dependencies: &[1, 0], hosts: &[NONE; 3], fixed: &[0, 0, 0] };
     let mut graph = MoveGraph::new(load, 4, &[set(6), set(5), set(3)]).unwrap();
-    assert_eq!(graph.try_move(2, set(6)), moved(0, 1));
+    assert_eq!(graph.try_move(2, set(6)), moved(0, 1, 1));
     let before = graph.edges();
-    assert_eq!(graph.try_move(0, set(5)), moved(0, 0));
+    assert_eq!(graph.try_move(0, set(5)), moved(0, 0, 0));
     assert_eq!(graph.edges(), before);
+}
+
+#[test]
+fn a_moved_atom_tells_its_reach() {
+    let load = Load { starts: &[0, 1, 3, 4, 4, 5], dependencies: &[1, 0, 2, 3, 0], hosts: &[NONE; 3], fixed: &[0; 5] };
+    let sets: Vec<EntrySet> = (1..=5).map(set).collect();
+    let mut graph = MoveGraph::new(load, 8, &sets).unwrap();
+    assert!(graph.cyclic_at_loading());
+    assert_eq!(graph.try_move(0, set(2)), moved(1, 3, 2));
+    assert_eq!(graph.try_move(4, set(6)), moved(1, 1, 3));
+    assert_eq!(graph.try_move(3, set(7)), moved(1, 1, 0));
+    assert_eq!(graph.try_move(3, set(6)), REJECTED);
 }
 
 #[test]
@@ -97,7 +109,7 @@ fn empty_sets_give_their_place_back() {
     let load = Load { hosts: &[NONE; 16], ..LOAD };
     let mut graph = MoveGraph::new(load, 4, &[set(3), set(1), set(2)]).unwrap();
     for target in 4..2000 {
-        assert_eq!(graph.try_move(0, set(target)), moved(2, 2));
+        assert_eq!(graph.try_move(0, set(target)), moved(2, 2, 0));
     }
     assert_eq!(graph.atom_count(set(3)), Ok(0));
     assert_eq!(graph.atom_count(set(1999)), Ok(1));

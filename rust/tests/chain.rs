@@ -27,7 +27,9 @@ fn the_first_atom_of_a_chain_reaches_all_others() {
         let target = EntrySet::from(u64::from(n) + 1);
         let mut graph = MoveGraph::new(load, u64::from(n) + 1, &sets).unwrap();
         assert!(!graph.cyclic_at_loading());
-        assert!(graph.try_move(0, target).unwrap().accepted);
+        let moved = graph.try_move(0, target).unwrap();
+        assert!(moved.accepted);
+        assert_eq!(moved.reached, u64::from(n) - 1);
         assert_eq!(reach(&graph.edges().unwrap(), target), n as usize - 1);
     }
 }

@@ -44,7 +44,7 @@ def moves(case):
     case.answer("new", [("value", 1)])
     value = [("value", 1)]
     calls = {
-        1: ("try_move", 1 + w, [("accepted", 1), ("appeared", 1), ("vanished", 1)]),
+        1: ("try_move", 1 + w, [("accepted", 1), ("appeared", 1), ("vanished", 1), ("reached", 1)]),
         2: ("atom_set", 1, [("set", w)]),
         3: ("atom_count", w, value),
         4: ("multiplicity", 2 * w, value),

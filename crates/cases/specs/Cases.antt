@@ -6,7 +6,7 @@ use Rattle.graphs.specs.Count.{count}
 use Rattle.graphs.specs.Tab.{tab}
 use Rattle.graphs.specs.Walk.{via, cyclic, only}
 use Rattle.entry_set.specs.Joined.{joined, parts}
-use Rattle.move_ledger.specs.Graph.{owner, lies, members, entry, facade, mult, edge, insert, rising, row, rows, edges, sum, gained}
+use Rattle.move_ledger.specs.Graph.{owner, lies, members, entry, facade, mult, edge, insert, rising, row, rows, edges, sum, gained, reach}
 use Rattle.move_ledger.specs.Ledger.{kept, index, put, smallest-empty, free-place, register, decide, move, kth, ask, call, answers, ledger}
 use Rattle.move_ledger.specs.Loading.{row4, row5, row6, first-row, entry-sets, row7, row8, loading-row, loading}
 use Rattle.cases.specs.Run.{MoveCase, MoveOutcome, move-outcome, tries, every, shut}
@@ -44,5 +44,5 @@ abbrev pub table : List Case
 table = map moves (move-cases ++ loadings) ++ map merges merge-cases
 
 pub cases-right : map outcome table ≡ map expected table
-unfolding move-outcome tries every shut any all has below count tab via cyclic only joined parts owner lies members entry facade mult edge insert rising row rows edges sum gained kept index put smallest-empty free-place register decide move kth ask call answers ledger row4 row5 row6 first-row entry-sets row7 row8 loading-row loading closed counted without ending state.put misfit reachable warns methods.warn absorbed merged created-chunk methods.merges candidate passed first-fitting any-misfit later acted turned merge-outcome among turn replies-to left-by needed-by dependencies
+unfolding move-outcome tries every shut any all has below count tab via cyclic only joined parts owner lies members entry facade mult edge insert rising row rows edges sum gained reach kept index put smallest-empty free-place register decide move kth ask call answers ledger row4 row5 row6 first-row entry-sets row7 row8 loading-row loading closed counted without ending state.put misfit reachable warns methods.warn absorbed merged created-chunk methods.merges candidate passed first-fitting any-misfit later acted turned merge-outcome among turn replies-to left-by needed-by dependencies
 cases-right = refl

@@ -18,9 +18,9 @@ free n = replicate n 0
 abbrev pub kept : List ℕ → List ℕ → Ledger
 kept place registered = record { place = place; registered = registered }
 
--- an accepted move, with how many edges appeared and vanished
-abbrev moves : ℕ → ℕ → Answer
-moves come gone = accepted (record { appeared = come; vanished = gone })
+-- an accepted move, with how many edges appeared and vanished, and how many other chunks the atom's chunk reaches
+abbrev moves : ℕ → ℕ → ℕ → Answer
+moves come gone reach = accepted (record { appeared = come; vanished = gone; reached = reach })
 
 -- an edge answered
 abbrev found : ℕ → ℕ → ℕ → Answer
@@ -39,7 +39,7 @@ P1 =
       expected =
           record {
             start = acyclic;
-            replies = moves 1 2 ∷ rejected ∷ number 1 ∷ number 2 ∷ found 2 1 1 ∷ answer.none ∷ set (1 ∷ 0 ∷ 0 ∷ 0 ∷ []) ∷ [];
+            replies = moves 1 2 0 ∷ rejected ∷ number 1 ∷ number 2 ∷ found 2 1 1 ∷ answer.none ∷ set (1 ∷ 0 ∷ 0 ∷ 0 ∷ []) ∷ [];
             end = kept (1 ∷ 1 ∷ 2 ∷ []) (3 ∷ 1 ∷ 2 ∷ []);
           };
     }
@@ -67,7 +67,7 @@ P3 =
       sets = 1 ∷ 2 ∷ [];
       size = 16384;
       calls = asks has-cycle ∷ try-move 0 (3 ∷ []) ∷ asks has-cycle ∷ try-move 0 (2 ∷ []) ∷ asks has-cycle ∷ [];
-      expected = record { start = cyclic; replies = cyclic ∷ rejected ∷ cyclic ∷ moves 0 2 ∷ acyclic ∷ []; end = kept (2 ∷ 2 ∷ []) (1 ∷ 2 ∷ 3 ∷ []) };
+      expected = record { start = cyclic; replies = cyclic ∷ rejected ∷ cyclic ∷ moves 0 2 0 ∷ acyclic ∷ []; end = kept (2 ∷ 2 ∷ []) (1 ∷ 2 ∷ 3 ∷ []) };
     }
 
 -- "a second such pair beside it, sets 4 and 8: every move that isn't refused is rejected": each of 4 atoms to each of 16 sets, by step 1,
@@ -112,7 +112,7 @@ P6 =
       sets = 3 ∷ 5 ∷ [];
       size = 16384;
       calls = try-move 0 (4 ∷ []) ∷ [];
-      expected = record { start = acyclic; replies = moves 1 1 ∷ []; end = kept (4 ∷ 5 ∷ []) (3 ∷ 5 ∷ 4 ∷ []) };
+      expected = record { start = acyclic; replies = moves 1 1 0 ∷ []; end = kept (4 ∷ 5 ∷ []) (3 ∷ 5 ∷ 4 ∷ []) };
     }
 
 -- "a repeated dependency: multiplicity 2"
@@ -166,7 +166,7 @@ evicting =
       expected =
           record {
             start = acyclic;
-            replies = rejected ∷ moves 1 1 ∷ moves 0 1 ∷ rejected ∷ moves 1 0 ∷ moves 1 1 ∷ moves 1 1 ∷ refused 10 ∷ refused 11 ∷ refused 12 ∷ [];
+            replies = rejected ∷ moves 1 1 0 ∷ moves 0 1 0 ∷ rejected ∷ moves 1 0 0 ∷ moves 1 1 0 ∷ moves 1 1 0 ∷ refused 10 ∷ refused 11 ∷ refused 12 ∷ [];
             end = kept (1 ∷ 6 ∷ []) (1 ∷ 3 ∷ 6 ∷ []);
           };
     }
@@ -232,7 +232,7 @@ fixing =
                 ∷ set (1 ∷ 0 ∷ 0 ∷ 0 ∷ [])
                 ∷ refused 11
                 ∷ refused 12
-                ∷ moves 0 2
+                ∷ moves 0 2 0
                 ∷ [];
             end = kept (1 ∷ 1 ∷ []) (1 ∷ 2 ∷ []);
           };
@@ -261,7 +261,7 @@ facade-verdict =
       sets = 1 ∷ 2 ∷ [];
       size = 16384;
       calls = asks has-cycle ∷ try-move 1 (1 ∷ []) ∷ asks has-cycle ∷ [];
-      expected = record { start = cyclic; replies = cyclic ∷ moves 0 2 ∷ acyclic ∷ []; end = kept (1 ∷ 1 ∷ []) (1 ∷ 2 ∷ []) };
+      expected = record { start = cyclic; replies = cyclic ∷ moves 0 2 0 ∷ acyclic ∷ []; end = kept (1 ∷ 1 ∷ []) (1 ∷ 2 ∷ []) };
     }
 
 -- not of 01: edges in the order of their sets, which isn't that of the atoms; and a move that takes a facade edge off with its set's last atom,
@@ -314,7 +314,7 @@ two-numbers =
                 ∷ found 18446744073709551616 5 2
                 ∷ found 18446744073709551617 5 1
                 ∷ answer.none
-                ∷ moves 0 1
+                ∷ moves 0 1 1
                 ∷ number 0
                 ∷ number 2
                 ∷ number 2
@@ -334,8 +334,27 @@ returning =
       sets = 6 ∷ 5 ∷ 3 ∷ [];
       size = 16384;
       calls = try-move 2 (6 ∷ []) ∷ try-move 0 (5 ∷ []) ∷ asks (edge-at 0) ∷ asks edge-count ∷ [];
-      expected = record { start = acyclic; replies = moves 0 1 ∷ moves 0 0 ∷ found 6 5 1 ∷ number 1 ∷ []; end = kept (5 ∷ 5 ∷ 6 ∷ []) (6 ∷ 5 ∷ 3 ∷ []) };
+      expected = record { start = acyclic; replies = moves 0 1 1 ∷ moves 0 0 0 ∷ found 6 5 1 ∷ number 1 ∷ []; end = kept (5 ∷ 5 ∷ 6 ∷ []) (6 ∷ 5 ∷ 3 ∷ []) };
+    }
+
+-- (xii): from a cyclic graph atom 0 joins atom 1, whose chunk reaches those of 2 and, by two steps, 3, not the one of 4 nor the set that is empty now; from
+-- an acyclic one the chunk of 4 reaches all others, and that of 3 none
+abbrev pub reaching : MoveCase
+reaching =
+    record {
+      load = record { A = 5; D = 5; E = 3; starts = 0 ∷ 1 ∷ 3 ∷ 4 ∷ 4 ∷ 5 ∷ []; dependencies = 1 ∷ 0 ∷ 2 ∷ 3 ∷ 0 ∷ []; hosts = nobody 3 };
+      fixed = free 5;
+      N = 8;
+      sets = 1 ∷ 2 ∷ 3 ∷ 4 ∷ 5 ∷ [];
+      size = 16384;
+      calls = try-move 0 (2 ∷ []) ∷ try-move 4 (6 ∷ []) ∷ try-move 3 (7 ∷ []) ∷ try-move 3 (6 ∷ []) ∷ [];
+      expected =
+          record {
+            start = cyclic;
+            replies = moves 1 3 2 ∷ moves 1 1 3 ∷ moves 1 1 0 ∷ rejected ∷ [];
+            end = kept (2 ∷ 2 ∷ 3 ∷ 7 ∷ 6 ∷ []) (1 ∷ 2 ∷ 3 ∷ 4 ∷ 5 ∷ 6 ∷ 7 ∷ []);
+          };
     }
 
 abbrev pub move-cases : List MoveCase
-move-cases = P1 ∷ P2 ∷ P3 ∷ P4 ∷ P5 ∷ P6 ∷ P7 ∷ P8 ∷ evicting ∷ outside ∷ inside ∷ fixing ∷ all-fixed ∷ facade-verdict ∷ vanishing ∷ two-numbers ∷ returning ∷ []
+move-cases = P1 ∷ P2 ∷ P3 ∷ P4 ∷ P5 ∷ P6 ∷ P7 ∷ P8 ∷ evicting ∷ outside ∷ inside ∷ fixing ∷ all-fixed ∷ facade-verdict ∷ vanishing ∷ two-numbers ∷ returning ∷ reaching ∷ []

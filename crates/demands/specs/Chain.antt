@@ -1,4 +1,4 @@
--- Request (xii): the load that the program `chain` writes is acyclic, and its move is accepted, for every n. Assumes nothing.
+-- Request (xii): the load that the program `chain` writes is acyclic, its move is accepted and reaches n - 1 other chunks, for every n. Assumes nothing.
 use Prim.Native.Nat.{ℕ, zero, suc, _+_, _-_, _*_, _^_, _≤_, _<_}
 use native.Mathlib.Omega.{arith}
 use native.Mathlib.Decide.{ℕ-discrete}
@@ -10,22 +10,25 @@ use lib.ListN.{length, take, drop, set, length-set, replicate, getD-replicate, l
 use lib.Seq.{getD-set-same, getD-set-other}
 use borrow.Author.Tests.{lt-leb, eq-eqb, ne-eqb, le-ltb, lt-ltb}
 use Rattle.graphs.specs.Bools.{or-false, and-both}
-use Rattle.graphs.specs.Lists.{has, has-place, none-below}
+use Rattle.graphs.specs.Lists.{has, has-at, has-place, none-below}
 use Rattle.graphs.specs.Tab.{tab-length, is-tab}
 use Rattle.graphs.specs.Walk.{Walk, one, more, via, cyclic}
 use Rattle.graphs.specs.Walks.{join, via-walk, acyclic-walk}
 use Rattle.entry_set.specs.Joined.{joined}
 use Rattle.entry_set.specs.Sets.{value}
-use Rattle.move_ledger.specs.Graph.{none, at, owner, edge}
+use Rattle.move_ledger.specs.Graph.{none, at, owner, edge, reach}
 use Rattle.move_ledger.specs.GraphLaws.{Why, by-entry, by-facade, edge-why, why-edge, entry-lies, lies-entry, lies-set, lies-in, edge-source}
-use Rattle.move_ledger.specs.Answer.{acyclic, is-refused, is-accepted}
+use Rattle.move_ledger.specs.Answer.{acyclic, is-refused, is-accepted, reported}
 use Rattle.move_ledger.specs.Ledger.{loaded, decide, move, call, ledger}
 use Rattle.move_ledger.specs.Ledger as calls
 use Rattle.move_ledger.specs.Loading.{row1, row2, row3, row4, row5, row6, first-row, lent-set, entry-sets, row7, row8, loading-row, loading}
+use Rattle.move_ledger.specs.MoveLaws.{place-after}
+use Rattle.move_ledger.specs.Reach.{reach-all, rising-length}
 use Rattle.move_area.specs.Calls.{new, try-move}
 use Rattle.move_area.specs.History.{call-area, area-after}
 use Rattle.chain_commands.specs.Chain.{chain, sets, set-at, next-at, owner-at, starts}
 use Rattle.demands.specs.Demand3.{next-answer}
+use Rattle.demands.specs.Reached.{move-reached}
 
 module _ (n : ℕ) where
   -- an edge goes from an atom's set to the next one's
@@ -218,11 +221,38 @@ module _ (n : ℕ) (some : 0 < n) (few : n ≤ 512) (size : ℕ) (enough : row3 
         moved-acyclic n some,
       ) refl
 
+  -- "and attains it": at most n - 1 are reached, since as many other sets are occupied
+  pub moved-reach : reported (move (chain n) (unmarked n) (n + 1) (loaded (entry-sets (chain n) (sets n))) 0 ((n + 1) ∷ []) .answer) .reached ≡ n - 1
+  unfolding move
+  moved-reach = move-reached (chain n) (unmarked n) (n + 1) (loaded (entry-sets (chain n) (sets n))) 0 ((n + 1) ∷ []) ∙ rw (there, yes, value-one) all
+    where
+      yes : is-accepted (decide (chain n) (unmarked n) (entry-sets (chain n) (sets n)) 0 ((n + 1) ∷ [])) ≡ true
+      yes = chain-moves
+
+      there : move (chain n) (unmarked n) (n + 1) (loaded (entry-sets (chain n) (sets n))) 0 ((n + 1) ∷ []) .after .place ≡ moved n
+      there =
+          let e : cond (is-accepted (decide (chain n) (unmarked n) (entry-sets (chain n) (sets n)) 0 ((n + 1) ∷ []))) (set (entry-sets (chain n) (sets n)) 0 (value ((n + 1) ∷ []))) (entry-sets (chain n) (sets n)) ≡ moved n = rw (yes, entry-sets-are n, value-one) refl in
+          place-after (chain n) (unmarked n) (n + 1) (loaded (entry-sets (chain n) (sets n))) 0 ((n + 1) ∷ []) ∙ e
+
+      long : length (moved n) ≡ n
+      long = moved-long n some
+
+      all : reach (chain n) (moved n) (n + 1) ≡ n - 1
+      all =
+          omega (
+            arith,
+            reach-all (chain n) (moved n) (n + 1) (subst (λ X. has X (moved n) ≡ true) (moved-first n some) (has-at (moved n) 0 (omega (arith, long)))) (moved-reaches n some),
+            rising-length (moved n) (λ i j a b. moved-apart n some i j a (omega (arith, long))),
+            long,
+          )
+
 -- and so answer the calls, on every work area that is long enough
 pub chain-on-areas : (n : ℕ) → 0 < n → n ≤ 512 → (area : List ℕ) → row3 (chain n) (n + 1) (length area) ≡ false
     → (new (chain n) (unmarked n) (n + 1) (sets n) area .answer ≡ acyclic)
     × (is-accepted (try-move (chain n) (unmarked n) (n + 1) (new (chain n) (unmarked n) (n + 1) (sets n) area .area) 0 ((n + 1) ∷ []) .answer) ≡ true)
+    × (reported (try-move (chain n) (unmarked n) (n + 1) (new (chain n) (unmarked n) (n + 1) (sets n) area .area) 0 ((n + 1) ∷ []) .answer) .reached ≡ n - 1)
 unfolding call call-area area-after ledger new
 chain-on-areas n some few area enough =
     let l : new (chain n) (unmarked n) (n + 1) (sets n) area .answer ≡ acyclic = chain-loads n some few (length area) enough in
-    (l, ap is-accepted (next-answer (chain n) (unmarked n) (n + 1) (sets n) area [] (calls.try-move 0 ((n + 1) ∷ [])) (ap is-refused l)) ∙ chain-moves n some few (length area) enough)
+    let a = next-answer (chain n) (unmarked n) (n + 1) (sets n) area [] (calls.try-move 0 ((n + 1) ∷ [])) (ap is-refused l) in
+    (l, ap is-accepted a ∙ chain-moves n some few (length area) enough, ap (λ x. reported x .reached) a ∙ moved-reach n some few (length area) enough)

@@ -12,7 +12,7 @@ use Rattle.graphs.specs.Lists.{any, has}
 use Rattle.entry_set.specs.Sets.{value}
 use Rattle.move_ledger.specs.Graph.{Load, mult, edge, rising, row, rows, edges, sum, gained}
 use Rattle.move_ledger.specs.GraphLaws.{edge-source, edge-target}
-use Rattle.move_ledger.specs.Answer.{zeros, Answer, refused, accepted, rejected, is-accepted, reported}
+use Rattle.move_ledger.specs.Answer.{Report, zeros, Answer, refused, accepted, rejected, is-accepted, reported}
 use Rattle.move_ledger.specs.Answer as answer
 use Rattle.move_ledger.specs.Ledger.{Ledger, report, decide, move}
 use Rattle.move_ledger.specs.MoveLaws.{decide-accepted, decide-late, place-after, move-keeps}
@@ -147,12 +147,16 @@ gained-same load p = sum-none _ (rising p) (λ X. sum-none _ (rising p) (λ Y. o
     one true = refl
     one false = refl
 
--- "An accepted move then reports how many distinct edges appeared and vanished between the two graphs", and "Rejected moves report zeros": whatever the
--- answer is, the numbers are of the placements before and after
-pub move-reports : (load : Load) (fixed : List ℕ) (N : ℕ) (l : Ledger) (a : ℕ) (s : List ℕ)
-    → reported (move load fixed N l a s .answer) ≡ report load (l .place) (move load fixed N l a s .after .place)
+-- the two numbers of a report, of the placements p and then q
+pub record Told (load : Load) (p q : List ℕ) (r : Report) : Type 0 where
+  pub appeared : r .appeared ≡ gained load p q
+  pub vanished : r .vanished ≡ gained load q p
+
+-- what a move reports: a refused or rejected one zeros, an accepted one what the ledger says
+pub reports : (load : Load) (fixed : List ℕ) (N : ℕ) (l : Ledger) (a : ℕ) (s : List ℕ)
+    → reported (move load fixed N l a s .answer) ≡ cond (is-accepted (move load fixed N l a s .answer)) (report load (l .place) (move load fixed N l a s .after .place) (value s)) zeros
 unfolding move
-move-reports load fixed N l a s = go (is-accepted x) refl
+reports load fixed N l a s = go (is-accepted x) refl
   where
     x : Answer
     x = decide load fixed (l .place) a s
@@ -168,27 +172,40 @@ move-reports load fixed N l a s = go (is-accepted x) refl
     nothing (answer.edge e) h = refl
     nothing answer.none h = refl
 
-    go : (t : Bool) → is-accepted x ≡ t → reported x ≡ report load (l .place) (move load fixed N l a s .after .place)
+    go : (t : Bool) → is-accepted x ≡ t → reported x ≡ cond t (report load (l .place) (move load fixed N l a s .after .place) (value s)) zeros
     go true h =
         let y = decide-accepted load fixed (l .place) a s h in
-        let e : decide load fixed (l .place) a s ≡ accepted (report load (l .place) (set (l .place) a (value s))) = decide-late load fixed (l .place) a s (y .passed) ∙ rw (y .inside, y .no-cycle) refl in
-        ap reported e ∙ ap (report load (l .place)) (sym (place-after load fixed N l a s ∙ rw h refl))
-    go false h = nothing x h ∙ sym (ap (report load (l .place)) (place-after load fixed N l a s ∙ rw h refl) ∙ ap₂ (λ i j. record { appeared = i; vanished = j }) (gained-same load (l .place)) (gained-same load (l .place)))
+        let e : decide load fixed (l .place) a s ≡ accepted (report load (l .place) (set (l .place) a (value s)) (value s)) = decide-late load fixed (l .place) a s (y .passed) ∙ rw (y .inside, y .no-cycle) refl in
+        ap reported e ∙ ap (λ q. report load (l .place) q (value s)) (sym (place-after load fixed N l a s ∙ rw h refl))
+    go false h = nothing x h
+
+-- "An accepted move then reports how many distinct edges appeared and vanished between the two graphs", and "Rejected moves report zeros": whatever the
+-- answer is, the numbers are of the placements before and after
+pub move-reports : (load : Load) (fixed : List ℕ) (N : ℕ) (l : Ledger) (a : ℕ) (s : List ℕ)
+    → Told load (l .place) (move load fixed N l a s .after .place) (reported (move load fixed N l a s .answer))
+unfolding move
+move-reports load fixed N l a s = rw (reports load fixed N l a s) (go (is-accepted (decide load fixed (l .place) a s)) refl)
+  where
+    go : (t : Bool) → is-accepted (decide load fixed (l .place) a s) ≡ t
+        → Told load (l .place) (move load fixed N l a s .after .place) (cond t (report load (l .place) (move load fixed N l a s .after .place) (value s)) zeros)
+    go true h = record { appeared = refl; vanished = refl }
+    go false h =
+        let stays : move load fixed N l a s .after .place ≡ l .place = place-after load fixed N l a s ∙ rw h refl in
+        rw stays (record { appeared = sym (gained-same load (l .place)); vanished = sym (gained-same load (l .place)) })
 
 -- distinct edges after the move + vanished = distinct edges before it + appeared
 pub move-changes : (load : Load) (fixed : List ℕ) (N : ℕ) (l : Ledger) (a : ℕ) (s : List ℕ) → length (l .place) ≡ load .A
     → let called = move load fixed N l a s in
     length (edges load (called .after .place)) + reported (called .answer) .vanished ≡ length (edges load (l .place)) + reported (called .answer) .appeared
 move-changes load fixed N l a s n =
-    rw (move-reports load fixed N l a s)
+    rw (move-reports load fixed N l a s .appeared, move-reports load fixed N l a s .vanished)
     (edges-change load (l .place) (move load fixed N l a s .after .place) n
     (move-keeps load fixed N l a s (λ m. length (m .place) ≡ load .A) n (λ u. n) (λ u. rw length-set n)))
 
 -- and so on the areas that the calls are lent
 pub changes-on-areas : (load : Load) (fixed : List ℕ) (N : ℕ) (area : List ℕ) (a : ℕ) (s : List ℕ) → refusal load fixed N (length area) ≡ 0 → checks-out load fixed N area ≡ true
     → let called = on-area.try-move load fixed N area a s in
-    reported (called .answer) ≡ report load (decode load N area .ledger .place) (decode load N (called .area) .ledger .place)
+    Told load (decode load N area .ledger .place) (decode load N (called .area) .ledger .place) (reported (called .answer))
 changes-on-areas load fixed N area a s q c =
     let h = holding load fixed N area q c in
-    ap reported (step-answer load fixed N area a s h) ∙ move-reports load fixed N (decode load N area .ledger) a s
-    ∙ ap (λ (l : Ledger). report load (decode load N area .ledger .place) (l .place)) (sym (step-after load fixed N area a s h))
+    rw (step-answer load fixed N area a s h, step-after load fixed N area a s h) (move-reports load fixed N (decode load N area .ledger) a s)

@@ -58,20 +58,20 @@ moved-exactly-acyclic load fixed N l a s n u =
     from : (X Y : ℕ) → edge load q X Y ≡ true → has X q ≡ true
     from = edge-source load q (rw length-set n)
 
-    by-graph : decide load fixed (l .place) a s ≡ cond (cyclic (edge load q) q) rejected (accepted (report load (l .place) q))
+    by-graph : decide load fixed (l .place) a s ≡ cond (cyclic (edge load q) q) rejected (accepted (report load (l .place) q (value s)))
     by-graph = decide-exactly load fixed (l .place) a s n u
 
     accepts : (is-accepted (decide load fixed (l .place) a s) ≡ true) ↔ (cyclic (edge load q) q ≡ false)
     accepts = rw by-graph (go (cyclic (edge load q) q))
       where
-        go : (t : Bool) → (is-accepted (cond t rejected (accepted (report load (l .place) q))) ≡ true) ↔ (t ≡ false)
+        go : (t : Bool) → (is-accepted (cond t rejected (accepted (report load (l .place) q (value s)))) ≡ true) ↔ (t ≡ false)
         go true = (λ h. absurd (true≢false (sym h)), λ h. absurd (true≢false h))
         go false = (λ h. refl, λ h. refl)
 
     rejects : is-accepted (decide load fixed (l .place) a s) ≡ false → decide load fixed (l .place) a s ≡ rejected
     rejects = rw by-graph (go (cyclic (edge load q) q))
       where
-        go : (t : Bool) → is-accepted (cond t rejected (accepted (report load (l .place) q))) ≡ false → cond t rejected (accepted (report load (l .place) q)) ≡ rejected
+        go : (t : Bool) → is-accepted (cond t rejected (accepted (report load (l .place) q (value s)))) ≡ false → cond t rejected (accepted (report load (l .place) q (value s))) ≡ rejected
         go true h = refl
         go false h = absurd (true≢false h)
 

@@ -62,7 +62,7 @@ second-answer load fixed place a b s t d g h =
     let same : eqb (value t) (at (set place a (value s)) b) ≡ false = ap (eqb (value t)) (getD-set-other place a b (value s) 0 d) ∙ y .at12 in
     let both = set (set place a (value s)) b (value t) in
     ap plain (decide-late load fixed (set place a (value s)) b t (record { at10 = y .at10; at24 = y .at24; at11 = y .at11; at12 = same }))
-    ∙ rw (x .no-cycle) (left-out (cyclic (edge load both) both) (report load (set place a (value s)) both))
+    ∙ rw (x .no-cycle) (left-out (cyclic (edge load both) both) (report load (set place a (value s)) both (value t)))
 
 -- "if two moves on different atoms would each be accepted next, the second gets the same answer in either order", and 02: "Where two orders of moves
 -- .. are compared, these numbers are left out"

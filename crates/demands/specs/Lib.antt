@@ -6,6 +6,7 @@ pub mod Demand2
 pub mod Demand3
 pub mod Room
 pub mod Changes
+pub mod Reached
 pub mod Chain
 pub mod Fixed
 pub mod Fewer

@@ -80,7 +80,7 @@ move-rows load fixed place a s =
     (choice row-of (stays fixed a) (refused 24) _ refl
     (choice row-of (not (legal (load .E) s)) (refused 11) _ refl
     (choice row-of (eqb (value s) (at place a)) (refused 12) _ refl
-    (choice row-of (step1 load place a || cyclic (edge load (set place a (value s))) (set place a (value s))) rejected (accepted (report load place (set place a (value s)))) refl refl))))
+    (choice row-of (step1 load place a || cyclic (edge load (set place a (value s))) (set place a (value s))) rejected (accepted (report load place (set place a (value s)) (value s))) refl refl))))
 
 ask-rows : (load : Load) (place : List ℕ) (q : Question) → other (row-of (ask load place q))
 unfolding ask

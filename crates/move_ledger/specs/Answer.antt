@@ -4,13 +4,15 @@ use mathlib.Core.Bool.{Bool, true, false}
 use mathlib.Core.List.{List}
 use Rattle.move_ledger.specs.Graph.{Edge}
 
--- 02: "An accepted move then reports how many distinct edges appeared and vanished between the two graphs"
+-- 02: "An accepted move then reports how many distinct edges appeared and vanished between the two graphs", and "how many other chunks the moved
+-- atom's chunk reaches in the new graph"
 pub record Report : Type 0 where
   pub appeared : ℕ
   pub vanished : ℕ
+  pub reached : ℕ
 
 abbrev pub zeros : Report
-zeros = record { appeared = 0; vanished = 0 }
+zeros = record { appeared = 0; vanished = 0; reached = 0 }
 
 -- `refused n` names row n of the table; a set is its four numbers of 64 bits
 pub data Answer : Type 0 where
@@ -46,7 +48,7 @@ is-accepted (number n) = false
 is-accepted (edge e) = false
 is-accepted none = false
 
--- the numbers that an answer reports. 02: "Rejected moves report zeros"
+-- the numbers that an answer reports. 02: "Rejected moves report zeros", "a rejected one 0"
 abbrev pub reported : Answer → Report
 reported (refused n) = zeros
 reported acyclic = zeros
@@ -58,7 +60,7 @@ reported (number n) = zeros
 reported (edge e) = zeros
 reported none = zeros
 
--- 02: "Where two orders of moves, or the Rust and ours, are compared, these numbers are left out"
+-- 02: "Where two orders of moves, or the Rust and ours, are compared, these numbers are left out"; "Comparisons leave the reach out, as in (ii)"
 abbrev pub plain : Answer → Answer
 plain (refused n) = refused n
 plain acyclic = acyclic

@@ -6,6 +6,7 @@ use mathlib.Core.List.{List, [], _∷_, _++_}
 use lib.Dec.{leb, ltb, eqb}
 use lib.ListN.{getD}
 use Rattle.graphs.specs.Count.{ind, count}
+use Rattle.graphs.specs.Walk.{via}
 
 -- "dependencies of A atoms, and a host atom or None for each of E entry bits. Dependencies come as A + 1 start numbers and D atom numbers."
 -- "An atom is a group of modules"
@@ -103,3 +104,7 @@ sum f (x ∷ l) = f x + sum f l
 -- From p to q these appear, from q to p they vanish
 unfoldable pub gained : Load → List ℕ → List ℕ → ℕ
 gained load p q = sum (λ X. sum (λ Y. ind (edge load q X Y && not (edge load p X Y))) (rising q)) (rising q)
+
+-- 02: "how many other chunks the moved atom's chunk reaches", T being that chunk
+unfoldable pub reach : Load → List ℕ → ℕ → ℕ
+reach load place T = sum (λ X. ind (via (edge load place) place T X && not (eqb T X))) (rising place)

@@ -1,4 +1,4 @@
--- The plain ledger of moves and questions (01, "A move, from its entry", "Where a call turns back", "What a move asks of the graph"; 02, (ii), (iii), (viii), (xi)).
+-- The plain ledger of moves and questions (01, "A move, from its entry", "Where a call turns back", "What a move asks of the graph"; 02, (ii), (iii), (viii), (xi), (xii)).
 -- Assumes nothing.
 use Prim.Native.Nat.{ℕ, zero, suc}
 use mathlib.Core.Bool.{Bool, not, cond, _&&_, _||_}
@@ -8,7 +8,7 @@ use lib.ListN.{length, set}
 use Rattle.graphs.specs.Lists.{has}
 use Rattle.graphs.specs.Walk.{cyclic, only}
 use Rattle.entry_set.specs.Sets.{value, legal, words}
-use Rattle.move_ledger.specs.Graph.{Load, Edge, at, members, occupied, mult, edge, rising, edges, gained}
+use Rattle.move_ledger.specs.Graph.{Load, Edge, at, members, occupied, mult, edge, rising, edges, gained, reach}
 use Rattle.move_ledger.specs.Answer.{Report, Answer, refused, accepted, rejected, is-refused, is-accepted}
 use Rattle.move_ledger.specs.Answer as answer
 
@@ -72,9 +72,10 @@ step3 load N l a T = record { place = set (l .place) a T; registered = register 
 abbrev pub stays : List ℕ → ℕ → Bool
 stays fixed a = not (eqb (at fixed a) 0)
 
--- "how many distinct edges appeared and vanished between the two graphs", of placement p and then of q
-abbrev pub report : Load → List ℕ → List ℕ → Report
-report load p q = record { appeared = gained load p q; vanished = gained load q p }
+-- "how many distinct edges appeared and vanished between the two graphs", of placement p and then of q, and "how many other chunks the moved
+-- atom's chunk reaches in the new graph", T being that chunk
+abbrev pub report : Load → List ℕ → List ℕ → ℕ → Report
+report load p q T = record { appeared = gained load p q; vanished = gained load q p; reached = reach load q T }
 
 -- what a move of atom a to the lent set s is answered, a matter of the load, the marks and the placement. "The first fitting row wins"; 02: "24 when the
 -- moved atom is fixed, right after 10"; "Accepted if the result has no cycle"
@@ -86,7 +87,7 @@ decide load fixed place a s =
     (cond (not (legal (load .E) s)) (refused 11)
     (cond (eqb (value s) (at place a)) (refused 12)
     (cond (step1 load place a || cyclic (edge load moved) moved) rejected
-    (accepted (report load place moved))))))
+    (accepted (report load place moved (value s)))))))
 
 -- the target is registered and the atom moved on trial, unless a row refuses the move or step 1 rejects it
 abbrev pub tried : Load → List ℕ → List ℕ → ℕ → List ℕ → Bool

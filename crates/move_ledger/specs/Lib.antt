@@ -21,3 +21,4 @@ pub mod NodeListing
 pub mod Chunks
 pub mod Gained
 pub mod Totals
+pub mod Reach

@@ -54,7 +54,7 @@ choose-accepted false false false false false false r h = record { passed = reco
 module _ (load : Load) (fixed place : List ℕ) (a : ℕ) (s : List ℕ) where
   pub decide-chooses : decide load fixed place a s
       ≡ choose (leb (load .A) a) (stays fixed a) (not (legal (load .E) s)) (eqb (value s) (at place a)) (step1 load place a) (cyclic (edge load (set place a (value s))) (set place a (value s)))
-      (report load place (set place a (value s)))
+      (report load place (set place a (value s)) (value s))
   unfolding decide choose
   decide-chooses = refl
 
@@ -67,21 +67,21 @@ module _ (load : Load) (fixed place : List ℕ) (a : ℕ) (s : List ℕ) where
 
   -- past its rows a move is decided by its steps
   pub decide-late : Passed (leb (load .A) a) (stays fixed a) (not (legal (load .E) s)) (eqb (value s) (at place a))
-      → decide load fixed place a s ≡ cond (step1 load place a || cyclic (edge load (set place a (value s))) (set place a (value s))) rejected (accepted (report load place (set place a (value s))))
+      → decide load fixed place a s ≡ cond (step1 load place a || cyclic (edge load (set place a (value s))) (set place a (value s))) rejected (accepted (report load place (set place a (value s)) (value s)))
   unfolding choose
   decide-late p = decide-chooses ∙ rw (p .at10, p .at24, p .at11, p .at12) refl
 
   pub decide-unrefused : Passed (leb (load .A) a) (stays fixed a) (not (legal (load .E) s)) (eqb (value s) (at place a)) → is-refused (decide load fixed place a s) ≡ false
   decide-unrefused p = ap is-refused (decide-late p) ∙ go (step1 load place a || cyclic (edge load (set place a (value s))) (set place a (value s)))
     where
-      go : (t : Bool) → is-refused (cond t rejected (accepted (report load place (set place a (value s))))) ≡ false
+      go : (t : Bool) → is-refused (cond t rejected (accepted (report load place (set place a (value s)) (value s)))) ≡ false
       go true = refl
       go false = refl
 
   -- what step 1 rejects, step 3 would reject too: the moved graph alone decides
   pub decide-exactly : length place ≡ load .A → is-refused (decide load fixed place a s) ≡ false
-      → decide load fixed place a s ≡ cond (cyclic (edge load (set place a (value s))) (set place a (value s))) rejected (accepted (report load place (set place a (value s))))
-  decide-exactly n u = decide-late (decide-passed u) ∙ ap (λ t. cond t rejected (accepted (report load place (set place a (value s))))) (go (step1 load place a) refl)
+      → decide load fixed place a s ≡ cond (cyclic (edge load (set place a (value s))) (set place a (value s))) rejected (accepted (report load place (set place a (value s)) (value s)))
+  decide-exactly n u = decide-late (decide-passed u) ∙ ap (λ t. cond t rejected (accepted (report load place (set place a (value s)) (value s)))) (go (step1 load place a) refl)
     where
       go : (t : Bool) → step1 load place a ≡ t → (t || cyclic (edge load (set place a (value s))) (set place a (value s))) ≡ cyclic (edge load (set place a (value s))) (set place a (value s))
       go true h = sym (outside-stays load place a (value s) n (and-left (cyclic (edge load place) place) _ h) (not-true _ (and-right (cyclic (edge load place) place) _ h)))

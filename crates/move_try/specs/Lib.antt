@@ -6,6 +6,7 @@ pub mod Grown
 pub mod Registering
 pub mod Outcome
 pub mod Test
+pub mod Reached
 pub mod Commit
 pub mod Trial
 pub mod Settle

@@ -9,13 +9,14 @@ use lib.Dec.{eqb, ltb, leb}
 use lib.ListN.{length, getD, set, replicate, length-replicate, getD-replicate}
 use borrow.Author.Tests.{lt-ltb, le-ltb, lt-leb}
 use Rattle.graphs.specs.Bools.{fails}
+use Rattle.graphs.specs.Count.{count}
 use Rattle.graphs.specs.Lists.{has, below}
 use Rattle.graphs.specs.Tab.{tab, tab-alike}
 use Rattle.graphs.specs.Walk.{via, cyclic}
 use Rattle.graphs.specs.Walks.{sound, walk-to}
 use Rattle.graph_walks.specs.Marks.{marking, marked}
 use Rattle.entry_set.specs.Sets.{value, legal}
-use Rattle.move_ledger.specs.Graph.{Load, at, edge, gained}
+use Rattle.move_ledger.specs.Graph.{Load, at, edge, gained, reach}
 use Rattle.move_ledger.specs.Answer.{Report, accepted, rejected, is-refused, is-accepted}
 use Rattle.move_ledger.specs.Ledger.{Ledger, put, free-place, register, step1, step2, step3, stays, report, decide, move}
 use Rattle.move_ledger.specs.Evict.{place-free, register-old, register-new}
@@ -23,6 +24,7 @@ use Rattle.move_ledger.specs.Evict as evict
 use Rattle.move_ledger.specs.MoveLaws.{Passed, decide-late, decide-unrefused, tried-after}
 use Rattle.move_ledger.specs.LoadLaws.{InOrder}
 use Rattle.move_ledger.specs.Gained.{gained-cells}
+use Rattle.move_ledger.specs.Reach.{reach-nodes}
 use Rattle.move_ledger.specs.Nodes.{placed, Placing, sources, targets, node-edge}
 use Rattle.move_ledger.specs.NodeWalks.{cyclic-nodes, edge-inside}
 use Rattle.move_ledger.specs.NodePlaces.{placing-apart, free-node, Kept, register-kept}
@@ -79,14 +81,18 @@ abbrev pub with-test : Load → ℕ → Nodes → ℕ → ℕ → Bool → Nodes
 with-test load N s a y cyc =
     record { sets = s .sets; nodes = s .nodes; counter = cond cyc (s .counter) (next (s .counter)); marks = cond cyc (s .marks) (walk-marks load N s a y) }
 
--- how many edges come and go where atom a goes to node y, by the slots
+-- how many edges come and go where atom a goes to node y, and how many nodes y then reaches, by the slots
 abbrev pub slotReport : Load → ℕ → List ℕ → List ℕ → ℕ → ℕ → Report
 slotReport load N nodes sets a y =
     let s = sources load nodes sets in
     let t = targets load nodes sets in
     let u = sources load (set nodes a y) sets in
     let v = targets load (set nodes a y) sets in
-    record { appeared = fresh N s t u v (load .D + load .E); vanished = fresh N u v s t (load .D + load .E) }
+    record {
+      appeared = fresh N s t u v (load .D + load .E);
+      vanished = fresh N u v s t (load .D + load .E);
+      reached = count (via (node-edge load (set nodes a y) sets) (below N) y) N;
+    }
 
 -- atom a goes to the set T, which has the node y once it is registered
 pub record Trial (load : Load) (N : ℕ) (s : Nodes) (a T y : ℕ) : Type 0 where
@@ -150,11 +156,14 @@ module _ {load : Load} {N : ℕ} {s : Nodes} {a T y : ℕ} (v : Trial load N s a
   moved : placed (set (s .nodes) a y) sets′ ≡ set place a T
   moved = placed-moved (v .order) (kept .placing) (kept .placed) a T y (v .node) (v .set) N wide
 
-  -- the numbers by slots are those by sets
-  told : slotReport load N (s .nodes) sets′ a y ≡ report load place (set place a T)
-  told = ap₂ (λ i j. record { appeared = i; vanished = j })
-      (sym (gained-cells (v .order) (kept .placing) there N wide some) ∙ ap₂ (gained load) (kept .placed) moved)
-      (sym (gained-cells (v .order) there (kept .placing) N wide some) ∙ ap₂ (gained load) moved (kept .placed))
+  -- the numbers by slots are those by sets, where the moved graph has no cycle
+  told : cyclic E (below N) ≡ false → slotReport load N (s .nodes) sets′ a y ≡ report load place (set place a T) T
+  told acyclic =
+      rw (
+        sym (gained-cells (v .order) (kept .placing) there N wide some) ∙ ap₂ (gained load) (kept .placed) moved,
+        sym (gained-cells (v .order) there (kept .placing) N wide some) ∙ ap₂ (gained load) moved (kept .placed),
+        sym (reach-nodes (v .order) there N wide y (v .node) (sym (cyclic-nodes (v .order) there N wide) ∙ acyclic)) ∙ ap₂ (reach load) moved (v .set),
+      ) refl
     where
       there : Placing load (set (s .nodes) a y) sets′
       there = placing-set (kept .placing) a y (v .node)
@@ -170,7 +179,11 @@ module _ {load : Load} {N : ℕ} {s : Nodes} {a T y : ℕ} (v : Trial load N s a
     passed = record { at10 = lt-leb (load .A) a (v .atom); at24 = r24; at11 = ap not r11; at12 = rw is r12 }
 
     decided : decide load fixed place a w ≡ cond (cyclic E (below N)) rejected (accepted R)
-    decided = decide-late load fixed place a w passed ∙ rw (s1, is, test-cyclic) (ap (λ r. cond (cyclic E (below N)) rejected (accepted r)) (sym told))
+    decided = decide-late load fixed place a w passed ∙ rw (s1, is, test-cyclic) (go (cyclic E (below N)) refl)
+      where
+        go : (t : Bool) → cyclic E (below N) ≡ t → cond t rejected (accepted (report load place (set place a T) T)) ≡ cond t rejected (accepted R)
+        go true h = refl
+        go false h = ap accepted (sym (told h))
 
     unrefused : is-refused (decide load fixed place a w) ≡ false
     unrefused = decide-unrefused load fixed place a w passed

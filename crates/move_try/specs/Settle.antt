@@ -7,8 +7,9 @@ use native.Mathlib.Omega.{arith}
 use native.Mathlib.Nat.{zero-add}
 use lib.Dec.{eqb, ltb}
 use lib.ListN.{length, getD, set}
-use Rattle.graph_slots.specs.Asked.{ListRoom}
-use Rattle.graphs.specs.Count.{ind, count-ext, count-le}
+use Rattle.graph_neighbours.specs.Lists.{edge}
+use Rattle.graph_slots.specs.Asked.{ListRoom, SlotLists}
+use Rattle.graphs.specs.Count.{ind, count, count-ext, count-le}
 use Rattle.graphs.specs.Lists.{below}
 use Rattle.graphs.specs.Tab.{tab, tab-at, is-tab, tab-alike}
 use Rattle.graphs.specs.Walk.{via, cyclic}
@@ -38,12 +39,13 @@ use Rattle.move_try.specs.Areas.{counterIn, raised, chunks-after, edges-
 use Rattle.move_try.specs.Changes.{with-marks, with-node, with-raised, stands-marks, stands-raised, raised-fresh, stands-committed}
 use Rattle.move_try.specs.Outcome.{slotReport, with-test, walk-marks}
 use Rattle.move_try.specs.Test.{CanTest, walk-area, closes, tested, marked-long}
+use Rattle.move_try.specs.Reached.{CanReach, tested-reach}
 use Rattle.move_try.specs.Commit.{CanCommit, edges-now}
 use Rattle.move_try.specs.Trial.{CanTrial}
 
 -- the ledger's answer
 abbrev pub answerOf : Tried → Answer
-answerOf (Accepted m) = accepted (record { appeared = m .appeared; vanished = m .vanished })
+answerOf (Accepted m) = accepted (record { appeared = m .appeared; vanished = m .vanished; reached = m .reached })
 answerOf Rejected = rejected
 
 -- the flag tells whether the graph has a cycle
@@ -121,7 +123,7 @@ presentEdge load n area = node-edge load (nodesIn load n area) (setsIn n area)
 abbrev pub testedState : Load → ℕ → List ℕ → ℕ → ℕ → Nodes
 testedState load n area atom to = with-test load n (nodesState load n area) atom to (cyclic (presentEdge load n area) (below n))
 
--- accepted where the moved graph has no cycle, with the edges that come and go, and then the atom is moved
+-- accepted where the moved graph has no cycle, with the edges that come and go and the nodes reached, and then the atom is moved
 pub record Settled (load : Load) (n : ℕ) (area : List ℕ) (atom to : ℕ) (x : Answer) (l : List ℕ) : Type 0 where
   pub says : x ≡ cond (cyclic (movedEdge load n area atom to) (below n)) rejected (accepted (slotReport load n (nodesIn load n area) (setsIn n area) atom to))
   pub stands : Stands load n (cond (is-accepted x) (with-node (testedState load n area atom to) atom to) (testedState load n area atom to)) area l
@@ -209,6 +211,10 @@ module _ {load : Load} {n : ℕ} {area : List ℕ} {atom to : ℕ} (can : CanSet
       pub settle-rejected : r ≡ true → Settled load n area atom to rejected l
       settle-rejected h = record { says = rw (sym answer ∙ h) refl; stands = after }
 
+      -- the nodes that `to` reaches may be counted
+      pub settle-reach : {heads list : List ℕ} → SlotLists s t (load .D + load .E) n heads list → CanReach l n to heads list
+      settle-reach g = tested-reach (settle-test (g .slots .sources) (g .slots .targets)) g (q .1)
+
       -- the present placement's slots may be filled: the test left nodes and sets as they were
       pub settle-fill : {counts′ u v : List ℕ} → n ≤ length counts′ → load .D + load .E ≤ length u → load .D + load .E ≤ length v → CanFillOwn load n l counts′ u v
       settle-fill a b c =
@@ -275,14 +281,20 @@ module _ {load : Load} {n : ℕ} {area : List ℕ} {atom to : ℕ} (can : CanSet
               edges = distinct-at after ∙ sym (slotted-filled old n);
             }
 
-        pub settle-accepted : r ≡ false → {come gone : ℕ} → Changed n u v s t (load .D + load .E) come gone
+        pub settle-accepted : r ≡ false → {heads list : List ℕ} → SlotLists s t (load .D + load .E) n heads list → {k : ℕ} → k ≡ count (via (edge heads list n) (below n) to) n
+            → {come gone : ℕ} → Changed n u v s t (load .D + load .E) come gone
             → {l′ : List ℕ}
-            → l′ ≡ committed n (matrix s t n (load .D + load .E)) (part 0 n counts) atom to (chunks-after n counts atom to l) (edges-after n come gone l) l → Settled load n area atom to (accepted (record { appeared = come; vanished = gone })) l′
-        settle-accepted h c e =
+            → l′ ≡ committed n (matrix s t n (load .D + load .E)) (part 0 n counts) atom to (chunks-after n counts atom to l) (edges-after n come gone l) l
+            → Settled load n area atom to (accepted (record { appeared = come; vanished = gone; reached = k })) l′
+        settle-accepted h g z c e =
             record {
               says =
-                  rw (sym answer ∙ h)
-                  (ap₂ (λ i j. accepted (record { appeared = i; vanished = j })) (c .appeared ∙ slotted-fresh old (f .slots) n) (c .vanished ∙ slotted-fresh (f .slots) old n));
+                  rw (
+                    sym answer ∙ h,
+                    c .appeared ∙ slotted-fresh old (f .slots) n,
+                    c .vanished ∙ slotted-fresh (f .slots) old n,
+                    z ∙ ap (λ (w : ℕ → ℕ → Bool). count (via w (below n) to) n) (g .same ∙ edges),
+                  ) refl;
               stands =
                   rw (e, slotted-matrix (f .slots) n, tallies)
                   (stands-committed after atom to (can .there) (can .node) (sym answer ∙ h) (omega (arith, chunks-balance))

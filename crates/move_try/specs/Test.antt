@@ -12,7 +12,6 @@ use Rattle.graph_slots.specs.Asked.{Slots, SlotLists, CanMark}
 use Rattle.graphs.specs.Lists.{below}
 use Rattle.graphs.specs.Tab.{tab-length, tab-at}
 use Rattle.graphs.specs.Walk.{via, cyclic}
-use Rattle.graphs.specs.Slots.{slotEdge}
 use Rattle.graph_neighbours.specs.Lists.{Graph}
 use Rattle.graph_walks.specs.Marks.{marking, marked}
 use Rattle.layout.specs.Patch.{patch, part, part-long, part-at, patch-long, patch-in}
@@ -60,21 +59,21 @@ pub marked-long : (e : ℕ → ℕ → Bool) (n counter y : ℕ) (l : List ℕ) 
 unfolding marking
 marked-long e n counter y l = tab-length _ (length l)
 
--- what the code reads: y has the counter exactly where y reaches itself
-pub walk-own : (e : ℕ → ℕ → Bool) (n counter y : ℕ) (l : List ℕ) → y < n → Fresh l n counter → eqb (getD (walk-area e n counter y l) (laneAt n 9 + y) 0) counter ≡ via e (below n) y y
+-- what the code reads: a node has the counter exactly where y reaches it
+pub walk-marked : (e : ℕ → ℕ → Bool) (n counter y : ℕ) (l : List ℕ) (x : ℕ) → x < n → Fresh l n counter → eqb (getD (walk-area e n counter y l) (laneAt n 9 + x) 0) counter ≡ via e (below n) y x
 unfolding walk-area marking
-walk-own e n counter y l h f =
+walk-marked e n counter y l x h f =
     ap (λ k. eqb k counter)
-    (patch-in (laneAt n 9) w l y (omega (arith, marked-long e n counter y (part (laneAt n 9) n l), part-long (laneAt n 9) n l)) (omega (arith, f .room))
-    ∙ tab-at _ (length (part (laneAt n 9) n l)) y (omega (arith, part-long (laneAt n 9) n l)) ∙ ap (cond (via e (below n) y y) counter) (part-at (laneAt n 9) n l y h))
-    ∙ go (via e (below n) y y)
+    (patch-in (laneAt n 9) w l x (omega (arith, marked-long e n counter y (part (laneAt n 9) n l), part-long (laneAt n 9) n l)) (omega (arith, f .room))
+    ∙ tab-at _ (length (part (laneAt n 9) n l)) x (omega (arith, part-long (laneAt n 9) n l)) ∙ ap (cond (via e (below n) y x) counter) (part-at (laneAt n 9) n l x h))
+    ∙ go (via e (below n) y x)
   where
     w : List ℕ
     w = marked e n counter y (part (laneAt n 9) n l)
 
-    go : (t : Bool) → eqb (cond t counter (getD l (laneAt n 9 + y) 0)) counter ≡ t
+    go : (t : Bool) → eqb (cond t counter (getD l (laneAt n 9 + x) 0)) counter ≡ t
     go true = eq-eqb counter counter refl
-    go false = ne-eqb (getD l (laneAt n 9 + y) 0) counter (λ q. omega (arith, f .below y h))
+    go false = ne-eqb (getD l (laneAt n 9 + x) 0) counter (λ q. omega (arith, f .below x h))
 
 -- after the raising every mark is below the counter
 pub raised-long : (n : ℕ) (l : List ℕ) → length (raised n l) ≡ length l
@@ -125,7 +124,7 @@ module _ {area : List ℕ} {n counter y : ℕ} {heads list : List ℕ} (can : Ca
 
   -- what the code reads
   pub itself-done : (e : ℕ → ℕ → Bool) {l : List ℕ} → l ≡ walk-area e n counter y area → eqb (getD l (laneAt n 9 + y) 0) counter ≡ via e (below n) y y
-  itself-done e h = ap (λ (u : List ℕ). eqb (getD u (laneAt n 9 + y) 0) counter) h ∙ walk-own e n counter y area (can .node) (can .fresh)
+  itself-done e h = ap (λ (u : List ℕ). eqb (getD u (laneAt n 9 + y) 0) counter) h ∙ walk-marked e n counter y area y (can .node) (can .fresh)
 
 -- the two ways of the test
 pub search-done : (e : ℕ → ℕ → Bool) (n y : ℕ) (l : List ℕ) {r : Bool} → getD l (n * n + 2) 0 ≡ 0 → r ≡ cyclic e (below n) → (r ≡ closes e n y l) × (l ≡ tested e n y l)

@@ -4,10 +4,12 @@ ghost use Rattle.entry_set.specs.Sets.{number};
 ghost use Rattle.move_try.specs.Settle.{answerOf};
 ghost use Rattle.move_try.specs.Tried.{CanTry, Answers};
 
-// What an accepted move reports: how many distinct edges the graph has afterwards that it hadn't before, and the other way round.
+// What an accepted move reports: how many distinct edges the graph has afterwards that it hadn't before, and the other way round, and how many other
+// chunks the moved atom's chunk then reaches.
 pub struct Moved {
     pub appeared: u32,
     pub vanished: u32,
+    pub reached: u32,
 }
 
 // What a move on a checked area comes to.
@@ -17,6 +19,7 @@ pub enum Tried {
 }
 
 mod early;
+mod reach;
 mod settle;
 mod test;
 mod totals;

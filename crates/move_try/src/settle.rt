@@ -4,12 +4,14 @@ ghost use Rattle.move_ledger.specs.Graph.{lent};
 ghost use Rattle.move_try.specs.Settle.{answerOf, CanSettle, SettleRoom, Settled};
 use super::Moved;
 use super::Tried;
+use super::reach;
 use super::test;
 use super::trial;
 use super::writes;
 
-// Moves the atom to node `to` where the graph then has no cycle, and answers whether it did and how many edges came and went. The moved placement's slots stand in `sources` and
-// `targets`, grouped in `heads` and `list`; then the present one's in `list` and `spare`, and `heads` has its atom counts.
+// Moves the atom to node `to` where the graph then has no cycle, and answers whether it did, how many edges came and went and how many nodes `to`
+// then reaches. The moved placement's slots stand in `sources` and `targets`, grouped in `heads` and `list`; then the present one's in `list` and
+// `spare`, and `heads` has its atom counts.
 fn settle_in(
     a: usize,
     d: usize,
@@ -50,6 +52,7 @@ fn settle_in(
     if test::closes_cycle(area, n, to, sources, targets, m, heads, list) {
         return Tried::Rejected;
     }
+    let reached = reach::reached(area, n, to, heads, list);
     move_slots::fill_own_slots(
         a,
         d,
@@ -67,6 +70,7 @@ fn settle_in(
     Tried::Accepted(Moved {
         appeared: changes.appeared,
         vanished: changes.vanished,
+        reached,
     })
 }
 

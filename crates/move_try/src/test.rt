@@ -4,7 +4,7 @@ ghost use Rattle.graphs.specs.Lists.{below};
 ghost use Rattle.graphs.specs.Walk.{via};
 ghost use Rattle.graphs.specs.Slots.{slotEdge};
 ghost use Rattle.graph_neighbours.specs.Lists.{edge};
-ghost use Rattle.graph_slots.specs.Asked.{ListRoom};
+ghost use Rattle.graph_slots.specs.Asked.{ListRoom, SlotLists};
 ghost use Rattle.move_try.specs.Test.{CanMarkLane, CanTest, walk-area, tested, closes};
 use super::writes::raise;
 
@@ -50,6 +50,7 @@ pub fn closes_cycle(
     requires { ⌜ CanTest (now area) n to (now sources) (now targets) m × ListRoom m n (now heads) (now list) ⌝ }
     ensures { λ r. ⌜ r ≡ closes (slotEdge (now (sources .entry)) (now (targets .entry)) m) n to (now (area .entry)) ⌝ }
     ensures { λ _. ⌜ now (area .exit) ≡ tested (slotEdge (now (sources .entry)) (now (targets .entry)) m) n to (now (area .entry)) ⌝ }
+    ensures { λ _. ⌜ SlotLists (now (sources .entry)) (now (targets .entry)) m n (now (heads .exit)) (now (list .exit)) ⌝ }
 {
     graph_neighbours::group(sources, targets, m, n, heads, list);
     if area[n * n + 2] == 0 {

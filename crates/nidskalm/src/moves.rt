@@ -45,7 +45,8 @@ pub extern "C" fn nidskalm_reduced_chunk_graph_new(
     ))
 }
 
-// Moves an atom to a set if no cycle arises, and how many distinct edges then appear and vanish.
+// Moves an atom to a set if no cycle arises: how many distinct edges then appear and vanish, and how many other chunks
+// its chunk then reaches.
 #[no_mangle]
 pub extern "C" fn nidskalm_reduced_chunk_graph_try_move(
     a: u64,

@@ -38,17 +38,17 @@ move-reply moved.none = answering 0
 
 -- row q refuses the move
 abbrev pub no-move : ℕ → MoveReply
-no-move q = record { refusal = q; accepted = 0; appeared = 0; vanished = 0 }
+no-move q = record { refusal = q; accepted = 0; appeared = 0; vanished = 0; reached = 0 }
 
 -- the move isn't refused
-abbrev pub moving : ℕ → ℕ → ℕ → MoveReply
-moving told come gone = record { refusal = 0; accepted = told; appeared = come; vanished = gone }
+abbrev pub moving : ℕ → ℕ → ℕ → ℕ → MoveReply
+moving told come gone reach = record { refusal = 0; accepted = told; appeared = come; vanished = gone; reached = reach }
 
--- `try_move`. 02: "Rejected moves report zeros"
+-- `try_move`. 02: "Rejected moves report zeros", "a rejected one 0"
 unfoldable pub try-reply : moved.Answer → MoveReply
 try-reply (moved.refused q) = no-move q
-try-reply moved.rejected = moving 0 0 0
-try-reply (moved.accepted r) = moving 1 (r .appeared) (r .vanished)
+try-reply moved.rejected = moving 0 0 0 0
+try-reply (moved.accepted r) = moving 1 (r .appeared) (r .vanished) (r .reached)
 try-reply moved.acyclic = no-move 0
 try-reply moved.cyclic = no-move 0
 try-reply (moved.number k) = no-move 0

@@ -26,13 +26,15 @@ pub struct Reply {
     pub value: u64,
 }
 
-// `accepted` is 1 or 0; where it is 1, how many distinct edges appeared and vanished.
+// `accepted` is 1 or 0; where it is 1, how many distinct edges appeared and vanished, and how many other chunks the atom's
+// chunk then reaches.
 #[repr(C)]
 pub struct MoveReply {
     pub refusal: u64,
     pub accepted: u64,
     pub appeared: u64,
     pub vanished: u64,
+    pub reached: u64,
 }
 
 // A set is four numbers, the lowest first.
@@ -92,14 +94,15 @@ pub fn of_load(answer: LoadAnswer) -> Reply
 }
 
 // The move isn't refused.
-fn tried(accepted: u64, appeared: u64, vanished: u64) -> MoveReply
-    ensures { λ r. ⌜ r ≡ moving accepted appeared vanished ⌝ }
+fn tried(accepted: u64, appeared: u64, vanished: u64, reached: u64) -> MoveReply
+    ensures { λ r. ⌜ r ≡ moving accepted appeared vanished reached ⌝ }
 {
     MoveReply {
         refusal: 0,
         accepted: accepted,
         appeared: appeared,
         vanished: vanished,
+        reached: reached,
     }
 }
 
@@ -107,13 +110,19 @@ pub fn of_move(answer: MoveAnswer) -> MoveReply
     ensures { λ r. ⌜ r ≡ try-reply (ofMove answer) ⌝ }
 {
     match answer {
-        MoveAnswer::Accepted(moved) => tried(1, moved.appeared as u64, moved.vanished as u64),
-        MoveAnswer::Rejected => tried(0, 0, 0),
+        MoveAnswer::Accepted(moved) => tried(
+            1,
+            moved.appeared as u64,
+            moved.vanished as u64,
+            moved.reached as u64,
+        ),
+        MoveAnswer::Rejected => tried(0, 0, 0, 0),
         MoveAnswer::Refused(q) => MoveReply {
             refusal: q as u64,
             accepted: 0,
             appeared: 0,
             vanished: 0,
+            reached: 0,
         },
     }
 }

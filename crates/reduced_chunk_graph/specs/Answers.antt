@@ -21,7 +21,7 @@ ofLoad (load.Refused q) = refused q
 
 -- the answer of `try_move`
 abbrev pub ofMove : MoveAnswer → Answer
-ofMove (move.Accepted m) = accepted (record { appeared = m .appeared; vanished = m .vanished })
+ofMove (move.Accepted m) = accepted (record { appeared = m .appeared; vanished = m .vanished; reached = m .reached })
 ofMove move.Rejected = rejected
 ofMove (move.Refused q) = refused q
 

@@ -21,7 +21,8 @@ pub enum LoadAnswer {
     Refused(u32),
 }
 
-// What `try_move` answers. An accepted move reports how many distinct edges appeared and vanished.
+// What `try_move` answers. An accepted move reports how many distinct edges appeared and vanished, and how many other chunks
+// the atom's chunk then reaches.
 pub enum MoveAnswer {
     Accepted(move_try::Moved),
     Rejected,

@@ -20,13 +20,13 @@ impl MoveReply {
         Self { refusal, ..Self::default() }
     }
 
-    /// "Rejected moves report zeros."
+    /// "Rejected moves report zeros"; "a rejected one 0".
     pub fn rejected() -> Self {
         Self::default()
     }
 
-    pub fn accepted(appeared: u64, vanished: u64) -> Self {
-        Self { refusal: 0, accepted: 1, appeared, vanished }
+    pub fn accepted(appeared: u64, vanished: u64, reached: u64) -> Self {
+        Self { refusal: 0, accepted: 1, appeared, vanished, reached }
     }
 }
 

@@ -166,6 +166,11 @@ impl Graph {
         self.nodes.iter().zip(reached).filter_map(|(&set, yes)| yes.then_some(set)).collect()
     }
 
+    /// "How many other chunks" the chunk reaches.
+    pub fn others_reached(&self, chunk: Set) -> u64 {
+        self.reached(chunk).iter().filter(|&&set| set != chunk).count() as u64
+    }
+
     /// The stored component: the nodes on closed walks, if any two of them reach each other; else nobody.
     pub fn component(&self) -> BTreeSet<Set> {
         if !self.cyclic() {
@@ -183,6 +188,12 @@ impl Graph {
 /// "The number of occupied sets": of sets that some atom has.
 fn occupied(place: &[Set]) -> u64 {
     place.iter().collect::<BTreeSet<_>>().len() as u64
+}
+
+/// What an accepted move from one graph to another reports, the atom's new chunk being `target`.
+pub fn changes(before: &Graph, after: &Graph, target: Set) -> MoveReply {
+    let (appeared, vanished) = (gained(&before.edges, &after.edges), gained(&after.edges, &before.edges));
+    MoveReply::accepted(appeared, vanished, after.others_reached(target))
 }
 
 /// The ledger: each atom's set, and the registered sets in the order of registration.
@@ -246,8 +257,7 @@ impl Ledger {
             return (MoveReply::rejected(), Step::Tried { acyclic, accepted: false });
         }
         self.place = moved;
-        let reply = MoveReply::accepted(gained(&graph.edges, &after.edges), gained(&after.edges, &graph.edges));
-        (reply, Step::Tried { acyclic, accepted: true })
+        (changes(&graph, &after, target), Step::Tried { acyclic, accepted: true })
     }
 
     pub fn atom_set(&self, load: &Load, atom: u32) -> SetReply {

@@ -48,7 +48,7 @@ fn move_call_numbers(call: &MoveCall) -> Vec<u64> {
 /// An answer with sets of `w` numbers.
 fn move_answer_numbers(answer: Answer, w: usize) -> Vec<u64> {
     match answer {
-        Answer::Moved(reply) => vec![reply.refusal, reply.accepted, reply.appeared, reply.vanished],
+        Answer::Moved(reply) => vec![reply.refusal, reply.accepted, reply.appeared, reply.vanished, reply.reached],
         Answer::Reply(reply) => vec![reply.refusal, reply.value],
         Answer::Set(reply) => {
             let set = [reply.set0, reply.set1, reply.set2, reply.set3];

@@ -41,7 +41,13 @@ impl Reader<'_> {
     }
 
     fn moved(&mut self) -> MoveReply {
-        MoveReply { refusal: self.one(), accepted: self.one(), appeared: self.one(), vanished: self.one() }
+        MoveReply {
+            refusal: self.one(),
+            accepted: self.one(),
+            appeared: self.one(),
+            vanished: self.one(),
+            reached: self.one(),
+        }
     }
 
     fn set(&mut self, w: u64) -> Set {

@@ -10,7 +10,7 @@ use crate::sets::{Set, lent_set, width};
 pub const HARMLESS: &str = "loading clears the flags of chunks not yet made";
 
 /// Bugs by name; the first two are none.
-pub const PLANTS: [&str; 66] = [
+pub const PLANTS: [&str; 70] = [
     "none",
     HARMLESS,
     "repeated dependency counted once",
@@ -51,6 +51,10 @@ pub const PLANTS: [&str; 66] = [
     "an edge more told at every addition",
     "appeared and vanished exchanged",
     "a rejected move reports its trial",
+    "a chunk counted as reached by itself",
+    "the reach in the graph before the move",
+    "the reach in one step",
+    "the reach only from an acyclic graph",
     "a fixed atom moves",
     "a mark kept as lent",
     "fixed flags not checked by 9",

@@ -3,7 +3,7 @@ use std::collections::{BTreeMap, BTreeSet};
 
 use crate::layout::MoveLayout;
 use crate::library::MoveReply;
-use crate::moves_model::{Graph, Load, MoveState, NONE, entry_sets, gained, load_refusal, multiplicities};
+use crate::moves_model::{Graph, Load, MoveState, NONE, changes, entry_sets, load_refusal};
 use crate::sets::{Set, lent_set, width, words};
 use crate::stand_in_library::StandIn;
 
@@ -126,29 +126,48 @@ impl StandIn {
         reply
     }
 
-    /// The edges that come and go as a planted bug counts them.
+    /// The edges that come and go, and the chunks reached, as a planted bug counts them.
     fn miscounted(&self, load: &Load, place: &[Set], atom: u32, bits: &[u64], reply: MoveReply) -> MoveReply {
-        let (MoveReply { refusal: 0, accepted, appeared, vanished }, Some(target)) = (reply, lent_set(bits, load.e))
+        let (MoveReply { refusal: 0, accepted, appeared, vanished, reached }, Some(target)) =
+            (reply, lent_set(bits, load.e))
         else {
             return reply;
         };
         let mut moved = place.to_vec();
         moved[atom as usize] = target;
-        let (before, after) = (multiplicities(load, place), multiplicities(load, &moved));
+        let (old, new) = (Graph::new(load, place), Graph::new(load, &moved));
+        let (before, after) = (&old.edges, &new.edges);
         if accepted == 0 && self.planted("a rejected move reports its trial") {
-            return MoveReply { accepted, ..MoveReply::accepted(gained(&before, &after), gained(&after, &before)) };
+            return MoveReply { accepted, ..changes(&old, &new, target) };
+        }
+        if accepted == 1 && self.planted("a chunk counted as reached by itself") {
+            return MoveReply::accepted(appeared, vanished, reached + 1);
+        }
+        if accepted == 1 && self.planted("the reach in the graph before the move") {
+            let there = if old.nodes.contains(&target) { old.others_reached(target) } else { 0 };
+            return MoveReply::accepted(appeared, vanished, there);
+        }
+        if accepted == 1 && self.planted("the reach in one step") {
+            return MoveReply::accepted(
+                appeared,
+                vanished,
+                after.keys().filter(|edge| edge.0 == target).count() as u64,
+            );
+        }
+        if accepted == 1 && self.planted("the reach only from an acyclic graph") && old.cyclic() {
+            return MoveReply::accepted(appeared, vanished, 0);
         }
         if accepted == 1 && self.planted("appeared and vanished exchanged") {
-            return MoveReply::accepted(vanished, appeared);
+            return MoveReply::accepted(vanished, appeared, reached);
         }
         if accepted == 1 && self.planted("an edge more told at every addition") {
             let more = after.iter().map(|(edge, &count)| count.saturating_sub(before.get(edge).map_or(0, |&old| old)));
-            return MoveReply::accepted(more.map(u64::from).sum(), vanished);
+            return MoveReply::accepted(more.map(u64::from).sum(), vanished, reached);
         }
         if accepted == 1 && self.planted("edges removed before edges are added") {
             // What goes with the atom is gone before what comes with it is there: an edge of both that only the atom makes is counted twice.
-            let twice = both_ways(load, place, &moved, &before, &after);
-            return MoveReply::accepted(appeared + twice, vanished + twice);
+            let twice = both_ways(load, place, &moved, before, after);
+            return MoveReply::accepted(appeared + twice, vanished + twice, reached);
         }
         reply
     }
@@ -172,7 +191,7 @@ impl StandIn {
     /// An answer without a look at the graph.
     fn early_answer(&self, trial: Trial) -> Option<MoveReply> {
         if trial.stays() && self.planted("12 left out") {
-            return Some(MoveReply::accepted(0, 0));
+            return Some(MoveReply::accepted(0, 0, 0));
         }
         if self.planted("13 where all places are taken") && trial.unseen && trial.full {
             return Some(MoveReply::refused(13));
@@ -245,7 +264,7 @@ impl StandIn {
         }
         let node = state.registered.iter().position(|&set| set == trial.target).unwrap();
         state.node[trial.atom as usize] = node as u32;
-        Some(MoveReply::accepted(gained(&graph.edges, &moved.edges), gained(&moved.edges, &graph.edges)))
+        Some(changes(&graph, &moved, trial.target))
     }
 
     /// The edge of the left set's bit still counts: a move is rejected for it.

@@ -15,6 +15,9 @@ cast-tried c = search needs
 cast-tried-2 : tie.Need-cast-tried-2
 cast-tried-2 c = search needs
 
+cast-tried-3 : tie.Need-cast-tried-3
+cast-tried-3 c = search needs
+
 tried-requires : tie.Need-tried-requires
 tried-requires c κs = search needs
 
@@ -27,12 +30,12 @@ tried-requires-2 c κs = search needs
 enum-known-answer-2 : tie.Need-enum-known-answer-2
 enum-known-answer-2 c = search needs
 
-cast-t7 : tie.Need-cast-t7
-cast-t7 c = search needs
+cast-t8 : tie.Need-cast-t8
+cast-t8 c = search needs
 
 returns : tie.Need-returns
 unfolding try-reply
-returns c = c .tried .ensures ∙ ap (λ x. try-reply (ofMove x)) (sym (c .before .before .before .before .answer .given .1))
+returns c = c .tried .ensures ∙ ap (λ x. try-reply (ofMove x)) (sym (c .before .before .before .before .before .answer .given .1))
 
 returns-2 : tie.Need-returns-2
 unfolding try-reply
@@ -49,11 +52,12 @@ of-move-spec =
     enum-known-answer
     cast-tried
     cast-tried-2
+    cast-tried-3
     tried-requires
     enum-told
     tried-requires-2
     enum-known-answer-2
-    cast-t7
+    cast-t8
     returns
     returns-2
     returns-3)

@@ -36,7 +36,7 @@ same-length-2 : tie.Need-same-length-2
 same-length-2 c = search needs
 
 returns : tie.Need-returns
-returns c = let a = c .before .before .before .before .before .before .before .before .before .before .before .before .before .before .before .before .before .args in search-done (slotEdge (a .sources .now) (a .targets .now) (a .m)) (a .n) (a .to) (a .area .now) (c .before .before .before .if1 .taken) (c .has-cycle .ensures ∙ ap (λ (f : ℕ → ℕ → Bool). cyclic f (below (a .n))) (slot-lists (c .before .before .before .before .before .before .before .before .before .before .before .before .before .before .before .before .before .pre .0 .ask) (c .before .before .before .before .before .before .before .before .before .before .before .before .before .before .before .before .before .pre .1) (c .before .before .before .before .before .before .before .before .before .group .ensures) .same))
+returns c = let a = c .before .before .before .before .before .before .before .before .before .before .before .before .before .before .before .before .before .args in let d = search-done (slotEdge (a .sources .now) (a .targets .now) (a .m)) (a .n) (a .to) (a .area .now) (c .before .before .before .if1 .taken) (c .has-cycle .ensures ∙ ap (λ (f : ℕ → ℕ → Bool). cyclic f (below (a .n))) (slot-lists (c .before .before .before .before .before .before .before .before .before .before .before .before .before .before .before .before .before .pre .0 .ask) (c .before .before .before .before .before .before .before .before .before .before .before .before .before .before .before .before .before .pre .1) (c .before .before .before .before .before .before .before .before .before .group .ensures) .same)) in (d .0, (d .1, slot-lists (c .before .before .before .before .before .before .before .before .before .before .before .before .before .before .before .before .before .pre .0 .ask) (c .before .before .before .before .before .before .before .before .before .before .before .before .before .before .before .before .before .pre .1) (c .before .before .before .before .before .before .before .before .before .group .ensures)))
 
 raise-requires : tie.Need-raise-requires
 raise-requires c κs = search needs
@@ -54,7 +54,7 @@ same-length-5 : tie.Need-same-length-5
 same-length-5 c = search needs
 
 returns-2 : tie.Need-returns-2
-returns-2 c = let a = c .before .before .before .before .before .before .before .before .before .before .before .before .before .before .before .before .before .before .before .before .before .before .before .before .args in walk-done (slotEdge (a .sources .now) (a .targets .now) (a .m)) (a .n) (a .to) (a .area .now) (c .before .before .before .before .before .before .before .before .before .before .if1 .left) (c .before .before .before .before .before .before .before .before .raise .ensures .0) (c .before .before .before .before .before .before .before .before .raise .ensures .1) (rw (slot-lists (c .before .before .before .before .before .before .before .before .before .before .before .before .before .before .before .before .before .before .before .before .before .before .before .before .pre .0 .ask) (c .before .before .before .before .before .before .before .before .before .before .before .before .before .before .before .before .before .before .before .before .before .before .before .before .pre .1) (c .before .before .before .before .before .before .before .before .before .before .before .before .before .before .before .before .group .ensures) .same) at (c .before .before .reaches-itself .ensures))
+returns-2 c = let a = c .before .before .before .before .before .before .before .before .before .before .before .before .before .before .before .before .before .before .before .before .before .before .before .before .args in let d = walk-done (slotEdge (a .sources .now) (a .targets .now) (a .m)) (a .n) (a .to) (a .area .now) (c .before .before .before .before .before .before .before .before .before .before .if1 .left) (c .before .before .before .before .before .before .before .before .raise .ensures .0) (c .before .before .before .before .before .before .before .before .raise .ensures .1) (rw (slot-lists (c .before .before .before .before .before .before .before .before .before .before .before .before .before .before .before .before .before .before .before .before .before .before .before .before .pre .0 .ask) (c .before .before .before .before .before .before .before .before .before .before .before .before .before .before .before .before .before .before .before .before .before .before .before .before .pre .1) (c .before .before .before .before .before .before .before .before .before .before .before .before .before .before .before .before .group .ensures) .same) at (c .before .before .reaches-itself .ensures)) in (d .0, (d .1, slot-lists (c .before .before .before .before .before .before .before .before .before .before .before .before .before .before .before .before .before .before .before .before .before .before .before .before .pre .0 .ask) (c .before .before .before .before .before .before .before .before .before .before .before .before .before .before .before .before .before .before .before .before .before .before .before .before .pre .1) (c .before .before .before .before .before .before .before .before .before .before .before .before .before .before .before .before .group .ensures)))
 
 pub closes-cycle-spec : {M : Type 1} → statement M
 closes-cycle-spec =
