@@ -7,6 +7,7 @@ pub mod Demand3
 pub mod Room
 pub mod Chain
 pub mod Fixed
+pub mod StartOrder
 pub mod MergeRefused
 pub mod MergeKept
 pub mod MergeLoaded
