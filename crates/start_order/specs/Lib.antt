@@ -1,0 +1,2 @@
+-- The definitions that the contracts of `start_order` cite, and their laws. Assumes nothing.
+pub mod Turns
