@@ -1,0 +1,91 @@
+use Rattle.start_order.specs.Bits.{word-room, holds-word}
+use Rattle.move_order.specs.Order.{holds}
+use Rattle.move_area.specs.Bodies.{laneAt}
+use Rattle.entry_set.specs.Lanes.{lanes}
+use borrow.Author.Tests.{eq-eqb, ne-eqb}
+use mathlib.Core.Bool.{not, _&&_}
+use mathlib.Core.Path.{sym, ap, _∙_}
+use native.Mathlib.Omega.{arith}
+use Prim.Native.Nat.{_+_}
+use borrow.Author.Needs.{needs}
+use Rattle.start_order.proofs.wanted.is_root.Statement.{statement}
+use Rattle.start_order.proofs.wanted.is_root.Tie as tie
+use Rattle.start_order.proofs.wanted.is_root.Reads as reads
+use Rattle.start_order.proofs.wanted.is_root.Lts as lts
+use Rattle.start_order.proofs.wanted.has_bit.Reads as has-bit-reads
+
+-- src/wanted.rt:26:17
+mul-lanes : tie.Need-mul-lanes
+mul-lanes c = search needs
+
+-- src/wanted.rt:26:17
+add-lanes : tie.Need-add-lanes
+add-lanes c = search needs
+
+-- src/wanted.rt:27:21
+mul-if1 : tie.Need-mul-if1
+mul-if1 c = search needs
+
+-- src/wanted.rt:27:13
+add-if1 : tie.Need-add-if1
+add-if1 c = search needs
+
+-- src/wanted.rt:27:13
+add-if1-2 : tie.Need-add-if1-2
+add-if1-2 c = search needs
+
+-- src/wanted.rt:27:8
+mul-if1-2 : tie.Need-mul-if1-2
+mul-if1-2 c = search needs
+
+-- src/wanted.rt:27:8
+shared-slice-read-if1 : tie.Need-shared-slice-read-if1
+shared-slice-read-if1 c = search needs
+
+-- src/wanted.rt:28:9
+returns : tie.Need-returns
+returns c =
+    sym (ap (λ t. not t && holds (c .before .before .before .args .bit) (lanes (c .before .before .before .args .area .now) (laneAt (c .before .before .before .args .n) 0 + c .before .before .before .args .x) (c .before .before .before .args .n))) (eq-eqb _ _ (c .if1 .taken)))
+
+-- src/wanted.rt:30:27
+mul-has-bit : tie.Need-mul-has-bit
+mul-has-bit c =
+    omega (arith, word-room (c .before .before .before .pre))
+
+-- src/wanted.rt:30:19
+add-has-bit : tie.Need-add-has-bit
+add-has-bit c =
+    omega (arith, word-room (c .before .before .before .pre))
+
+-- src/wanted.rt:30:19
+add-has-bit-2 : tie.Need-add-has-bit-2
+add-has-bit-2 c =
+    omega (arith, word-room (c .before .before .before .pre))
+
+-- src/wanted.rt:30:5
+has-bit-requires : tie.Need-has-bit-requires
+has-bit-requires c κs =
+    (word-room (c .before .before .before .pre), omega arith)
+
+-- src/wanted.rt:22:1
+returns-2 : tie.Need-returns-2
+returns-2 c =
+    c .has-bit .ensures ∙ holds-word (c .before .before .before .before .args .area .now) (c .before .before .before .before .args .n) (c .before .before .before .before .args .bit) (c .before .before .before .before .args .x) _ (c .before .before .before .before .pre .bit) ∙ sym (ap (λ t. not t && holds (c .before .before .before .before .args .bit) (lanes (c .before .before .before .before .args .area .now) (laneAt (c .before .before .before .before .args .n) 0 + c .before .before .before .before .args .x) (c .before .before .before .before .args .n))) (ne-eqb _ _ (c .before .if1 .left)))
+
+pub is-root-spec : {M : Type 1} → statement M
+is-root-spec =
+    tie.close
+    (tie.spec
+    mul-lanes
+    add-lanes
+    mul-if1
+    add-if1
+    add-if1-2
+    mul-if1-2
+    shared-slice-read-if1
+    returns
+    mul-has-bit
+    add-has-bit
+    add-has-bit-2
+    has-bit-requires
+    returns-2)

@@ -1,0 +1,40 @@
+use borrow.Author.Needs.{needs}
+use Rattle.start_order.proofs.wanted.seed.Statement.{statement}
+use Rattle.start_order.proofs.wanted.seed.Tie as tie
+use Rattle.start_order.proofs.wanted.seed.Reads as reads
+use Rattle.start_order.proofs.wanted.seed.Lts as lts
+use Rattle.graph_walks.proofs.look.Reads as look-reads
+use Rattle.start_order.proofs.wanted.is_root.Reads as is-root-reads
+
+-- src/wanted.rt:46:8
+is-root-requires : tie.Need-is-root-requires
+is-root-requires c κs = search needs
+
+-- src/wanted.rt:47:59
+cast-look : tie.Need-cast-look
+cast-look c = search needs
+
+-- src/wanted.rt:47:9
+look-requires : tie.Need-look-requires
+look-requires c κs = search needs
+
+-- src/wanted.rt:47:9
+same-length : tie.Need-same-length
+same-length c = search needs
+
+-- src/wanted.rt:47:9
+same-length-2 : tie.Need-same-length-2
+same-length-2 c = search needs
+
+-- src/wanted.rt:47:9
+returns : tie.Need-returns
+returns c = ?
+
+-- src/wanted.rt:34:1
+returns-2 : tie.Need-returns-2
+returns-2 c = ?
+
+pub seed-spec : {M : Type 1} → statement M
+seed-spec =
+    tie.close
+    (tie.spec is-root-requires cast-look look-requires same-length same-length-2 returns returns-2)
