@@ -9,3 +9,4 @@ pub mod Steps
 pub mod Walked
 pub mod StepLaws
 pub mod Running
+pub mod Walking

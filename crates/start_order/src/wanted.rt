@@ -6,7 +6,7 @@ ghost use lib.ListN.{length, getD};
 ghost use Rattle.move_ledger.specs.Graph.{lent};
 ghost use Rattle.start_order.specs.Bits.{picks, CanPick};
 ghost use Rattle.start_order.specs.Roots.{Roots, Blank, Seeded};
-ghost use Rattle.start_order.specs.Walked.{CanSeed, CanFind, CanMark};
+ghost use Rattle.start_order.specs.Walked.{CanSeed, CanFind, CanMark, MarkRoom};
 ghost use Rattle.start_order.specs.Marked.{Marked};
 use graph_neighbours::Direction;
 
@@ -70,8 +70,50 @@ fn roots(
     height
 }
 
-// Marks the registered nodes whose chunks are wanted with 1; before, all marks are 0.
-pub fn mark(
+// Marks the registered nodes whose chunks are wanted with 1; before, all marks are 0. The slots stand in `sources` and `targets`, grouped in
+// `heads` and `list`; `stack` has the atom counts first.
+fn mark_in(
+    a: usize,
+    d: usize,
+    e: usize,
+    n: usize,
+    starts: &[u32],
+    dependencies: &[u32],
+    hosts: &[u32],
+    area: &[u32],
+    registered: usize,
+    bit: usize,
+    marks: &mut [u32],
+    stack: &mut [u32],
+    sources: &mut [u32],
+    targets: &mut [u32],
+    heads: &mut [u32],
+    list: &mut [u32],
+)
+    requires { ⌜ CanMark (lent a d e (now starts) (now dependencies) (now hosts)) n (now area) registered bit (now marks) × MarkRoom n (d + e) (now stack) (now sources) (now targets) (now heads) (now list) ⌝ }
+    ensures { λ _. ⌜ Marked (lent a d e (now (starts .entry)) (now (dependencies .entry)) (now (hosts .entry))) n (now (area .entry)) registered bit (now (marks .exit)) ⌝ }
+{
+    move_slots::fill_own_slots(
+        a,
+        d,
+        e,
+        n,
+        starts,
+        dependencies,
+        hosts,
+        area,
+        stack,
+        sources,
+        targets,
+    );
+    graph_neighbours::group(sources, targets, d + e, n, heads, list);
+    let height = roots(area, n, registered, bit, marks, stack);
+    let along = Direction::Dependencies;
+    graph_walks::spread(along, heads, list, list, n, 1, marks, stack, height);
+}
+
+// Room for a load of any size within the limits.
+fn mark_large(
     a: usize,
     d: usize,
     e: usize,
@@ -92,7 +134,7 @@ pub fn mark(
     let mut targets = [0u32; 8448];
     let mut heads = [0u32; 1025];
     let mut list = [0u32; 8448];
-    move_slots::fill_own_slots(
+    mark_in(
         a,
         d,
         e,
@@ -101,22 +143,103 @@ pub fn mark(
         dependencies,
         hosts,
         area,
+        registered,
+        bit,
+        marks,
         &mut stack,
         &mut sources,
         &mut targets,
+        &mut heads,
+        &mut list,
     );
-    let m = move_slots::slot_count(n, d, e);
-    graph_neighbours::group(&sources, &targets, m, n, &mut heads, &mut list);
-    let height = roots(area, n, registered, bit, marks, &mut stack);
-    graph_walks::spread(
-        Direction::Dependencies,
-        &heads,
-        &list,
-        &list,
+}
+
+// Room for a small load.
+fn mark_small(
+    a: usize,
+    d: usize,
+    e: usize,
+    n: usize,
+    starts: &[u32],
+    dependencies: &[u32],
+    hosts: &[u32],
+    area: &[u32],
+    registered: usize,
+    bit: usize,
+    marks: &mut [u32],
+)
+    requires { ⌜ CanMark (lent a d e (now starts) (now dependencies) (now hosts)) n (now area) registered bit (now marks) × (n ≤ 128) × (d ≤ 768) ⌝ }
+    ensures { λ _. ⌜ Marked (lent a d e (now (starts .entry)) (now (dependencies .entry)) (now (hosts .entry))) n (now (area .entry)) registered bit (now (marks .exit)) ⌝ }
+{
+    let mut stack = [0u32; 128];
+    let mut sources = [0u32; 1024];
+    let mut targets = [0u32; 1024];
+    let mut heads = [0u32; 129];
+    let mut list = [0u32; 1024];
+    mark_in(
+        a,
+        d,
+        e,
         n,
-        1,
+        starts,
+        dependencies,
+        hosts,
+        area,
+        registered,
+        bit,
         marks,
         &mut stack,
-        height,
+        &mut sources,
+        &mut targets,
+        &mut heads,
+        &mut list,
+    );
+}
+
+// Marks the registered nodes whose chunks are wanted with 1; before, all marks are 0.
+pub fn mark(
+    a: usize,
+    d: usize,
+    e: usize,
+    n: usize,
+    starts: &[u32],
+    dependencies: &[u32],
+    hosts: &[u32],
+    area: &[u32],
+    registered: usize,
+    bit: usize,
+    marks: &mut [u32],
+)
+    requires { ⌜ CanMark (lent a d e (now starts) (now dependencies) (now hosts)) n (now area) registered bit (now marks) ⌝ }
+    ensures { λ _. ⌜ Marked (lent a d e (now (starts .entry)) (now (dependencies .entry)) (now (hosts .entry))) n (now (area .entry)) registered bit (now (marks .exit)) ⌝ }
+{
+    if move_slots::is_small(n, d) {
+        mark_small(
+            a,
+            d,
+            e,
+            n,
+            starts,
+            dependencies,
+            hosts,
+            area,
+            registered,
+            bit,
+            marks,
+        );
+        return;
+    }
+    mark_large(
+        a,
+        d,
+        e,
+        n,
+        starts,
+        dependencies,
+        hosts,
+        area,
+        registered,
+        bit,
+        marks,
     );
 }

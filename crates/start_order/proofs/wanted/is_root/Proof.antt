@@ -70,7 +70,7 @@ has-bit-requires c κs =
 -- src/wanted.rt:22:1
 returns-2 : tie.Need-returns-2
 returns-2 c =
-    c .has-bit .ensures ∙ holds-word (c .before .before .before .before .args .area .now) (c .before .before .before .before .args .n) (c .before .before .before .before .args .bit) (c .before .before .before .before .args .x) _ (c .before .before .before .before .pre .bit) ∙ sym (ap (λ t. not t && holds (c .before .before .before .before .args .bit) (lanes (c .before .before .before .before .args .area .now) (laneAt (c .before .before .before .before .args .n) 0 + c .before .before .before .before .args .x) (c .before .before .before .before .args .n))) (ne-eqb _ _ (c .before .if1 .left)))
+    c .has-bit .ensures ∙ holds-word (c .before .before .before .before .args .area .now) (c .before .before .before .before .args .n) (c .before .before .before .before .args .bit) (c .before .before .before .before .args .x) (λ i. omega (arith, c .before .before .shared-slice-known2 .given i)) (c .before .before .before .before .pre .bit) ∙ sym (ap (λ t. not t && holds (c .before .before .before .before .args .bit) (lanes (c .before .before .before .before .args .area .now) (laneAt (c .before .before .before .before .args .n) 0 + c .before .before .before .before .args .x) (c .before .before .before .before .args .n))) (ne-eqb _ _ (c .before .if1 .left)))
 
 pub is-root-spec : {M : Type 1} → statement M
 is-root-spec =

@@ -1,3 +1,5 @@
+use mathlib.Core.Bool.{true≢false}
+use mathlib.Core.Path.{refl, sym, _∙_}
 use borrow.Author.Needs.{needs}
 use Rattle.start_order.proofs.wanted.seed.Statement.{statement}
 use Rattle.start_order.proofs.wanted.seed.Tie as tie
@@ -28,11 +30,13 @@ same-length-2 c = search needs
 
 -- src/wanted.rt:47:9
 returns : tie.Need-returns
-returns c = ?
+returns c =
+    record { no = λ e. absurd (true≢false (sym (sym (c .before .before .before .before .before .before .before .before .is-root .ensures) ∙ c .before .before .before .before .before .before .before .if1 .taken) ∙ e)); yes = λ e. c .before .before .before .before .look .ensures }
 
 -- src/wanted.rt:34:1
 returns-2 : tie.Need-returns-2
-returns-2 c = ?
+returns-2 c =
+    record { no = λ e. (refl, refl, refl); yes = λ e. absurd (true≢false (sym e ∙ sym (c .before .is-root .ensures) ∙ c .if1 .left)) }
 
 pub seed-spec : {M : Type 1} → statement M
 seed-spec =
