@@ -42,8 +42,8 @@ module _ {load : Load} {n : ℕ} {area : List ℕ} {r : ℕ} (h : Checked load n
   pub picks-of : Picks load n area r b (picks area n b)
   picks-of = record {
     chunk = λ x c q.
-        let d = eqb-false _ _ (not-true _ (and-left (not (eqb (getD area (laneAt n 8 + x) 0) 0)) _ q)) in
-        let i = occupied-by load (nodesIn load n area) x (lt-ltb 0 _ (omega (arith, count-is x c))) in (
+        let d : getD area (laneAt n 8 + x) 0 ≡ 0 → ⊥ = eqb-false (getD area (laneAt n 8 + x) 0) 0 (not-true _ (and-left (not (eqb (getD area (laneAt n 8 + x) 0) 0)) _ q)) in
+        let i = occupied-by load (nodesIn load n area) x (lt-ltb 0 (members load (nodesIn load n area) x) (omega (arith, count-is x c, d))) in (
           subst (λ X. has X (placeIn load n area) ≡ true) (place-at h (i .0) (i .1) ∙ ap (at (setsIn n area)) (i .2)) (has-at (placeIn load n area) (i .0) (omega (arith, i .1, atoms h))),
           set-is x c ∙ and-right (not (eqb (getD area (laneAt n 8 + x) 0) 0)) _ q,
         );
@@ -51,7 +51,7 @@ module _ {load : Load} {n : ℕ} {area : List ℕ} {r : ℕ} (h : Checked load n
         let x : ℕ = at (nodesIn load n area) i in
         let l : x < r = omega (arith, placing h .inside i c, long h) in
         and-both (not (eqb (getD area (laneAt n 8 + x) 0) 0)) _
-        (ap not (ne-eqb _ _ (omega (arith, count-is x l, ltb-true 0 _ (occupy load (nodesIn load n area) x i c refl)))))
+        (ap not (ne-eqb (getD area (laneAt n 8 + x) 0) 0 (omega (arith, count-is x l, ltb-true 0 _ (occupy load (nodesIn load n area) x i c refl)))))
         (sym (set-is x l) ∙ q);
   }
 

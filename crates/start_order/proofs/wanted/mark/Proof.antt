@@ -13,7 +13,8 @@ is-small-requires c κs = search needs
 
 -- src/wanted.rt:217:9
 mark-small-requires : tie.Need-mark-small-requires
-mark-small-requires c κs = ?
+mark-small-requires c κs =
+    let q = c .before .before .is-small .ensures (c .before .if1 .taken) in (c .before .before .before .before .before .before .before .before .pre, q .0, q .1)
 
 -- src/wanted.rt:230:9
 same-length : tie.Need-same-length

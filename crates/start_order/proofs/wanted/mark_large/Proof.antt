@@ -1,3 +1,4 @@
+use native.Mathlib.Omega.{arith}
 use borrow.Author.Needs.{needs}
 use Rattle.start_order.proofs.wanted.mark_large.Statement.{statement}
 use Rattle.start_order.proofs.wanted.mark_large.Tie as tie
@@ -27,7 +28,8 @@ slice-aggregate-mark-in-5 c = search needs
 
 -- src/wanted.rt:137:5
 mark-in-requires : tie.Need-mark-in-requires
-mark-in-requires c κs = ?
+mark-in-requires c κs =
+    let p = c .before .before .before .before .before .before .before .before .before .before .before .pre in let z = p .checked .loadable .sizes in (p, record { stack-long = omega (arith, z .sets, z .entries, z .bits); sources-long = omega (arith, z .sets, z .entries, z .bits); targets-long = omega (arith, z .sets, z .entries, z .bits); lists = record { rows = omega (arith, z .sets, z .entries, z .bits); room = omega (arith, z .sets, z .entries, z .bits); short = omega (arith, z .sets, z .entries, z .bits) } })
 
 -- src/wanted.rt:116:1
 same-length : tie.Need-same-length

@@ -1,3 +1,4 @@
+use native.Mathlib.Omega.{arith}
 use borrow.Author.Needs.{needs}
 use Rattle.start_order.proofs.wanted.mark_small.Statement.{statement}
 use Rattle.start_order.proofs.wanted.mark_small.Tie as tie
@@ -27,7 +28,8 @@ slice-aggregate-mark-in-5 c = search needs
 
 -- src/wanted.rt:179:5
 mark-in-requires : tie.Need-mark-in-requires
-mark-in-requires c κs = ?
+mark-in-requires c κs =
+    let p = c .before .before .before .before .before .before .before .before .before .before .before .pre .0 in let z = p .checked .loadable .sizes in (p, record { stack-long = omega (arith, z .bits, c .before .before .before .before .before .before .before .before .before .before .before .pre .1, c .before .before .before .before .before .before .before .before .before .before .before .pre .2); sources-long = omega (arith, z .bits, c .before .before .before .before .before .before .before .before .before .before .before .pre .1, c .before .before .before .before .before .before .before .before .before .before .before .pre .2); targets-long = omega (arith, z .bits, c .before .before .before .before .before .before .before .before .before .before .before .pre .1, c .before .before .before .before .before .before .before .before .before .before .before .pre .2); lists = record { rows = omega (arith, z .bits, c .before .before .before .before .before .before .before .before .before .before .before .pre .1, c .before .before .before .before .before .before .before .before .before .before .before .pre .2); room = omega (arith, z .bits, c .before .before .before .before .before .before .before .before .before .before .before .pre .1, c .before .before .before .before .before .before .before .before .before .before .before .pre .2); short = omega (arith, z .bits, c .before .before .before .before .before .before .before .before .before .before .before .pre .1, c .before .before .before .before .before .before .before .before .before .before .before .pre .2) } })
 
 -- src/wanted.rt:158:1
 same-length : tie.Need-same-length
