@@ -58,6 +58,25 @@ static void multiplicity(const load *x) {
     reply_told(nidskalm_reduced_chunk_graph_multiplicity(LENT(x), AREA(x), from, x->w, to, x->w));
 }
 
+/* The list has another number in every place beforehand; past the chunks it stays. */
+static void start_order(const load *x) {
+    static uint32_t chunks[1024];
+    const uint64_t bit = one(), room = one();
+    readable(room <= LENGTH(chunks));
+    for (uint32_t i = 0; i < room; i++) {
+        chunks[i] = 1000000 + i;
+    }
+    const nidskalm_reply reply = nidskalm_reduced_chunk_graph_start_order(LENT(x), AREA(x), bit, chunks, room);
+    reply_told(reply);
+    for (uint32_t i = 0; i < room; i++) {
+        if (i < reply.value) {
+            told("chunk", chunks[i]);
+        } else {
+            readable(chunks[i] == 1000000 + i);
+        }
+    }
+}
+
 static void call(const load *x) {
     switch (one()) {
     case 1: try_move(x); break;
@@ -66,6 +85,7 @@ static void call(const load *x) {
     case 4: multiplicity(x); break;
     case 5: reply_told(nidskalm_reduced_chunk_graph_edge_count(LENT(x), AREA(x))); break;
     case 6: edge_told(x->w, nidskalm_reduced_chunk_graph_edge_at(LENT(x), AREA(x), one())); break;
+    case 7: start_order(x); break;
     default: readable(false);
     }
 }

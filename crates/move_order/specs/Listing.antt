@@ -4,12 +4,12 @@ use native.Mathlib.Omega.{arith}
 use native.Mathlib.Decide.{ℕ-discrete}
 use mathlib.Core.Path.{_≡_, refl, sym, ap, subst, _∙_}
 use mathlib.Core.Logic.{⊎-elim}
-use mathlib.Core.Bool.{Bool, true, false, not, cond, _&&_, _||_, true≢false}
+use mathlib.Core.Bool.{Bool, true, false, not, cond, _||_, true≢false}
 use mathlib.Core.List.{List, [], _∷_, _++_}
 use lib.Dec.{eqb}
 use lib.ListN.{length, length-append, List·getD-append}
 use lib.Seq.{getD-at}
-use borrow.Author.Tests.{eqb-true, eq-eqb, not-true, not-false}
+use borrow.Author.Tests.{eqb-true, eq-eqb, not-true}
 use Rattle.graphs.specs.Bools.{or-cases, or-left, or-right, and-left, and-right}
 use Rattle.graphs.specs.Lists.{any, all, has, all-take, has-at, has-place}
 use Rattle.move_ledger.specs.Graph.{at}

@@ -1,14 +1,14 @@
 -- What is wanted: the chunks that hold the bit, and all that their edges lead to. Assumes nothing.
-use Prim.Native.Nat.{ℕ, suc, _+_, _≤_, _<_}
+use Prim.Native.Nat.{ℕ, suc, _≤_}
 use native.Mathlib.Omega.{arith}
-use mathlib.Core.Path.{_≡_, ap, _∙_}
+use mathlib.Core.Path.{_≡_}
 use mathlib.Core.Logic.{⊎-elim}
-use mathlib.Core.Bool.{Bool, true, false, cond, _&&_, _||_}
+use mathlib.Core.Bool.{Bool, true, false, cond, _&&_}
 use mathlib.Core.List.{List, [], _∷_}
 use lib.Dec.{ltb, eqb}
 use lib.ListN.{length}
 use Rattle.graphs.specs.Bools.{or-cases, or-left, or-right, and-left, and-right, and-both}
-use Rattle.graphs.specs.Lists.{any, has, any-give, any-take}
+use Rattle.graphs.specs.Lists.{has, any-give, any-take}
 use Rattle.graphs.specs.Walk.{Walk, one, more, via}
 use Rattle.graphs.specs.Walks.{join, via-walk}
 use Rattle.move_ledger.specs.Graph.{Load, edge, insert, rising}

@@ -28,7 +28,7 @@ use Rattle.start_order.specs.Steps.{CanList, Told}
 
 -- the first n numbers are cleared
 pub cleared : (l : List ℕ) {l′ : List ℕ} (n : ℕ) → l′ ≡ replicate n 0 ++ drop n l → (x : ℕ) → x < n → at l′ x ≡ 0
-cleared l n e x b = ap (λ u. at u x) e ∙ List·getD-append (replicate n 0) (drop n l) 0 x (omega (arith, length-replicate n 0)) ∙ zeros n x
+cleared l n e x b = ap (λ u. at u x) e ∙ List·getD-append (replicate n 0) (drop n l) 0 x (omega (arith, length-replicate {A = ℕ} n 0)) ∙ zeros n x
 
 -- rows 26 and 27 don't fit
 pub record CanFetch (load : Load) (n : ℕ) (area : List ℕ) (r b : ℕ) (order degrees chunks : List ℕ) : Type 0 where

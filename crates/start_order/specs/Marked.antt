@@ -6,22 +6,23 @@ use mathlib.Core.Path.{_≡_, refl, sym, ap, subst, _∙_}
 use mathlib.Core.Logic.{inl, ⊎-elim}
 use mathlib.Core.Bool.{Bool, true, false, not, _&&_, true≢false}
 use mathlib.Core.List.{List}
-use lib.Dec.{ltb, eqb}
-use lib.ListN.{length}
-use borrow.Author.Tests.{lt-ltb, le-ltb, ltb-true}
-use Rattle.graphs.specs.Bools.{and-left, and-right, and-both}
-use Rattle.graphs.specs.Count.{ind}
+use lib.Dec.{ltb}
+use borrow.Author.Tests.{lt-ltb, le-ltb}
+use Rattle.graphs.specs.Bools.{and-right, and-both}
+use Rattle.graphs.specs.Count.{ind, ind-le}
 use Rattle.graphs.specs.Lists.{has}
 use Rattle.graph_neighbours.specs.Lists.{deg, nb, edge, Graph, listed}
 use Rattle.graph_walks.specs.Spread.{met, stk, every, Spread, HandsOn, Done}
 use Rattle.move_ledger.specs.Graph.{Load, at}
+use Rattle.move_ledger.specs.Graph as graph
+use Rattle.move_ledger.specs.GraphLaws.{edge-target}
 use Rattle.move_ledger.specs.Nodes.{node-edge}
 use Rattle.move_area.specs.Area.{setsIn}
 use Rattle.move_area.specs.Checked.{nodesIn}
 use Rattle.move_questions.specs.Answers.{placeIn, Checked}
 use Rattle.move_order.specs.Order.{holds, wanted}
 use Rattle.move_order.specs.Wanted.{wanted-first, wanted-next, wanted-all}
-use Rattle.start_order.specs.Nodes.{few, atoms, chunk-node, same-edge, edge-ends}
+use Rattle.start_order.specs.Nodes.{placing, long, few, atoms, chunk-node, same-edge, edge-ends}
 use Rattle.start_order.specs.Roots.{Roots}
 
 -- a node below r is marked 1 where its set is wanted, else 0
@@ -111,14 +112,14 @@ module _ {load : Load} {n : ℕ} {area : List ℕ} {r b : ℕ} {p : ℕ → Bool
           let t = picks .taken (w .0) (w .1) (ap (holds b) (w .3) ∙ q) in
           (x, w .2, w .3, stays x (met-one marks x (omega (arith, roots .marked x (w .2) ∙ ap ind t))))
 
-      next : (X Y : ℕ) → (x : ℕ) × (x < r) × (at (setsIn n area) x ≡ X) × (met 1 marks′ x ≡ 1) → Rattle.move_ledger.specs.Graph.edge load (placeIn load n area) X Y ≡ true
+      next : (X Y : ℕ) → (x : ℕ) × (x < r) × (at (setsIn n area) x ≡ X) × (met 1 marks′ x ≡ 1) → graph.edge load (placeIn load n area) X Y ≡ true
           → (x : ℕ) × (x < r) × (at (setsIn n area) x ≡ Y) × (met 1 marks′ x ≡ 1)
       next X Y w e =
-          let v = chunk-node h Y (Rattle.move_ledger.specs.GraphLaws.edge-target load (placeIn load n area) (atoms h) X Y e) in
+          let v = chunk-node h Y (edge-target load (placeIn load n area) (atoms h) X Y e) in
           let y : ℕ = at (nodesIn load n area) (v .0) in
           let i : node-edge load (nodesIn load n area) (setsIn n area) (w .0) y ≡ true
-          = sym (same-edge h (w .0) y (w .1) (v .2)) ∙ ap (λ Z. Rattle.move_ledger.specs.Graph.edge load (placeIn load n area) Z (at (setsIn n area) y)) (w .2)
-          ∙ ap (Rattle.move_ledger.specs.Graph.edge load (placeIn load n area) X) (v .3) ∙ e in
+          = sym (same-edge h (w .0) y (w .1) (v .2)) ∙ ap (λ Z. graph.edge load (placeIn load n area) Z (at (setsIn n area) y)) (w .2)
+          ∙ ap (graph.edge load (placeIn load n area) X) (v .3) ∙ e in
           (y, v .2, v .3, step-out (w .0) y (omega (arith, w .1, few h)) (w .3) (edge-is (w .0) y ∙ i))
 
   pub all-marked : Marked load n area r b marks′
@@ -128,13 +129,13 @@ module _ {load : Load} {n : ℕ} {area : List ℕ} {r b : ℕ} {p : ℕ → Bool
       small : (x : ℕ) → x < r → 1 ≤ at marks′ x → at marks′ x ≡ 1
       small x c q = elim (decLt (at marks x) 1) [
         | yes l ↦ done .kept .new x l q
-        | no l ↦ omega (arith, done .kept .stay x (omega arith), roots .marked x c, Rattle.graphs.specs.Count.ind-le (p x))
+        | no l ↦ omega (arith, done .kept .stay x (omega arith), roots .marked x c, ind-le (p x))
       ]
 
       go : (x : ℕ) → x < r → (t : Bool) → want x ≡ t → at marks′ x ≡ ind t
       go x c true q =
           let w = reached (at (setsIn n area) x) q in
-          let e : w .0 ≡ x = Rattle.start_order.specs.Nodes.placing h .distinct (w .0) x (omega (arith, w .1, Rattle.start_order.specs.Nodes.long h)) (omega (arith, Rattle.start_order.specs.Nodes.long h)) (w .2) in
+          let e : w .0 ≡ x = placing h .distinct (w .0) x (omega (arith, w .1, long h)) (omega (arith, long h)) (w .2) in
           small x c (one-met marks′ x (subst (λ z. met 1 marks′ z ≡ 1) e (w .3)))
       go x c false q = elim (decLt (at marks′ x) 1) [
         | yes l ↦ omega arith

@@ -1,13 +1,13 @@
 -- A checked area as the setting of the turns. Assumes nothing.
 use Prim.Native.Nat.{ℕ, zero, suc, _+_, _-_, _*_, _≤_, _<_}
 use native.Mathlib.Omega.{arith}
-use mathlib.Core.Path.{_≡_, refl, sym, ap, ap₂, _∙_}
+use mathlib.Core.Path.{_≡_, refl, sym, ap, _∙_}
 use mathlib.Core.Bool.{Bool, true, false, not, _&&_, true≢false}
 use mathlib.Core.List.{List, []}
 use lib.Dec.{eqb, ltb}
 use lib.ListN.{length, getD}
 use borrow.Author.Tests.{ne-eqb, lt-ltb}
-use Rattle.graphs.specs.Count.{ind, count, count-ext}
+use Rattle.graphs.specs.Count.{ind, count-ext}
 use Rattle.graphs.specs.Lists.{any, has, has-place}
 use Rattle.graphs.specs.Slots.{slotEdge}
 use Rattle.graphs.specs.SlotLaws.{flat-mult}
@@ -18,7 +18,7 @@ use Rattle.move_ledger.specs.Graph.{Load, at, edge, rising}
 use Rattle.move_ledger.specs.GraphLaws.{edge-target}
 use Rattle.move_ledger.specs.Listing.{rising-rising, has-rising}
 use Rattle.move_ledger.specs.LoadLaws.{InOrder}
-use Rattle.move_ledger.specs.Nodes.{placed, Placing, node-edge}
+use Rattle.move_ledger.specs.Nodes.{Placing, node-edge}
 use Rattle.move_ledger.specs.NodeLaws.{placed-length, placed-at}
 use Rattle.move_ledger.specs.NodeWalks.{ends-nodes, mult-nodes, edge-inside}
 use Rattle.move_area.specs.Area.{setsIn, decode}

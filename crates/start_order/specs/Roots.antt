@@ -10,7 +10,7 @@ use lib.ListN.{length, set, length-set}
 use lib.Seq.{getD-set-same, getD-set-other}
 use borrow.Author.Tests.{lt-ltb, le-ltb}
 use Rattle.graphs.specs.Count.{ind}
-use Rattle.graphs.specs.Total.{whites, whites-le, whites-push, room-for}
+use Rattle.graphs.specs.Total.{whites-le, whites-push, room-for}
 use Rattle.graph_walks.specs.Spread.{met, CanLook, Looked, Ready}
 use Rattle.move_ledger.specs.Graph.{at}
 

@@ -1,9 +1,9 @@
 -- Laws of the steps of the start order. Assumes nothing.
-use Prim.Native.Nat.{ℕ, _+_, _-_, _*_, _≤_, _<_}
+use Prim.Native.Nat.{ℕ, _+_, _-_, _*_, _<_}
 use native.Mathlib.Omega.{arith}
 use native.Mathlib.Decide.{ℕ-discrete}
 use mathlib.Core.Path.{_≡_, refl, sym, ap, _∙_}
-use mathlib.Core.Bool.{Bool, true, false, not, cond}
+use mathlib.Core.Bool.{Bool, true, false, not}
 use mathlib.Core.List.{List}
 use lib.Dec.{eqb}
 use lib.ListN.{length, getD, set}
@@ -12,7 +12,7 @@ use borrow.Author.Tests.{eqb-true, eqb-false, eq-eqb, ne-eqb}
 use Rattle.graphs.specs.Count.{ind}
 use Rattle.graphs.specs.Square.{index-lt}
 use Rattle.move_ledger.specs.Graph.{at}
-use Rattle.start_order.specs.Steps.{less, CanLess, leads, CanPass, Passed}
+use Rattle.start_order.specs.Steps.{less, CanLess, CanPass, Passed}
 
 pub less-some : (cell left : ℕ) → (cell ≡ 0 → ⊥) → left - 1 ≡ less cell left
 unfolding less

@@ -8,8 +8,7 @@ use lib.ListN.{length, getD, set}
 use Rattle.graphs.specs.Count.{ind}
 use Rattle.graphs.specs.Lists.{has}
 use Rattle.layout.specs.Patch.{patch}
-use Rattle.move_ledger.specs.Graph.{Load, at}
-use Rattle.move_questions.specs.Answers.{Checked, Listable}
+use Rattle.move_ledger.specs.Graph.{at}
 use Rattle.start_order.specs.Turns.{Setting, Fits, Row, is-ready, Turn, whole}
 
 -- the first of the nodes of the order that can be listed

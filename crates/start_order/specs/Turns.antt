@@ -1,20 +1,19 @@
 -- The turns in which the chunks are listed, by nodes: what each finds, and what it leaves. Assumes nothing.
-use Prim.Native.Nat.{ℕ, zero, suc, _+_, _-_, _*_, _≤_, _<_}
+use Prim.Native.Nat.{ℕ, zero, suc, _+_, _-_, _≤_, _<_}
 use native.Mathlib.Omega.{arith}
 use native.Mathlib.Decide.{ℕ-discrete, decLt}
-use mathlib.Core.Path.{_≡_, refl, sym, ap, ap₂, subst, _∙_}
+use mathlib.Core.Path.{_≡_, refl, sym, ap, subst, _∙_}
 use mathlib.Core.Logic.{⊎-elim}
 use mathlib.Core.Bool.{Bool, true, false, not, cond, _&&_, _||_, true≢false}
 use mathlib.Core.List.{List, [], _∷_, _++_, map}
 use lib.Dec.{eqb}
-use lib.ListN.{length, getD, set}
+use lib.ListN.{length, set}
 use lib.Seq.{getD-set-same, getD-set-other}
 use borrow.Author.Tests.{eqb-true, eq-eqb, ne-eqb}
-use Rattle.graphs.specs.Bools.{or-cases, or-left, or-right, and-left, and-right, and-both, fails, alike}
-use Rattle.graphs.specs.Count.{ind, count, count-pos, count-all-no, count-ext}
-use Rattle.graphs.specs.Total.{total, total-change, count-total}
+use Rattle.graphs.specs.Bools.{or-cases, or-left, or-right, and-left, and-right, and-both, fails}
+use Rattle.graphs.specs.Count.{ind, count, count-pos, count-all-no}
+use Rattle.graphs.specs.Total.{total-change, count-total}
 use Rattle.graphs.specs.Lists.{any, all, has, any-give, any-take, all-give}
-use Rattle.layout.specs.Patch.{patch, patch-none}
 use Rattle.move_ledger.specs.Graph.{at}
 use Rattle.move_ledger.specs.Listing.{Rising}
 use Rattle.move_order.specs.Order.{ready, first, listing}

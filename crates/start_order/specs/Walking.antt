@@ -1,10 +1,10 @@
 -- What each call of the walk to the wanted nodes asks, and what they come to. Assumes nothing.
-use Prim.Native.Nat.{ℕ, _+_, _*_, _≤_, _<_}
+use Prim.Native.Nat.{ℕ, _+_, _≤_, _<_}
 use native.Mathlib.Omega.{arith}
 use mathlib.Core.Path.{_≡_, refl, sym, ap, subst, _∙_}
-use mathlib.Core.Bool.{Bool, true, not, _&&_}
+use mathlib.Core.Bool.{true, not}
 use mathlib.Core.List.{List}
-use lib.Dec.{eqb, ltb}
+use lib.Dec.{eqb}
 use lib.ListN.{length, getD}
 use borrow.Author.Tests.{eqb-false, ltb-true, lt-ltb, ne-eqb, not-true}
 use Rattle.graphs.specs.Bools.{and-left, and-right, and-both}
@@ -51,7 +51,7 @@ module _ {load : Load} {n : ℕ} {area : List ℕ} {r : ℕ} (h : Checked load n
         let x : ℕ = at (nodesIn load n area) i in
         let l : x < r = omega (arith, placing h .inside i c, long h) in
         and-both (not (eqb (getD area (laneAt n 8 + x) 0) 0)) _
-        (ap not (ne-eqb (getD area (laneAt n 8 + x) 0) 0 (omega (arith, count-is x l, ltb-true 0 _ (occupy load (nodesIn load n area) x i c refl)))))
+        (ap not (ne-eqb (getD area (laneAt n 8 + x) 0) 0 (omega (arith, count-is x l, ltb-true 0 (members load (nodesIn load n area) x) (occupy load (nodesIn load n area) x i c refl)))))
         (sym (set-is x l) ∙ q);
   }
 

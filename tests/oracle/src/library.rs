@@ -61,6 +61,7 @@ pub trait Library {
     fn multiplicity(&self, load: &Load, area: &[u32], from: &[u64], to: &[u64]) -> Reply;
     fn edge_count(&self, load: &Load, area: &[u32]) -> Reply;
     fn edge_at(&self, load: &Load, area: &[u32], k: u64) -> EdgeReply;
+    fn start_order(&self, load: &Load, area: &[u32], bit: u64, chunks: &mut [u32]) -> Reply;
 
     fn merge_new(&self, size: Size, load: &MergeLoad, area: &mut [u32]) -> Reply;
     fn init_module(&self, size: Size, area: &mut [u32], module: u32, bits: &[u64], side_effects: &[u32]) -> Reply;
@@ -155,6 +156,12 @@ mod ours {
 
         fn edge_at(&self, load: &Load, area: &[u32], k: u64) -> EdgeReply {
             with_load!(nidskalm_reduced_chunk_graph_edge_at, load, area.as_ptr(), area.len(), k)
+        }
+
+        fn start_order(&self, load: &Load, area: &[u32], bit: u64, chunks: &mut [u32]) -> Reply {
+            let (lent, length) = (area.as_ptr(), area.len());
+            let (list, room) = (chunks.as_mut_ptr(), chunks.len());
+            with_load!(nidskalm_reduced_chunk_graph_start_order, load, lent, length, bit, list, room)
         }
 
         fn merge_new(&self, size: Size, load: &MergeLoad, area: &mut [u32]) -> Reply {

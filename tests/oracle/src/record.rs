@@ -39,6 +39,7 @@ fn move_call_numbers(call: &MoveCall) -> Vec<u64> {
         MoveCall::Multiplicity { from, to } => [&[4], &from[..], &to[..]].concat(),
         MoveCall::EdgeCount => vec![5],
         MoveCall::EdgeAt { k } => vec![6, *k],
+        MoveCall::StartOrder { bit, room } => vec![7, *bit, *room as u64],
         MoveCall::Counter { .. } => unreachable!("not recorded"),
     }
 }
@@ -47,6 +48,10 @@ fn move_call_numbers(call: &MoveCall) -> Vec<u64> {
 fn move_answer_numbers(answer: Answer, w: usize) -> Vec<u64> {
     match answer {
         Answer::Reply(reply) => vec![reply.refusal, reply.value],
+        Answer::Order(reply, list) => {
+            let listed = list[..reply.value as usize].iter().map(|&name| u64::from(name));
+            [reply.refusal, reply.value].into_iter().chain(listed).collect()
+        }
         Answer::Set(reply) => {
             let set = [reply.set0, reply.set1, reply.set2, reply.set3];
             [&[reply.refusal], &set[..w]].concat()

@@ -2,6 +2,7 @@
 use crate::layout::MergeLayout;
 use crate::library::{EdgeReply, Library, MergeLoad, Reply, SetReply};
 use crate::merges_model::Size;
+use crate::moves_cases::lent_list;
 use crate::moves_model::Load;
 use crate::record::{BEFORE, MOVE_CASE};
 use crate::sets::{Set, width};
@@ -87,6 +88,15 @@ fn replay_moves(library: &dyn Library, reader: &mut Reader) -> Result<(), String
                 let (refusal, found) = (reader.one(), reader.one());
                 let (from, to, multiplicity) = (reader.set(w), reader.set(w), reader.one());
                 expect(place, ours, EdgeReply { refusal, found, ..EdgeReply::edge(from, to, multiplicity) })?;
+            }
+            7 => {
+                let (bit, mut list) = (reader.one(), lent_list(reader.one() as usize));
+                let ours = library.start_order(&load, &area, bit, &mut list);
+                let (expected, mut whole) = (reader.reply(), lent_list(list.len()));
+                for name in &mut whole[..expected.value as usize] {
+                    *name = reader.small();
+                }
+                expect(place, (ours, list), (expected, whole))?;
             }
             other => return Err(format!("no call {other}")),
         }

@@ -1,47 +1,35 @@
+-- `start_order::start_order` meets its contract. Assumes nothing.
 use Rattle.start_order.specs.Calls.{call-refused, call-on, call-answer}
 use borrow.Author.Needs.{needs}
 use Rattle.start_order.proofs.start_order.Statement.{statement}
 use Rattle.start_order.proofs.start_order.Tie as tie
-use Rattle.start_order.proofs.start_order.Reads as reads
-use Rattle.start_order.proofs.start_order.Lts as lts
-use Rattle.move_rows.proofs.listed.listed_row.Reads as listed-row-reads
-use Rattle.start_order.proofs.go_on.Reads as go-on-reads
 
--- src/lib.rt:99:9
 slice-aggregate-listed-row : tie.Need-slice-aggregate-listed-row
 slice-aggregate-listed-row c = search needs
 
--- src/lib.rt:100:9
 slice-aggregate-listed-row-2 : tie.Need-slice-aggregate-listed-row-2
 slice-aggregate-listed-row-2 c = search needs
 
--- src/lib.rt:89:9
 listed-row-requires : tie.Need-listed-row-requires
 listed-row-requires c κs = search needs
 
--- src/lib.rt:103:9
 returns : tie.Need-returns
 returns c =
     call-refused _ _ _ _ _ _ (c .before .before .before .listed-row .ensures) (c .if1 .taken)
 
--- src/lib.rt:115:9
 slice-aggregate-go-on : tie.Need-slice-aggregate-go-on
 slice-aggregate-go-on c = search needs
 
--- src/lib.rt:116:9
 slice-aggregate-go-on-2 : tie.Need-slice-aggregate-go-on-2
 slice-aggregate-go-on-2 c = search needs
 
--- src/lib.rt:105:5
 go-on-requires : tie.Need-go-on-requires
 go-on-requires c κs =
     call-on (c .before .before .before .before .before .before .listed-row .ensures) (c .before .before .before .if1 .left)
 
--- src/lib.rt:71:1
 same-length : tie.Need-same-length
 same-length c = search needs
 
--- src/lib.rt:71:1
 returns-2 : tie.Need-returns-2
 returns-2 c =
     call-answer _ _ _ _ _ _ (c .before .before .before .before .before .before .before .before .before .before .listed-row .ensures) (c .before .before .before .before .before .before .before .if1 .left) (c .before .before .before .go-on .ensures)

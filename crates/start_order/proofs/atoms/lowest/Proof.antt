@@ -1,3 +1,4 @@
+-- `start_order::atoms::lowest` meets its contract. Assumes nothing.
 use Rattle.start_order.specs.Lowest.{nodeAt, Lowest, lowest-none, lowest-more}
 use borrow.Author.Needs.{needs}
 use lib.ListN.{length, length-set}
@@ -6,8 +7,6 @@ use native.Mathlib.Omega.{arith}
 use Prim.Native.Nat.{_-_, _≤_}
 use Rattle.start_order.proofs.atoms.lowest.Statement.{statement}
 use Rattle.start_order.proofs.atoms.lowest.Tie as tie
-use Rattle.start_order.proofs.atoms.lowest.Reads as reads
-use Rattle.start_order.proofs.atoms.lowest.Lts as lts
 
 abbrev Inv-loop : tie.InvT-loop
 Inv-loop area a n low₀ nodes k₀ low k =
@@ -17,87 +16,70 @@ abbrev μ-loop : tie.MeasureT-loop
 μ-loop area a n low₀ nodes k₀ low k =
     k
 
--- src/atoms.rt:9:17
 mul-nodes : tie.Need-mul-nodes Inv-loop μ-loop
 mul-nodes c =
     search needs
 
--- src/atoms.rt:9:17
 add-nodes : tie.Need-add-nodes Inv-loop μ-loop
 add-nodes c =
     search needs
 
--- src/atoms.rt:9:30
 mul-nodes-2 : tie.Need-mul-nodes-2 Inv-loop μ-loop
 mul-nodes-2 c =
     search needs
 
--- src/atoms.rt:9:17
 add-nodes-2 : tie.Need-add-nodes-2 Inv-loop μ-loop
 add-nodes-2 c =
     search needs
 
--- src/atoms.rt:11:5
 loop-holds : tie.Need-loop-holds Inv-loop μ-loop
 loop-holds c =
     (omega arith, refl, lowest-none _ _ _)
 
--- src/atoms.rt:12:17
 sub-i : tie.Need-sub-i Inv-loop μ-loop
 sub-i c =
     search needs
 
--- src/atoms.rt:13:22
 add-x : tie.Need-add-x Inv-loop μ-loop
 add-x c =
     search needs
 
--- src/atoms.rt:13:17
 mul-x : tie.Need-mul-x Inv-loop μ-loop
 mul-x c =
     search needs
 
--- src/atoms.rt:13:17
 shared-slice-read-x : tie.Need-shared-slice-read-x Inv-loop μ-loop
 shared-slice-read-x c =
     search needs
 
--- src/atoms.rt:13:17
 cast-x : tie.Need-cast-x Inv-loop μ-loop
 cast-x c =
     omega (arith, c .before .before .before .pre .node (c .before .before .loop .k - 1) (omega (arith, c .before .before .loop .inv .0)))
 
--- src/atoms.rt:14:18
 cast-low : tie.Need-cast-low Inv-loop μ-loop
 cast-low c =
     omega (arith, c .before .before .before .pre .few, c .before .before .loop .inv .0)
 
--- src/atoms.rt:14:9
 mul-low : tie.Need-mul-low Inv-loop μ-loop
 mul-low c =
     omega (arith, c .before .before .before .pre .node (c .before .before .loop .k - 1) (omega (arith, c .before .before .loop .inv .0)))
 
--- src/atoms.rt:14:9
 slice-write-low : tie.Need-slice-write-low Inv-loop μ-loop
 slice-write-low c =
     omega (arith, c .before .before .loop .inv .0, c .before .before .loop .inv .1, c .before .before .before .pre .node (c .before .before .loop .k - 1) (omega (arith, c .before .before .loop .inv .0)))
 
--- src/atoms.rt:11:5
 loop-less : tie.Need-loop-less Inv-loop μ-loop
 loop-less c =
     omega arith
 
--- src/atoms.rt:11:5
 loop-again : tie.Need-loop-again Inv-loop μ-loop
 loop-again c =
     (omega (arith, c .before .before .loop .inv .0), simp length-set (c .before .before .loop .inv .1), lowest-more (c .before .before .loop .inv .2) (omega arith) (omega (arith, c .before .before .loop .inv .1, c .before .before .before .pre .node (c .before .before .loop .k - 1) (omega (arith, c .before .before .loop .inv .0)))))
 
--- src/atoms.rt:5:1
 same-length : tie.Need-same-length Inv-loop μ-loop
 same-length c =
     c .before .loop .inv .1
 
--- src/atoms.rt:5:1
 returns : tie.Need-returns Inv-loop μ-loop
 returns c =
     let z : c .before .loop .k ≡ 0 = omega arith in rw z at (c .before .loop .inv .2)

@@ -1,51 +1,37 @@
+-- `start_order::fetch::fetch_in` meets its contract. Assumes nothing.
 use Rattle.start_order.specs.Calls.{cleared, fetch-mark, fetch-low, fetch-list-some, fetch-told}
 use mathlib.Core.Path.{_∙_}
 use borrow.Author.Needs.{needs}
 use Rattle.start_order.proofs.fetch.fetch_in.Statement.{statement}
 use Rattle.start_order.proofs.fetch.fetch_in.Tie as tie
-use Rattle.start_order.proofs.fetch.fetch_in.Reads as reads
-use Rattle.start_order.proofs.fetch.fetch_in.Lts as lts
-use Rattle.graph_neighbours.proofs.clear.Reads as clear-reads
-use Rattle.start_order.proofs.atoms.lowest.Reads as lowest-reads
-use Rattle.start_order.proofs.turns.list.Reads as list-reads
-use Rattle.start_order.proofs.wanted.mark.Reads as mark-reads
 
--- src/fetch.rt:26:5
 clear-requires : tie.Need-clear-requires
 clear-requires c κs = search needs
 
--- src/fetch.rt:27:5
 mark-requires : tie.Need-mark-requires
 mark-requires c κs =
     fetch-mark (c .before .before .before .before .before .before .before .before .before .before .before .before .before .before .pre .0) (c .before .before .before .before .before .before .before .before .before .before .before .before .before .before .pre .1) (c .before .before .before .clear .kept .0) (cleared _ _ (c .before .before .before .clear .ensures))
 
--- src/fetch.rt:40:5
 lowest-requires : tie.Need-lowest-requires
 lowest-requires c κs =
     fetch-low (c .before .before .before .before .before .before .before .before .before .before .before .before .before .before .before .before .before .before .pre .0) (c .before .before .before .before .before .before .before .before .before .before .before .before .before .before .before .before .before .before .pre .1)
 
--- src/fetch.rt:41:5
 list-requires : tie.Need-list-requires
 list-requires c κs =
     fetch-list-some (c .before .before .before .before .before .before .before .before .before .before .before .before .before .before .before .before .before .before .before .before .before .before .before .before .before .pre .0) (c .before .before .before .before .before .before .before .before .before .before .before .before .before .before .before .before .before .before .before .before .before .before .before .before .before .pre .1) (c .before .before .before .before .before .before .before .before .before .before .mark .ensures) (c .before .before .before .before .before .before .before .before .before .before .mark .kept .1 .1 .1 .1 .1 .1 .1 .1 .1 .1 .0 ∙ c .before .before .before .before .before .before .before .before .before .before .before .before .before .before .clear .kept .0) (c .before .before .before .before .before .before .lowest .ensures) (c .before .before .before .before .before .before .lowest .kept .1 .1 .1 .0)
 
--- src/fetch.rt:6:1
 same-length : tie.Need-same-length
 same-length c = search needs
 
--- src/fetch.rt:6:1
 same-length-2 : tie.Need-same-length-2
 same-length-2 c = search needs
 
--- src/fetch.rt:6:1
 same-length-3 : tie.Need-same-length-3
 same-length-3 c = search needs
 
--- src/fetch.rt:6:1
 same-length-4 : tie.Need-same-length-4
 same-length-4 c = search needs
 
--- src/fetch.rt:6:1
 returns : tie.Need-returns
 returns c =
     fetch-told (c .before .before .before .before .before .before .before .before .before .before .before .before .before .before .before .before .before .before .before .before .before .before .before .before .before .before .before .before .before .before .before .before .pre .0) (c .before .before .before .before .before .before .before .before .before .before .before .before .before .before .before .before .before .before .before .before .before .before .before .before .before .before .before .before .before .before .before .before .pre .1) (c .before .before .before .before .before .before .before .before .before .before .before .before .before .before .before .before .before .mark .ensures) (c .before .before .before .before .before .before .before .before .before .before .before .before .before .before .before .before .before .mark .kept .1 .1 .1 .1 .1 .1 .1 .1 .1 .1 .0 ∙ c .before .before .before .before .before .before .before .before .before .before .before .before .before .before .before .before .before .before .before .before .before .clear .kept .0) (c .before .before .before .before .before .before .before .before .before .before .before .before .before .lowest .ensures) (c .before .before .before .before .before .before .before .before .before .before .before .before .before .lowest .kept .1 .1 .1 .0) (c .before .before .before .before .before .before .list .ensures)

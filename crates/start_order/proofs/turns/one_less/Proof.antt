@@ -1,20 +1,16 @@
+-- `start_order::turns::one_less` meets its contract. Assumes nothing.
 use Rattle.start_order.specs.StepLaws.{less-some, less-none}
 use Rattle.start_order.proofs.turns.one_less.Statement.{statement}
 use Rattle.start_order.proofs.turns.one_less.Tie as tie
-use Rattle.start_order.proofs.turns.one_less.Reads as reads
-use Rattle.start_order.proofs.turns.one_less.Lts as lts
 
--- src/turns.rt:40:16
 sub-result : tie.Need-sub-result
 sub-result c =
     c .before .pre .some (c .if1 .taken)
 
--- src/turns.rt:40:9
 returns : tie.Need-returns
 returns c =
     less-some _ _ (c .if1 .taken)
 
--- src/turns.rt:35:1
 returns-2 : tie.Need-returns-2
 returns-2 c =
     less-none _ _ (c .if1 .left)

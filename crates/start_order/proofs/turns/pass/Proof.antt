@@ -1,3 +1,4 @@
+-- `start_order::turns::pass` meets its contract. Assumes nothing.
 use Rattle.start_order.specs.StepLaws.{pass-cell, pass-less, passed-none, passed-more}
 use Rattle.start_order.specs.Steps.{Passed}
 use borrow.Author.Needs.{needs}
@@ -7,9 +8,6 @@ use native.Mathlib.Omega.{arith}
 use Prim.Native.Nat.{_-_, _≤_}
 use Rattle.start_order.proofs.turns.pass.Statement.{statement}
 use Rattle.start_order.proofs.turns.pass.Tie as tie
-use Rattle.start_order.proofs.turns.pass.Reads as reads
-use Rattle.start_order.proofs.turns.pass.Lts as lts
-use Rattle.start_order.proofs.turns.one_less.Reads as one-less-reads
 
 abbrev Inv-loop : tie.InvT-loop
 Inv-loop area n registered z degrees₀ y₀ degrees y =
@@ -19,77 +17,62 @@ abbrev μ-loop : tie.MeasureT-loop
 μ-loop area n registered z degrees₀ y₀ degrees y =
     registered - y
 
--- src/turns.rt:51:5
 loop-holds : tie.Need-loop-holds Inv-loop μ-loop
 loop-holds c =
     (omega arith, refl, passed-none _ _ _ _)
 
--- src/turns.rt:52:36
 mul-one-less : tie.Need-mul-one-less Inv-loop μ-loop
 mul-one-less c =
     omega (arith, pass-cell (c .before .before .before .before .pre) (c .before .loop .y) (c .loop-test .taken))
 
--- src/turns.rt:52:36
 add-one-less : tie.Need-add-one-less Inv-loop μ-loop
 add-one-less c =
     omega (arith, pass-cell (c .before .before .before .before .pre) (c .before .loop .y) (c .loop-test .taken))
 
--- src/turns.rt:52:31
 mul-one-less-2 : tie.Need-mul-one-less-2 Inv-loop μ-loop
 mul-one-less-2 c =
     omega (arith, pass-cell (c .before .before .before .before .pre) (c .before .loop .y) (c .loop-test .taken))
 
--- src/turns.rt:52:31
 shared-slice-read-one-less : tie.Need-shared-slice-read-one-less Inv-loop μ-loop
 shared-slice-read-one-less c =
     pass-cell (c .before .before .before .before .before .pre) (c .before .before .loop .y) (c .before .loop-test .taken)
 
--- src/turns.rt:52:48
 mul-one-less-3 : tie.Need-mul-one-less-3 Inv-loop μ-loop
 mul-one-less-3 c =
     search needs
 
--- src/turns.rt:52:48
 slice-read-one-less : tie.Need-slice-read-one-less Inv-loop μ-loop
 slice-read-one-less c =
     search needs
 
--- src/turns.rt:52:22
 one-less-requires : tie.Need-one-less-requires Inv-loop μ-loop
 one-less-requires c κs =
     pass-less (c .before .before .before .before .before .before .pre) (c .before .before .before .loop .inv .2) (c .before .before .loop-test .taken)
 
--- src/turns.rt:52:9
 mul-degrees : tie.Need-mul-degrees Inv-loop μ-loop
 mul-degrees c =
     search needs
 
--- src/turns.rt:52:9
 slice-write-degrees : tie.Need-slice-write-degrees Inv-loop μ-loop
 slice-write-degrees c =
     search needs
 
--- src/turns.rt:53:9
 add-y : tie.Need-add-y Inv-loop μ-loop
 add-y c =
     search needs
 
--- src/turns.rt:51:5
 loop-less : tie.Need-loop-less Inv-loop μ-loop
 loop-less c =
     search needs
 
--- src/turns.rt:51:5
 loop-again : tie.Need-loop-again Inv-loop μ-loop
 loop-again c =
     (omega arith, simp length-set (c .before .before .before .before .loop .inv .1), passed-more (c .before .before .before .before .before .before .before .pre) (c .before .before .before .before .loop .inv .2) (c .before .before .before .loop-test .taken) (c .before .before .before .before .loop .inv .1) (c .one-less .ensures))
 
--- src/turns.rt:46:1
 same-length : tie.Need-same-length Inv-loop μ-loop
 same-length c =
     c .before .loop .inv .1
 
--- src/turns.rt:46:1
 returns : tie.Need-returns Inv-loop μ-loop
 returns c =
     let z : c .before .loop .y ≡ c .before .before .before .before .args .registered = omega arith in rw z at (c .before .loop .inv .2)

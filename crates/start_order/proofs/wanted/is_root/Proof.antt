@@ -1,3 +1,4 @@
+-- `start_order::wanted::is_root` meets its contract. Assumes nothing.
 use Rattle.start_order.specs.Bits.{word-room, holds-word}
 use Rattle.move_order.specs.Order.{holds}
 use Rattle.move_area.specs.Bodies.{laneAt}
@@ -10,64 +11,48 @@ use Prim.Native.Nat.{_+_}
 use borrow.Author.Needs.{needs}
 use Rattle.start_order.proofs.wanted.is_root.Statement.{statement}
 use Rattle.start_order.proofs.wanted.is_root.Tie as tie
-use Rattle.start_order.proofs.wanted.is_root.Reads as reads
-use Rattle.start_order.proofs.wanted.is_root.Lts as lts
-use Rattle.start_order.proofs.wanted.has_bit.Reads as has-bit-reads
 
--- src/wanted.rt:26:17
 mul-lanes : tie.Need-mul-lanes
 mul-lanes c = search needs
 
--- src/wanted.rt:26:17
 add-lanes : tie.Need-add-lanes
 add-lanes c = search needs
 
--- src/wanted.rt:27:21
 mul-if1 : tie.Need-mul-if1
 mul-if1 c = search needs
 
--- src/wanted.rt:27:13
 add-if1 : tie.Need-add-if1
 add-if1 c = search needs
 
--- src/wanted.rt:27:13
 add-if1-2 : tie.Need-add-if1-2
 add-if1-2 c = search needs
 
--- src/wanted.rt:27:8
 mul-if1-2 : tie.Need-mul-if1-2
 mul-if1-2 c = search needs
 
--- src/wanted.rt:27:8
 shared-slice-read-if1 : tie.Need-shared-slice-read-if1
 shared-slice-read-if1 c = search needs
 
--- src/wanted.rt:28:9
 returns : tie.Need-returns
 returns c =
     sym (ap (λ t. not t && holds (c .before .before .before .args .bit) (lanes (c .before .before .before .args .area .now) (laneAt (c .before .before .before .args .n) 0 + c .before .before .before .args .x) (c .before .before .before .args .n))) (eq-eqb _ _ (c .if1 .taken)))
 
--- src/wanted.rt:30:27
 mul-has-bit : tie.Need-mul-has-bit
 mul-has-bit c =
     omega (arith, word-room (c .before .before .before .pre))
 
--- src/wanted.rt:30:19
 add-has-bit : tie.Need-add-has-bit
 add-has-bit c =
     omega (arith, word-room (c .before .before .before .pre))
 
--- src/wanted.rt:30:19
 add-has-bit-2 : tie.Need-add-has-bit-2
 add-has-bit-2 c =
     omega (arith, word-room (c .before .before .before .pre))
 
--- src/wanted.rt:30:5
 has-bit-requires : tie.Need-has-bit-requires
 has-bit-requires c κs =
     (word-room (c .before .before .before .pre), omega arith)
 
--- src/wanted.rt:22:1
 returns-2 : tie.Need-returns-2
 returns-2 c =
     c .has-bit .ensures ∙ holds-word (c .before .before .before .before .args .area .now) (c .before .before .before .before .args .n) (c .before .before .before .before .args .bit) (c .before .before .before .before .args .x) (λ i. omega (arith, c .before .before .shared-slice-known2 .given i)) (c .before .before .before .before .pre .bit) ∙ sym (ap (λ t. not t && holds (c .before .before .before .before .args .bit) (lanes (c .before .before .before .before .args .area .now) (laneAt (c .before .before .before .before .args .n) 0 + c .before .before .before .before .args .x) (c .before .before .before .before .args .n))) (ne-eqb _ _ (c .before .if1 .left)))

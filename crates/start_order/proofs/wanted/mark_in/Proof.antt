@@ -1,62 +1,45 @@
+-- `start_order::wanted::mark_in` meets its contract. Assumes nothing.
 use Rattle.start_order.specs.Walking.{mark-group, mark-find, mark-blank, mark-spread, mark-done}
 use borrow.Author.Needs.{needs}
 use Rattle.start_order.proofs.wanted.mark_in.Statement.{statement}
 use Rattle.start_order.proofs.wanted.mark_in.Tie as tie
-use Rattle.start_order.proofs.wanted.mark_in.Reads as reads
-use Rattle.start_order.proofs.wanted.mark_in.Lts as lts
-use Rattle.graph_neighbours.proofs.group.Reads as group-reads
-use Rattle.graph_walks.proofs.spread.Reads as spread-reads
-use Rattle.move_slots.proofs.fill_own_slots.Reads as fill-own-slots-reads
-use Rattle.start_order.proofs.wanted.roots.Reads as roots-reads
 
--- src/wanted.rt:96:5
 fill-own-slots-requires : tie.Need-fill-own-slots-requires
 fill-own-slots-requires c κs = search needs
 
--- src/wanted.rt:109:47
 add-group : tie.Need-add-group
 add-group c = search needs
 
--- src/wanted.rt:109:5
 group-requires : tie.Need-group-requires
 group-requires c κs =
     mark-group (c .before .before .before .before .before .before .before .before .before .before .before .before .before .before .before .before .before .before .before .before .before .before .before .before .pre .0) (c .before .before .before .before .before .before .before .before .before .before .before .before .before .before .before .before .before .before .before .before .before .before .before .before .pre .1) (c .before .before .before .before .before .before .before .before .before .before .fill-own-slots .ensures) (c .before .before .before .before .before .before .before .before .before .before .fill-own-slots .kept .1 .1 .1 .1 .1 .1 .1 .1 .1 .0) (c .before .before .before .before .before .before .before .before .before .before .fill-own-slots .kept .1 .1 .1 .1 .1 .1 .1 .1 .1 .1 .0)
 
--- src/wanted.rt:110:9
 roots-requires : tie.Need-roots-requires
 roots-requires c κs =
     (mark-find (c .before .before .before .before .before .before .before .before .before .before .before .before .before .before .before .before .before .before .before .before .before .before .before .before .before .before .before .before .before .before .before .pre .0) (c .before .before .before .before .before .before .before .before .before .before .before .before .before .before .before .before .before .before .before .before .before .before .before .before .before .before .before .before .before .before .before .pre .1), mark-blank (c .before .before .before .before .before .before .before .before .before .before .before .before .before .before .before .before .before .before .before .before .before .before .before .before .before .before .before .before .before .before .before .pre .0) (c .before .before .before .before .before .before .before .before .before .before .before .before .before .before .before .before .before .before .before .before .before .before .before .before .before .before .before .before .before .before .before .pre .1) (c .before .before .before .before .before .before .before .before .before .before .before .before .before .before .before .before .before .fill-own-slots .kept .1 .1 .1 .1 .1 .1 .1 .1 .0))
 
--- src/wanted.rt:112:5
 spread-requires : tie.Need-spread-requires
 spread-requires c κs =
     mark-spread (c .before .before .before .before .before .before .before .before .before .before .before .before .before .before .before .before .before .before .before .before .before .before .before .before .before .before .before .before .before .before .before .before .before .before .before .before .before .before .before .before .pre .0) (c .before .before .before .before .before .before .before .before .before .before .before .before .before .before .before .before .before .before .before .before .before .before .before .before .before .before .before .before .before .before .before .before .before .before .before .before .before .before .before .before .pre .1) (c .before .before .before .before .before .before .before .before .before .before .before .before .before .before .before .before .before .before .before .before .before .before .before .before .before .before .fill-own-slots .ensures) (c .before .before .before .before .before .before .before .before .before .before .before .before .before .before .before .before .before .before .before .before .before .before .before .before .before .before .fill-own-slots .kept .1 .1 .1 .1 .1 .1 .1 .1 .1 .0) (c .before .before .before .before .before .before .before .before .before .before .before .before .before .before .before .before .before .before .before .before .before .before .before .before .before .before .fill-own-slots .kept .1 .1 .1 .1 .1 .1 .1 .1 .1 .1 .0) (c .before .before .before .before .before .before .before .before .before .before .before .before .before .before .before .group .ensures) (c .before .before .before .before .before .before .before .before .roots .ensures)
 
--- src/wanted.rt:75:1
 same-length : tie.Need-same-length
 same-length c = search needs
 
--- src/wanted.rt:75:1
 same-length-2 : tie.Need-same-length-2
 same-length-2 c = search needs
 
--- src/wanted.rt:75:1
 same-length-3 : tie.Need-same-length-3
 same-length-3 c = search needs
 
--- src/wanted.rt:75:1
 same-length-4 : tie.Need-same-length-4
 same-length-4 c = search needs
 
--- src/wanted.rt:75:1
 same-length-5 : tie.Need-same-length-5
 same-length-5 c = search needs
 
--- src/wanted.rt:75:1
 same-length-6 : tie.Need-same-length-6
 same-length-6 c = search needs
 
--- src/wanted.rt:75:1
 returns : tie.Need-returns
 returns c =
     mark-done (c .before .before .before .before .before .before .before .before .before .before .before .before .before .before .before .before .before .before .before .before .before .before .before .before .before .before .before .before .before .before .before .before .before .before .before .before .before .before .before .before .before .before .before .before .before .pre .0) (c .before .before .before .before .before .before .before .before .before .before .before .before .before .before .before .before .before .before .before .before .before .before .before .before .before .before .before .before .before .before .before .before .before .before .before .before .before .before .before .before .before .before .before .before .before .pre .1) (c .before .before .before .before .before .before .before .before .before .before .before .before .before .before .before .before .before .before .before .before .before .before .before .before .before .before .before .before .before .before .before .fill-own-slots .ensures) (c .before .before .before .before .before .before .before .before .before .before .before .before .before .before .before .before .before .before .before .before .before .before .before .before .before .before .before .before .before .before .before .fill-own-slots .kept .1 .1 .1 .1 .1 .1 .1 .1 .1 .0) (c .before .before .before .before .before .before .before .before .before .before .before .before .before .before .before .before .before .before .before .before .before .before .before .before .before .before .before .before .before .before .before .fill-own-slots .kept .1 .1 .1 .1 .1 .1 .1 .1 .1 .1 .0) (c .before .before .before .before .before .before .before .before .before .before .before .before .before .before .before .before .before .before .before .before .group .ensures) (c .before .before .before .before .before .before .before .before .before .before .before .before .before .roots .ensures) (c .before .before .before .before .spread .ensures)

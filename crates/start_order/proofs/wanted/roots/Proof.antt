@@ -1,3 +1,4 @@
+-- `start_order::wanted::roots` meets its contract. Assumes nothing.
 use Rattle.start_order.specs.Walked.{seed-can}
 use Rattle.start_order.specs.Roots.{Roots, roots-none, roots-more}
 use Rattle.start_order.specs.Bits.{picks}
@@ -8,9 +9,6 @@ use native.Mathlib.Omega.{arith}
 use Prim.Native.Nat.{_-_, _≤_}
 use Rattle.start_order.proofs.wanted.roots.Statement.{statement}
 use Rattle.start_order.proofs.wanted.roots.Tie as tie
-use Rattle.start_order.proofs.wanted.roots.Reads as reads
-use Rattle.start_order.proofs.wanted.roots.Lts as lts
-use Rattle.start_order.proofs.wanted.seed.Reads as seed-reads
 
 abbrev Inv-loop : tie.InvT-loop
 Inv-loop area n registered bit marks₀ stack₀ height₀ x₀ marks stack height x =
@@ -20,42 +18,34 @@ abbrev μ-loop : tie.MeasureT-loop
 μ-loop area n registered bit marks₀ stack₀ height₀ x₀ marks stack height x =
     registered - x
 
--- src/wanted.rt:66:5
 loop-holds : tie.Need-loop-holds Inv-loop μ-loop
 loop-holds c =
     (omega arith, refl, refl, roots-none _ (c .before .before .before .pre .1))
 
--- src/wanted.rt:67:9
 seed-requires : tie.Need-seed-requires Inv-loop μ-loop
 seed-requires c κs =
     seed-can (c .before .before .before .before .before .before .before .pre .0) (c .before .before .before .loop .inv .3) (c .before .before .loop-test .taken)
 
--- src/wanted.rt:68:9
 add-x : tie.Need-add-x Inv-loop μ-loop
 add-x c =
     search needs
 
--- src/wanted.rt:66:5
 loop-less : tie.Need-loop-less Inv-loop μ-loop
 loop-less c =
     search needs
 
--- src/wanted.rt:66:5
 loop-again : tie.Need-loop-again Inv-loop μ-loop
 loop-again c =
     (omega (arith, c .before .before .before .before .before .before .before .loop-test .taken), c .before .before .before .before .seed .kept .1 .1 .1 .1 .0 ∙ c .before .before .before .before .before .before .before .before .loop .inv .1, c .before .before .before .before .seed .kept .1 .1 .1 .1 .1 .0 ∙ c .before .before .before .before .before .before .before .before .loop .inv .2, roots-more (c .before .before .before .before .before .before .before .before .loop .inv .3) (omega (arith, c .before .before .before .before .before .before .before .loop-test .taken, c .before .before .before .before .before .before .before .before .before .before .before .before .pre .0 .few)) (c .before .before .before .before .seed .ensures))
 
--- src/wanted.rt:53:1
 same-length : tie.Need-same-length Inv-loop μ-loop
 same-length c =
     c .before .loop .inv .1
 
--- src/wanted.rt:53:1
 same-length-2 : tie.Need-same-length-2 Inv-loop μ-loop
 same-length-2 c =
     c .before .loop .inv .2
 
--- src/wanted.rt:53:1
 returns : tie.Need-returns Inv-loop μ-loop
 returns c =
     let z : c .before .loop .x ≡ c .before .before .before .before .before .args .registered = omega (arith, c .before .loop .inv .0) in rw z at (c .before .loop .inv .3)

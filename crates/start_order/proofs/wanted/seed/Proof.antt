@@ -1,39 +1,29 @@
+-- `start_order::wanted::seed` meets its contract. Assumes nothing.
 use mathlib.Core.Bool.{true≢false}
 use mathlib.Core.Path.{refl, sym, _∙_}
 use borrow.Author.Needs.{needs}
 use Rattle.start_order.proofs.wanted.seed.Statement.{statement}
 use Rattle.start_order.proofs.wanted.seed.Tie as tie
-use Rattle.start_order.proofs.wanted.seed.Reads as reads
-use Rattle.start_order.proofs.wanted.seed.Lts as lts
-use Rattle.graph_walks.proofs.look.Reads as look-reads
-use Rattle.start_order.proofs.wanted.is_root.Reads as is-root-reads
 
--- src/wanted.rt:46:8
 is-root-requires : tie.Need-is-root-requires
 is-root-requires c κs = search needs
 
--- src/wanted.rt:47:59
 cast-look : tie.Need-cast-look
 cast-look c = search needs
 
--- src/wanted.rt:47:9
 look-requires : tie.Need-look-requires
 look-requires c κs = search needs
 
--- src/wanted.rt:47:9
 same-length : tie.Need-same-length
 same-length c = search needs
 
--- src/wanted.rt:47:9
 same-length-2 : tie.Need-same-length-2
 same-length-2 c = search needs
 
--- src/wanted.rt:47:9
 returns : tie.Need-returns
 returns c =
     record { no = λ e. absurd (true≢false (sym (sym (c .before .before .before .before .before .before .before .before .is-root .ensures) ∙ c .before .before .before .before .before .before .before .if1 .taken) ∙ e)); yes = λ e. c .before .before .before .before .look .ensures }
 
--- src/wanted.rt:34:1
 returns-2 : tie.Need-returns-2
 returns-2 c =
     record { no = λ e. (refl, refl, refl); yes = λ e. absurd (true≢false (sym e ∙ sym (c .before .is-root .ensures) ∙ c .if1 .left)) }
