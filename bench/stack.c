@@ -32,6 +32,11 @@ static void multiplicity(void) { refusal = nidskalm_reduced_chunk_graph_multipli
 static void edge_count(void) { refusal = nidskalm_reduced_chunk_graph_edge_count(LOAD).refusal; }
 static void edge_at(void) { refusal = nidskalm_reduced_chunk_graph_edge_at(LOAD, 3).refusal; }
 
+static void start_order(void) {
+    static uint32_t chunks[A];
+    refusal = nidskalm_reduced_chunk_graph_start_order(LOAD, 0, chunks, A).refusal;
+}
+
 static void merge_new(void) {
     refusal = nidskalm_chunk_optimization_graph_new(C, M, L, E, 1, 0, module_starts, 2, list, 1, sets, 4 * NAMED, list, NAMED,
         effects, M, merge_area, sizeof merge_area / sizeof *merge_area).refusal;
@@ -132,6 +137,7 @@ static void moves(const char *name, uint64_t atoms, uint64_t entries, uint64_t r
     tell("`multiplicity`", multiplicity);
     tell("`edge_count`", edge_count);
     tell("`edge_at`", edge_at);
+    tell("`start_order`", start_order);
     bits[3] = 0;
 }
 

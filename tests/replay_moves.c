@@ -58,23 +58,19 @@ static void multiplicity(const load *x) {
     reply_told(nidskalm_reduced_chunk_graph_multiplicity(LENT(x), AREA(x), from, x->w, to, x->w));
 }
 
-/* The list has another number in every place beforehand; past the chunks it stays. */
+/* The list has other numbers than atoms beforehand, and is recorded whole. */
 static void start_order(const load *x) {
     static uint32_t chunks[1024];
     const uint64_t bit = one(), room = one();
-    readable(room <= LENGTH(chunks));
+    readable(room <= sizeof chunks / sizeof *chunks);
     for (uint32_t i = 0; i < room; i++) {
         chunks[i] = 1000000 + i;
     }
     const nidskalm_reply reply = nidskalm_reduced_chunk_graph_start_order(LENT(x), AREA(x), bit, chunks, room);
-    reply_told(reply);
-    for (uint32_t i = 0; i < room; i++) {
-        if (i < reply.value) {
-            told("chunk", chunks[i]);
-        } else {
-            readable(chunks[i] == 1000000 + i);
-        }
-    }
+    bool row = one() == reply.refusal;
+    bool value = one() == reply.value;
+    bool same = memcmp(smalls(room), chunks, room * sizeof *chunks) == 0;
+    counted(reply.refusal, row && value && same);
 }
 
 static void call(const load *x) {

@@ -91,7 +91,7 @@ fn library_moves(library: &dyn Library, input: &Input) -> f64 {
     )
 }
 
-/// The library's time for `new`, `try_move` and the five questions.
+/// The library's time for `new`, `try_move`, the five questions and the start order.
 fn library_times(library: &dyn Library, input: &Input) -> Vec<(&'static str, f64)> {
     let load = &input.load;
     let bits: Vec<Vec<u64>> = input.sets.iter().map(|&set| words(set, load.e)).collect();
@@ -113,6 +113,7 @@ fn library_times(library: &dyn Library, input: &Input) -> Vec<(&'static str, f64
         ("multiplicity", ask(&|area, k| library.multiplicity(load, area, set(k), set(k + 1)).value)),
         ("edge_count", ask(&|area, _| library.edge_count(load, area).value)),
         ("edge_at", ask(&|area, k| library.edge_at(load, area, k as u64).multiplicity)),
+        ("start_order", ask(&|area, k| library.start_order(load, area, k as u64 % load.e, &mut [0; 512]).value)),
     ]
 }
 

@@ -52,7 +52,13 @@ def moves(case):
         6: ("edge_at", 1, [("found", 1), ("from", w), ("to", w), ("multiplicity", 1)]),
     }
     for _ in range(case.one()):
-        name, arguments, parts = calls[case.one()]
+        kind = case.one()
+        if kind == 7:
+            case.skip(1)
+            room = case.one()
+            case.answer("start_order", [("value", 1), ("chunks", room)])
+            continue
+        name, arguments, parts = calls[kind]
         case.skip(arguments)
         case.answer(name, parts)
 

@@ -4,3 +4,4 @@ pub mod Names
 pub mod Listing
 pub mod Ready
 pub mod Wanted
+pub mod Example

@@ -49,8 +49,7 @@ fn move_answer_numbers(answer: Answer, w: usize) -> Vec<u64> {
     match answer {
         Answer::Reply(reply) => vec![reply.refusal, reply.value],
         Answer::Order(reply, list) => {
-            let listed = list[..reply.value as usize].iter().map(|&name| u64::from(name));
-            [reply.refusal, reply.value].into_iter().chain(listed).collect()
+            [reply.refusal, reply.value].into_iter().chain(numbers(&list)).collect()
         }
         Answer::Set(reply) => {
             let set = [reply.set0, reply.set1, reply.set2, reply.set3];

@@ -90,13 +90,10 @@ fn replay_moves(library: &dyn Library, reader: &mut Reader) -> Result<(), String
                 expect(place, ours, EdgeReply { refusal, found, ..EdgeReply::edge(from, to, multiplicity) })?;
             }
             7 => {
-                let (bit, mut list) = (reader.one(), lent_list(reader.one() as usize));
+                let (bit, room) = (reader.one(), reader.one());
+                let mut list = lent_list(room as usize);
                 let ours = library.start_order(&load, &area, bit, &mut list);
-                let (expected, mut whole) = (reader.reply(), lent_list(list.len()));
-                for name in &mut whole[..expected.value as usize] {
-                    *name = reader.small();
-                }
-                expect(place, (ours, list), (expected, whole))?;
+                expect(place, (ours, list), (reader.reply(), reader.smalls(room)))?;
             }
             other => return Err(format!("no call {other}")),
         }
