@@ -137,7 +137,7 @@ static void moves(const char *name, uint64_t atoms, uint64_t entries, uint64_t r
     tell("`multiplicity`", multiplicity);
     tell("`edge_count`", edge_count);
     tell("`edge_at`", edge_at);
-    tell("`start_order`", start_order);
+    if (!cyclic) tell("`start_order`", start_order);
     bits[3] = 0;
 }
 
