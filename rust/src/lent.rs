@@ -106,16 +106,7 @@ pub fn reduced_chunk_graph_edge_at(load: &Load, n: u64, area: &[u32], k: u64) ->
 /// The chunks to fetch for an entry bit, by their lowest atoms, into `chunks`; value: how many.
 pub fn reduced_chunk_graph_start_order(load: &Load, n: u64, area: &[u32], bit: u64, chunks: &mut [u32]) -> Reply {
     let (lent, length) = (area.as_ptr(), area.len());
-    with_load!(
-        nidskalm_reduced_chunk_graph_start_order,
-        load,
-        n,
-        lent,
-        length,
-        bit,
-        chunks.as_mut_ptr(),
-        chunks.len()
-    )
+    with_load!(nidskalm_reduced_chunk_graph_start_order, load, n, lent, length, bit, chunks.as_mut_ptr(), chunks.len())
 }
 
 /// Loads a merge graph. `sets` holds the named sets' numbers, as many for each as the entry bits need.

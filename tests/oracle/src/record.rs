@@ -48,9 +48,7 @@ fn move_call_numbers(call: &MoveCall) -> Vec<u64> {
 fn move_answer_numbers(answer: Answer, w: usize) -> Vec<u64> {
     match answer {
         Answer::Reply(reply) => vec![reply.refusal, reply.value],
-        Answer::Order(reply, list) => {
-            [reply.refusal, reply.value].into_iter().chain(numbers(&list)).collect()
-        }
+        Answer::Order(reply, list) => [reply.refusal, reply.value].into_iter().chain(numbers(&list)).collect(),
         Answer::Set(reply) => {
             let set = [reply.set0, reply.set1, reply.set2, reply.set3];
             [&[reply.refusal], &set[..w]].concat()
