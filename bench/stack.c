@@ -34,6 +34,11 @@ static void has_cycle(void) { refusal = nidskalm_reduced_chunk_graph_has_cycle(L
 static void chunk_count(void) { refusal = nidskalm_reduced_chunk_graph_chunk_count(LOAD).refusal; }
 static void edge_at(void) { refusal = nidskalm_reduced_chunk_graph_edge_at(LOAD, 3).refusal; }
 
+static void start_order(void) {
+    static uint32_t chunks[A];
+    refusal = nidskalm_reduced_chunk_graph_start_order(LOAD, 0, chunks, A).refusal;
+}
+
 static void merge_new(void) {
     refusal = nidskalm_chunk_optimization_graph_new(C, M, L, E, 1, 0, module_starts, 2, list, 1, sets, 4 * NAMED, list, NAMED,
         effects, M, merge_area, sizeof merge_area / sizeof *merge_area).refusal;
@@ -136,6 +141,7 @@ static void moves(const char *name, uint64_t atoms, uint64_t entries, uint64_t r
     tell("`chunk_count`", chunk_count);
     tell("`edge_at`", edge_at);
     tell("`has_cycle`", has_cycle);
+    if (!cyclic) tell("`start_order`", start_order);
     bits[3] = 0;
 }
 

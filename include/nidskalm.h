@@ -12,7 +12,7 @@
  *
  * All state lies in a work area of 32-bit numbers that the caller lends. Between calls nobody else may write there.
  * Every list is a pointer and the count of its items. A pointer must be valid for that many items (any pointer for 0);
- * the area and the pass's answer lists must not overlap other lists. Nothing else is asked of the caller: whatever the
+ * the area and lists of answers must not overlap other lists. Nothing else is asked of the caller: whatever the
  * numbers, a call ends and answers, or is refused. A refused call writes nothing.
  *
  * A reply's `refusal` is 0, or the number of the first fitting row; where it isn't 0, the other fields are 0. Rows are
@@ -44,6 +44,8 @@
  *       (choice of a merge target)
  *   24  the atom is fixed: comes right after 10, whatever the set and the graph
  *   25  there aren't eight classes, one is neither 0 nor 1, or an odd one isn't 1; after 23
+ *   26  the entry bit is E or more, or the graph has a cycle anywhere (start order)
+ *   27  the start order's list holds fewer than A numbers; after 26
  *   28  source, target or a proposed chunk has been merged away, where merged chunks stand for their target; right after
  *       20
  *
@@ -196,6 +198,18 @@ nidskalm_reply nidskalm_reduced_chunk_graph_has_cycle(
     const uint32_t *hosts, size_t hosts_length,
     const uint32_t *fixed, size_t fixed_length,
     const uint32_t *area, size_t area_length);
+
+/* The chunks to fetch for an entry bit, those whose set holds it and all they reach: each once, named by its lowest
+ * atom, at every place the smallest set whose edges all lead to chunks listed before. `chunks` has at least A numbers;
+ * the value says how many of them are written. The area is only read. */
+nidskalm_reply nidskalm_reduced_chunk_graph_start_order(
+    uint64_t a, uint64_t d, uint64_t e, uint64_t n,
+    const uint32_t *starts, size_t starts_length,
+    const uint32_t *dependencies, size_t dependencies_length,
+    const uint32_t *hosts, size_t hosts_length,
+    const uint32_t *fixed, size_t fixed_length,
+    const uint32_t *area, size_t area_length,
+    uint64_t bit, uint32_t *chunks, size_t chunks_length);
 
 /* ---- The merge graph ----
  *

@@ -51,6 +51,14 @@ static void moves(void) {
     expect("whether there is a cycle", reply.refusal, reply.value, 0, 0);
     reply = nidskalm_reduced_chunk_graph_has_cycle(LOAD, area, length - 1);
     expect("the same of a short area", reply.refusal, reply.value, 3, 0);
+    uint32_t chunks[3] = {9, 9, 9};
+    reply = nidskalm_reduced_chunk_graph_start_order(LOAD, area, length, 1, chunks, 3);
+    expect("the number of chunks to fetch", reply.refusal, reply.value, 0, 2);
+    expect("the chunks to fetch", 0, 100 * chunks[0] + 10 * chunks[1] + chunks[2], 0, 29);
+    reply = nidskalm_reduced_chunk_graph_start_order(LOAD, area, length, 2, chunks, 2);
+    expect("the chunks of no bit", reply.refusal, reply.value, 26, 0);
+    reply = nidskalm_reduced_chunk_graph_start_order(LOAD, area, length, 1, chunks, 2);
+    expect("a short list of chunks", reply.refusal, reply.value, 27, 0);
 }
 
 #define SIZE 4, 3, 4, 2, merge_area, sizeof merge_area / sizeof *merge_area

@@ -283,6 +283,51 @@ static void verdicts(void) {
     }
 }
 
+static void ordered(const char *name, load x, const uint32_t *area, size_t length, uint64_t bit, uint32_t *chunks, size_t room) {
+    nidskalm_reply reply = nidskalm_reduced_chunk_graph_start_order(LENT(x), area, length, bit, chunks, room);
+    say(name, reply.refusal != 0 ? row(reply) : 100 + reply.value);
+}
+
+/* The start order at its limits: 512 atoms in a row, each depending on the next and in the set of its number. Bit 9, held by none, fetches
+ * nothing; bit 8 the sets from 256 on, the last atom's first. Then no atom at all, and a cycle that the bit doesn't reach. */
+static void start_orders(void) {
+    static uint32_t area[NIDSKALM_MOVE_AREA(512, 511, 10, 513)], starts[513], dependencies[511], chunks[513];
+    static uint64_t sets[512];
+    const load x = {512, 511, 10, 513, starts, dependencies, nobody, zeros};
+    const size_t length = LENGTH(area);
+    number(sets, LENGTH(sets));
+    for (uint32_t i = 0; i < 511; i++) {
+        starts[i] = i;
+        dependencies[i] = i + 1;
+    }
+    starts[511] = starts[512] = 511;
+    loaded("512 atoms in a row", x, sets, LENGTH(sets), area, length);
+    fill(chunks, LENGTH(chunks), 9999);
+    ordered("the chunks of bit 0 into 511 numbers", x, area, length, 0, chunks, 511);
+    ordered("of bit 10 into 511 numbers", x, area, length, 10, chunks, 511);
+    ordered("of bit 10 into 512 numbers", x, area, length, 10, chunks, 512);
+    say("the first number", chunks[0]);
+    ordered("of bit 9", x, area, length, 9, chunks, 512);
+    say("the first number", chunks[0]);
+    ordered("of bit 8 into 513 numbers", x, area, length, 8, chunks, 513);
+    say("the first chunk", chunks[0]);
+    say("the last chunk", chunks[255]);
+    say("the number past it", chunks[256]);
+    ordered("of bit 0", x, area, length, 0, chunks, 512);
+    say("the first chunk", chunks[0]);
+    say("the last chunk", chunks[510]);
+    say("the number past it", chunks[511]);
+
+    uint32_t small[NIDSKALM_MOVE_AREA(3, 2, 2, 4)] = {0};
+    const uint32_t ring_starts[] = {0, 0, 1, 2}, ring[] = {2, 1};
+    const load none = {0, 0, 1, 1, zeros, zeros, nobody, zeros}, apart = {3, 2, 2, 4, ring_starts, ring, nobody, zeros};
+    const uint64_t three[] = {1, 2, 3};
+    loaded("no atom", none, three, 0, small, LENGTH(small));
+    ordered("its chunks", none, small, LENGTH(small), 0, chunks, 0);
+    loaded("a cycle apart", apart, three, 3, small, LENGTH(small));
+    ordered("the chunks beside it", apart, small, LENGTH(small), 0, chunks, 2);
+}
+
 int main(void) {
     most_atoms();
     month_of_moves();
@@ -297,5 +342,6 @@ int main(void) {
     last_mark();
     fixed_atoms();
     verdicts();
+    start_orders();
     return 0;
 }

@@ -67,6 +67,21 @@ static void multiplicity(const load *x) {
     reply_told(nidskalm_reduced_chunk_graph_multiplicity(LENT(x), AREA(x), from, x->w, to, x->w));
 }
 
+/* The list has other numbers than atoms beforehand, and is recorded whole. */
+static void start_order(const load *x) {
+    static uint32_t chunks[1024];
+    const uint64_t bit = one(), room = one();
+    readable(room <= sizeof chunks / sizeof *chunks);
+    for (uint32_t i = 0; i < room; i++) {
+        chunks[i] = 1000000 + i;
+    }
+    const nidskalm_reply reply = nidskalm_reduced_chunk_graph_start_order(LENT(x), AREA(x), bit, chunks, room);
+    bool row = one() == reply.refusal;
+    bool value = one() == reply.value;
+    bool same = memcmp(smalls(room), chunks, room * sizeof *chunks) == 0;
+    counted(reply.refusal, row && value && same);
+}
+
 static void call(const load *x) {
     switch (one()) {
     case 1: try_move(x); break;
@@ -77,6 +92,7 @@ static void call(const load *x) {
     case 8: reply_told(nidskalm_reduced_chunk_graph_chunk_count(LENT(x), AREA(x))); break;
     case 6: edge_told(x->w, nidskalm_reduced_chunk_graph_edge_at(LENT(x), AREA(x), one())); break;
     case 7: reply_told(nidskalm_reduced_chunk_graph_has_cycle(LENT(x), AREA(x))); break;
+    case 9: start_order(x); break;
     default: readable(false);
     }
 }

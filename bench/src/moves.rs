@@ -91,7 +91,7 @@ fn library_moves(library: &dyn Library, input: &Input) -> f64 {
     )
 }
 
-/// The library's time for `new`, `try_move` and the five questions.
+/// The library's time for `new`, `try_move`, the five questions and the start order.
 fn library_times(library: &dyn Library, input: &Input) -> Vec<(&'static str, f64)> {
     let load = &input.load;
     let bits: Vec<Vec<u64>> = input.sets.iter().map(|&set| words(set, load.e)).collect();
@@ -115,6 +115,7 @@ fn library_times(library: &dyn Library, input: &Input) -> Vec<(&'static str, f64
         ("chunk_count", ask(&|area, _| library.chunk_count(load, area).value)),
         ("edge_at", ask(&|area, k| library.edge_at(load, area, k as u64).multiplicity)),
         ("has_cycle", ask(&|area, _| library.has_cycle(load, area).value)),
+        ("start_order", ask(&|area, k| library.start_order(load, area, k as u64 % load.e, &mut [0; 512]).value)),
     ]
 }
 

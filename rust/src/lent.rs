@@ -113,6 +113,12 @@ pub fn reduced_chunk_graph_has_cycle(load: &Load, n: u64, area: &[u32]) -> Reply
     with_load!(nidskalm_reduced_chunk_graph_has_cycle, load, n, area.as_ptr(), area.len())
 }
 
+/// The chunks to fetch for an entry bit, by their lowest atoms, into `chunks`; value: how many.
+pub fn reduced_chunk_graph_start_order(load: &Load, n: u64, area: &[u32], bit: u64, chunks: &mut [u32]) -> Reply {
+    let (lent, length) = (area.as_ptr(), area.len());
+    with_load!(nidskalm_reduced_chunk_graph_start_order, load, n, lent, length, bit, chunks.as_mut_ptr(), chunks.len())
+}
+
 /// Loads a merge graph. `sets` holds the named sets' numbers, as many for each as the entry bits need.
 pub fn chunk_optimization_graph_new(
     size: Size,

@@ -188,6 +188,29 @@ impl<'a> MoveGraph<'a> {
         Refusal::check(reply.refusal, reply.value == 1)
     }
 
+    /// The chunks to fetch for an entry bit: those whose set holds it, and all they reach. Each is named by its lowest
+    /// atom and stands behind everything that its edges lead to; where several can come next, the smallest set does.
+    ///
+    /// ```
+    /// use nidskalm::{EntrySet, Load, MoveGraph};
+    ///
+    /// // Atoms 1 and 2 depend on atom 0 and host bits 0 and 1.
+    /// let load = Load { starts: &[0, 0, 1, 2], dependencies: &[0, 0], hosts: &[1, 2], fixed: &[0; 3] };
+    /// let mut graph = MoveGraph::new(load, 4, &[EntrySet::from(3), EntrySet::from(1), EntrySet::from(2)])?;
+    /// assert_eq!(graph.start_order(0)?, [0, 1]);
+    /// assert_eq!(graph.start_order(1)?, [0, 2]);
+    /// assert!(graph.try_move(0, EntrySet::from(1))?.accepted);
+    /// assert_eq!(graph.start_order(1)?, [0, 2]); // chunk 2 needs chunk 1, in which atom 0 now is
+    /// assert_eq!(graph.start_order(2).unwrap_err().row(), 26);
+    /// # Ok::<(), nidskalm::Refusal>(())
+    /// ```
+    pub fn start_order(&self, bit: u64) -> Result<Vec<u32>, Refusal> {
+        let mut chunks = vec![0; self.load.atoms()];
+        let reply = lent::reduced_chunk_graph_start_order(&self.load, self.sets, &self.area, bit, &mut chunks);
+        chunks.truncate(reply.value as usize);
+        Refusal::check(reply.refusal, chunks)
+    }
+
     /// All edges in the order of [`edge_at`](Self::edge_at).
     pub fn edges(&self) -> Result<Vec<Edge>, Refusal> {
         let mut edges = vec![];

@@ -95,6 +95,8 @@ unsafe extern "C" {
     pub fn nidskalm_reduced_chunk_graph_edge_at(a: u64, d: u64, e: u64, n: u64, starts: *const u32, starts_length: usize, dependencies: *const u32, dependencies_length: usize, hosts: *const u32, hosts_length: usize, fixed: *const u32, fixed_length: usize, area: *const u32, area_length: usize, k: u64) -> EdgeReply;
     /// Whether there is a cycle, by the book's search; value 0 acyclic, 1 cyclic.
     pub fn nidskalm_reduced_chunk_graph_has_cycle(a: u64, d: u64, e: u64, n: u64, starts: *const u32, starts_length: usize, dependencies: *const u32, dependencies_length: usize, hosts: *const u32, hosts_length: usize, fixed: *const u32, fixed_length: usize, area: *const u32, area_length: usize) -> Reply;
+    /// The chunks to fetch for an entry bit, in their order.
+    pub fn nidskalm_reduced_chunk_graph_start_order(a: u64, d: u64, e: u64, n: u64, starts: *const u32, starts_length: usize, dependencies: *const u32, dependencies_length: usize, hosts: *const u32, hosts_length: usize, fixed: *const u32, fixed_length: usize, area: *const u32, area_length: usize, bit: u64, chunks: *mut u32, chunks_length: usize) -> Reply;
 
     /// Loads a merge graph.
     pub fn nidskalm_chunk_optimization_graph_new(c: u64, m: u64, l: u64, e: u64, initial: u64, mode: u32, module_starts: *const u32, module_starts_length: usize, modules: *const u32, modules_length: usize, sets: *const u64, sets_length: usize, set_chunks: *const u32, set_chunks_length: usize, side_effects: *const u32, side_effects_length: usize, area: *mut u32, area_length: usize) -> Reply;

@@ -47,6 +47,8 @@ impl Refusal {
             23 => "over 1,024 kinds or 4,096 modules, or a list with a wrong length, faulty starts, or a kind or index out of range",
             24 => "the atom is fixed",
             25 => "the entry classes aren't eight, one is neither 0 nor 1, or an odd one isn't 1",
+            26 => "the entry bit is out of range, or the graph has a cycle",
+            27 => "the list for the start order holds fewer numbers than there are atoms",
             28 => "a chunk has been merged away",
             _ => "no row of that number is known",
         }
@@ -89,7 +91,7 @@ mod tests {
         let unknown = Refusal(22).condition();
         assert_eq!(Refusal(13).condition(), unknown, "13 is no row any more");
         let mut seen = BTreeSet::from([unknown]);
-        for row in (1..=12).chain(14..=21).chain([23, 24, 25, 28]) {
+        for row in (1..=12).chain(14..=21).chain(23..=28) {
             let words = Refusal(row).condition();
             assert!(!words.trim().is_empty(), "row {row} has no words");
             assert!(seen.insert(words), "row {row} has no words of its own");

@@ -141,6 +141,31 @@ fn every_call_is_lent_the_marks_of_the_loading() {
     assert_eq!(refusal(&[0, 0]), 2);
 }
 
+#[test]
+fn start_orders() {
+    let mut graph = MoveGraph::new(LOAD, 8, &[set(3), set(1), set(2)]).unwrap();
+    assert_eq!(graph.start_order(0), Ok(vec![0, 1]));
+    assert_eq!(graph.start_order(1), Ok(vec![0, 2]));
+    assert_eq!(row(graph.start_order(2)), 26);
+    assert!(graph.try_move(2, set(3)).unwrap().accepted);
+    assert_eq!(graph.start_order(1), Ok(vec![0]));
+    let mut area = vec![0; lent::move_area_length(&LOAD, 4).unwrap()];
+    assert_eq!(lent::reduced_chunk_graph_new(&LOAD, 4, &[3, 1, 2], &mut area).refusal, 0);
+    let told = |bit, room: &mut [u32]| lent::reduced_chunk_graph_start_order(&LOAD, 4, &area, bit, room);
+    let mut room = [7; 4];
+    let reply = told(0, &mut room);
+    assert_eq!((reply.refusal, reply.value, room), (0, 2, [0, 1, 7, 7]));
+    assert_eq!((told(0, &mut [7; 2]).refusal, told(2, &mut [7; 2]).refusal), (27, 26));
+}
+
+#[test]
+fn a_cycle_has_no_start_order() {
+    let load = Load { starts: &[0, 1, 2], dependencies: &[1, 0], hosts: &[NONE; 2], fixed: &[0; 2] };
+    let graph = MoveGraph::new(load, 3, &[set(1), set(2)]).unwrap();
+    assert!(graph.cyclic_at_loading());
+    assert_eq!(row(graph.start_order(0)), 26);
+}
+
 /// The header's three version numbers are this crate's.
 #[test]
 fn the_header_has_this_version() {

@@ -54,7 +54,13 @@ def moves(case):
         8: ("chunk_count", 0, value),
     }
     for _ in range(case.one()):
-        name, arguments, parts = calls[case.one()]
+        kind = case.one()
+        if kind == 9:
+            case.skip(1)
+            room = case.one()
+            case.answer("start_order", [("value", 1), ("chunks", room)])
+            continue
+        name, arguments, parts = calls[kind]
         case.skip(arguments)
         case.answer(name, parts)
 

@@ -10,6 +10,7 @@ pub mod Reached
 pub mod Chain
 pub mod Fixed
 pub mod Fewer
+pub mod StartOrder
 pub mod MergeRefused
 pub mod MergeKept
 pub mod MergeLoaded

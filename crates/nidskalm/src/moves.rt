@@ -3,6 +3,7 @@ ghost use mathlib.Core.Path.{_≡_};
 ghost use Rattle.move_ledger.specs.Graph.{lent};
 ghost use Rattle.move_ledger.specs.Ledger as ledger;
 ghost use Rattle.move_area.specs.Calls as calls;
+ghost use Rattle.move_order.specs.Order.{started};
 ghost use Rattle.nidskalm_replies.specs.Replies.{move-reply, try-reply, set-reply, edge-reply};
 use nidskalm_replies::EdgeReply;
 use nidskalm_replies::MoveReply;
@@ -282,5 +283,38 @@ pub extern "C" fn nidskalm_reduced_chunk_graph_has_cycle(
         hosts,
         fixed,
         area,
+    ))
+}
+
+// The chunks to fetch for an entry bit, each behind all that its edges lead to, by their lowest atoms: how many there are.
+#[no_mangle]
+pub extern "C" fn nidskalm_reduced_chunk_graph_start_order(
+    a: u64,
+    d: u64,
+    e: u64,
+    n: u64,
+    starts: &[u32],
+    dependencies: &[u32],
+    hosts: &[u32],
+    fixed: &[u32],
+    area: &[u32],
+    bit: u64,
+    chunks: &mut [u32],
+) -> Reply
+    ensures { λ r. ⌜ r ≡ move-reply (started (lent a d e (now (starts .entry)) (now (dependencies .entry)) (now (hosts .entry))) (now (fixed .entry)) n (now (area .entry)) bit (now (chunks .entry)) .answer) ⌝ }
+    ensures { λ _. ⌜ now (chunks .exit) ≡ started (lent a d e (now (starts .entry)) (now (dependencies .entry)) (now (hosts .entry))) (now (fixed .entry)) n (now (area .entry)) bit (now (chunks .entry)) .chunks ⌝ }
+{
+    of_number(start_order::start_order(
+        a as usize,
+        d as usize,
+        e as usize,
+        n as usize,
+        starts,
+        dependencies,
+        hosts,
+        fixed,
+        area,
+        bit,
+        chunks,
     ))
 }

@@ -35,7 +35,7 @@ impl Runner<'_> {
         run(case, self.library, &mut self.counts)
     }
 
-    /// A small load with each first move and two made-up ones.
+    /// A small load with each first move, two made-up ones, and questions between.
     fn every_first_move(&mut self, random: &mut Random, case: &MoveCase) -> Found {
         let a = case.load.a;
         for atom in 0..a as u32 {
@@ -43,8 +43,9 @@ impl Runner<'_> {
                 let second = MoveCall::Move { atom: random.below(a) as u32, bits: vec![random.below(4)] };
                 let third = MoveCall::Move { atom: random.below(a) as u32, bits: vec![random.below(4)] };
                 let edge = MoveCall::EdgeAt { k: random.below(3) };
+                let order = MoveCall::StartOrder { bit: random.below(2), room: a as usize };
                 let first = MoveCall::Move { atom, bits: vec![set] };
-                let calls = [first, second, MoveCall::EdgeCount, edge, MoveCall::HasCycle, third, MoveCall::HasCycle];
+                let calls = [first, second, MoveCall::EdgeCount, edge, order, MoveCall::HasCycle, third, MoveCall::HasCycle];
                 let calls = calls.into_iter().map(|call| (call, Damage::default())).collect();
                 self.run(&MoveCase { calls, ..case.clone() })?;
             }

@@ -78,6 +78,7 @@ pub trait Library {
     fn chunk_count(&self, load: &Load, area: &[u32]) -> Reply;
     fn edge_at(&self, load: &Load, area: &[u32], k: u64) -> EdgeReply;
     fn has_cycle(&self, load: &Load, area: &[u32]) -> Reply;
+    fn start_order(&self, load: &Load, area: &[u32], bit: u64, chunks: &mut [u32]) -> Reply;
 
     fn merge_new(&self, size: Size, load: &MergeLoad, area: &mut [u32]) -> Reply;
     fn init_module(&self, size: Size, area: &mut [u32], module: u32, bits: &[u64], side_effects: &[u32]) -> Reply;
@@ -180,6 +181,12 @@ mod ours {
 
         fn has_cycle(&self, load: &Load, area: &[u32]) -> Reply {
             with_load!(nidskalm_reduced_chunk_graph_has_cycle, load, area.as_ptr(), area.len())
+        }
+
+        fn start_order(&self, load: &Load, area: &[u32], bit: u64, chunks: &mut [u32]) -> Reply {
+            let (lent, length) = (area.as_ptr(), area.len());
+            let (list, room) = (chunks.as_mut_ptr(), chunks.len());
+            with_load!(nidskalm_reduced_chunk_graph_start_order, load, lent, length, bit, list, room)
         }
 
         fn merge_new(&self, size: Size, load: &MergeLoad, area: &mut [u32]) -> Reply {

@@ -73,6 +73,10 @@ fn move_calls() -> Vec<MoveCall> {
         MoveCall::EdgeAt { k: 0 },
         MoveCall::EdgeAt { k: 8192 },
         MoveCall::HasCycle,
+        MoveCall::StartOrder { bit: 0, room: 512 },
+        MoveCall::StartOrder { bit: 255, room: 513 },
+        MoveCall::StartOrder { bit: 255, room: 511 },
+        MoveCall::StartOrder { bit: 256, room: 511 },
     ]
 }
 

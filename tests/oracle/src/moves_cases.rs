@@ -31,6 +31,11 @@ pub enum MoveCall {
         k: u64,
     },
     HasCycle,
+    /// With a list of `room` numbers for the chunks.
+    StartOrder {
+        bit: u64,
+        room: usize,
+    },
     /// No call: the run puts this number into the walk counter, unless that is higher.
     Counter {
         value: u32,
@@ -66,19 +71,21 @@ pub struct MoveCase {
     pub calls: Vec<(MoveCall, Damage)>,
 }
 
-#[derive(Clone, Copy, Debug, PartialEq, Eq)]
+#[derive(Clone, Debug, PartialEq, Eq)]
 pub enum Answer {
     Moved(MoveReply),
     Reply(Reply),
     Set(SetReply),
     Edge(EdgeReply),
+    /// With the lent list afterwards.
+    Order(Reply, Vec<u32>),
 }
 
 impl Answer {
-    pub fn refusal(self) -> u64 {
+    pub fn refusal(&self) -> u64 {
         match self {
             Self::Moved(reply) => reply.refusal,
-            Self::Reply(reply) => reply.refusal,
+            Self::Reply(reply) | Self::Order(reply, _) => reply.refusal,
             Self::Set(reply) => reply.refusal,
             Self::Edge(reply) => reply.refusal,
         }
@@ -89,9 +96,15 @@ impl Answer {
             MoveCall::Move { .. } => Self::Moved(MoveReply::refused(row)),
             MoveCall::AtomSet { .. } => Self::Set(SetReply::refused(row)),
             MoveCall::EdgeAt { .. } => Self::Edge(EdgeReply::refused(row)),
+            MoveCall::StartOrder { room, .. } => Self::Order(Reply::refused(row), lent_list(*room)),
             _ => Self::Reply(Reply::refused(row)),
         }
     }
+}
+
+/// A list that is lent for chunks: no atom's number stands in it.
+pub fn lent_list(room: usize) -> Vec<u32> {
+    (0..room as u32).map(|place| 1_000_000 + place).collect()
 }
 
 pub fn library_answer(library: &dyn Library, load: &Load, area: &mut [u32], call: &MoveCall) -> Answer {
@@ -104,6 +117,10 @@ pub fn library_answer(library: &dyn Library, load: &Load, area: &mut [u32], call
         MoveCall::ChunkCount => Answer::Reply(library.chunk_count(load, area)),
         MoveCall::EdgeAt { k } => Answer::Edge(library.edge_at(load, area, *k)),
         MoveCall::HasCycle => Answer::Reply(library.has_cycle(load, area)),
+        MoveCall::StartOrder { bit, room } => {
+            let mut list = lent_list(*room);
+            Answer::Order(library.start_order(load, area, *bit, &mut list), list)
+        }
         MoveCall::Counter { .. } => unreachable!(),
     }
 }
@@ -118,6 +135,10 @@ pub fn model_answer(load: &Load, state: &mut MoveState, call: &MoveCall) -> Answ
         MoveCall::ChunkCount => Answer::Reply(state.ledger().chunk_count()),
         MoveCall::EdgeAt { k } => Answer::Edge(state.ledger().edge_at(load, *k)),
         MoveCall::HasCycle => Answer::Reply(state.ledger().has_cycle(load)),
+        MoveCall::StartOrder { bit, room } => {
+            let mut list = lent_list(*room);
+            Answer::Order(state.ledger().start_order(load, *bit, &mut list), list)
+        }
         MoveCall::Counter { .. } => unreachable!(),
     }
 }
@@ -281,21 +302,19 @@ impl Running<'_> {
     }
 
     /// The original's answer, where it has one, against the model's.
-    fn same_original(&mut self, load: &Load, call: &MoveCall, answer: Answer) -> Result<(), String> {
+    fn same_original(&mut self, load: &Load, call: &MoveCall, answer: &Answer) -> Result<(), String> {
         if let (MoveCall::Move { atom, bits }, Answer::Moved(reply @ MoveReply { refusal: 0, .. })) = (call, answer) {
-            return self.same_move(load, *atom, bits, reply);
+            return self.same_move(load, *atom, bits, *reply);
         }
-        match (&self.view, answer.refusal()) {
-            (Some(view), 0) => same("original against the model", &original_answer(view, call).unwrap(), &answer),
-            _ => Ok(()),
-        }
+        let told = self.view.as_ref().filter(|_| answer.refusal() == 0).and_then(|view| original_answer(view, call));
+        told.map_or(Ok(()), |told| same("original against the model", &told, answer))
     }
 
     /// The library's answer and area against the model's.
-    fn same_library(&mut self, load: &Load, call: &MoveCall, answer: Answer) -> Result<(), String> {
+    fn same_library(&mut self, load: &Load, call: &MoveCall, answer: &Answer) -> Result<(), String> {
         let Some(library) = self.library else { return Ok(()) };
         let lent = self.area.len() - GUARD;
-        same("library", &library_answer(library, load, &mut self.area[..lent], call), &answer)?;
+        same("library", &library_answer(library, load, &mut self.area[..lent], call), answer)?;
         if answer.refusal() == 0 && matches!(call, MoveCall::Move { .. }) {
             self.state.encode(load, &mut self.expected[..lent]);
         }
@@ -323,11 +342,11 @@ impl MoveCase {
             let answer = model_answer(load, &mut running.state, call);
             running.note_registered(&sets, counts);
             counts.refused(answer.refusal());
-            if let Answer::Moved(MoveReply { refusal: 0, accepted, .. }) = answer {
-                if accepted == 1 { counts.accepted += 1 } else { counts.rejected += 1 }
+            if let Answer::Moved(MoveReply { refusal: 0, accepted, .. }) = &answer {
+                if *accepted == 1 { counts.accepted += 1 } else { counts.rejected += 1 }
             }
-            running.same_original(load, call, answer).map_err(at)?;
-            running.same_library(load, call, answer).map_err(at)?;
+            running.same_original(load, call, &answer).map_err(at)?;
+            running.same_library(load, call, &answer).map_err(at)?;
         }
         Ok(())
     }

@@ -122,6 +122,13 @@ fn random_call(random: &mut Random, sets: &[Set], load: &Load, damage: u64) -> M
         5 => MoveCall::EdgeAt { k: random.below(load.d + 1) },
         6 => MoveCall::HasCycle,
         7 => MoveCall::ChunkCount,
+        8 | 9 => {
+            let bit = if wrong { load.e + random.below(2) * 64 } else { random.below(load.e.max(1)) };
+            MoveCall::StartOrder {
+                bit,
+                room: (load.a + random.below(3)).saturating_sub(u64::from(random.chance(damage))) as usize,
+            }
+        }
         _ => MoveCall::Move { atom, bits: random_bits(random, sets, load.e, wrong) },
     }
 }

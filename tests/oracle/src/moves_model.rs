@@ -293,6 +293,38 @@ impl Ledger {
     }
 }
 
+/// The start order of document 02, (v).
+impl Ledger {
+    /// "the chunks whose set holds that bit, and all they reach"
+    fn wanted(graph: &Graph, bit: u64) -> BTreeSet<Set> {
+        let holds = |set: &&Set| set.0[bit as usize / 64] >> (bit % 64) & 1 == 1;
+        let roots: BTreeSet<Set> = graph.nodes.iter().filter(holds).copied().collect();
+        roots.iter().flat_map(|&set| graph.reached(set)).chain(roots.iter().copied()).collect()
+    }
+
+    /// After rows 1 to 9: "26 when the bit is E or more or the graph is cyclic, then 27 when the lent answer list holds fewer than A numbers".
+    pub fn start_order(&self, load: &Load, bit: u64, chunks: &mut [u32]) -> Reply {
+        let graph = Graph::new(load, &self.place);
+        if bit >= load.e || graph.cyclic() {
+            return Reply::refused(26);
+        }
+        if (chunks.len() as u64) < load.a {
+            return Reply::refused(27);
+        }
+        let mut left = Self::wanted(&graph, bit);
+        let mut count = 0;
+        // "at every place stands the smallest set still to list, as a number, whose edges .. all lead to listed chunks"
+        let leads = |left: &BTreeSet<Set>, set| graph.edges.keys().any(|(from, to)| *from == set && left.contains(to));
+        while let Some(next) = left.iter().copied().find(|&set| !leads(&left, set)) {
+            left.remove(&next);
+            // "named by its lowest atom"
+            chunks[count] = self.place.iter().position(|&set| set == next).unwrap() as u32;
+            count += 1;
+        }
+        Reply::value(count as u64)
+    }
+}
+
 /// What an area holds; counts, edges, flag and component are worked out from it.
 #[derive(Clone, Debug, PartialEq, Eq)]
 pub struct MoveState {

@@ -12,7 +12,7 @@ use crate::views::{MoveLists, MoveView};
 pub fn original_answer(view: &MoveView, call: &MoveCall) -> Option<Answer> {
     let reply = |value: u32| Answer::Reply(Reply::value(value.into()));
     Some(match call {
-        MoveCall::Move { .. } | MoveCall::Counter { .. } => return None,
+        MoveCall::Move { .. } | MoveCall::StartOrder { .. } | MoveCall::Counter { .. } => return None,
         MoveCall::AtomSet { atom } => Answer::Set(SetReply::set(view.place[*atom as usize])),
         MoveCall::AtomCount { bits } => reply(view.counts.get(&Set::from_words(bits)).map_or(0, |&count| count)),
         MoveCall::Multiplicity { from, to } => {

@@ -41,6 +41,7 @@ fn move_call_numbers(call: &MoveCall) -> Vec<u64> {
         MoveCall::EdgeAt { k } => vec![6, *k],
         MoveCall::HasCycle => vec![7],
         MoveCall::ChunkCount => vec![8],
+        MoveCall::StartOrder { bit, room } => vec![9, *bit, *room as u64],
         MoveCall::Counter { .. } => unreachable!("not recorded"),
     }
 }
@@ -50,6 +51,7 @@ fn move_answer_numbers(answer: Answer, w: usize) -> Vec<u64> {
     match answer {
         Answer::Moved(reply) => vec![reply.refusal, reply.accepted, reply.appeared, reply.vanished, reply.reached],
         Answer::Reply(reply) => vec![reply.refusal, reply.value],
+        Answer::Order(reply, list) => [reply.refusal, reply.value].into_iter().chain(numbers(&list)).collect(),
         Answer::Set(reply) => {
             let set = [reply.set0, reply.set1, reply.set2, reply.set3];
             [&[reply.refusal], &set[..w]].concat()

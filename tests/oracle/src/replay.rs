@@ -2,6 +2,7 @@
 use crate::layout::MergeLayout;
 use crate::library::{EdgeReply, Library, MergeLoad, MoveReply, Reply, SetReply};
 use crate::merges_model::Size;
+use crate::moves_cases::lent_list;
 use crate::moves_model::Load;
 use crate::record::{BEFORE, MOVE_CASE};
 use crate::sets::{Set, width};
@@ -101,6 +102,12 @@ fn replay_moves(library: &dyn Library, reader: &mut Reader) -> Result<(), String
                 expect(place, ours, EdgeReply { refusal, found, ..EdgeReply::edge(from, to, multiplicity) })?;
             }
             7 => expect(place, library.has_cycle(&load, &area), reader.reply())?,
+            9 => {
+                let (bit, room) = (reader.one(), reader.one());
+                let mut list = lent_list(room as usize);
+                let ours = library.start_order(&load, &area, bit, &mut list);
+                expect(place, (ours, list), (reader.reply(), reader.smalls(room)))?;
+            }
             other => return Err(format!("no call {other}")),
         }
     }

@@ -10,7 +10,7 @@ use crate::sets::{Set, lent_set, width};
 pub const HARMLESS: &str = "loading clears the flags of chunks not yet made";
 
 /// Bugs by name; the first two are none.
-pub const PLANTS: [&str; 70] = [
+pub const PLANTS: [&str; 73] = [
     "none",
     HARMLESS,
     "repeated dependency counted once",
@@ -62,6 +62,9 @@ pub const PLANTS: [&str; 70] = [
     "an old total after a move",
     "totals not checked by 9",
     "a question checks no area",
+    "the highest atom",
+    "a number past the last chunk",
+    "27 before 26",
     "1,025 sets let through",
     "needs_creation cleared",
     "merging does nothing",
@@ -98,7 +101,7 @@ impl StandIn {
         load: &Load,
         area: &[u32],
         refused: impl Fn(u64) -> T,
-        answer: impl Fn(&Load, MoveState) -> T,
+        answer: impl FnOnce(&Load, MoveState) -> T,
     ) -> T {
         match self.open(load, area, true) {
             Err(row) => refused(row),
@@ -234,6 +237,26 @@ impl Library for StandIn {
                 return state.ledger().has_cycle(&Load { hosts, ..load.clone() });
             }
             state.ledger().has_cycle(load)
+        })
+    }
+
+    fn start_order(&self, load: &Load, area: &[u32], bit: u64, chunks: &mut [u32]) -> Reply {
+        self.question(load, area, Reply::refused, |load, state| {
+            if self.planted("27 before 26") && (chunks.len() as u64) < load.a {
+                return Reply::refused(27);
+            }
+            let reply = state.ledger().start_order(load, bit, chunks);
+            if self.planted("the highest atom") && reply.refusal == 0 {
+                let place = state.ledger().place;
+                for name in &mut chunks[..reply.value as usize] {
+                    let set = place[*name as usize];
+                    *name = place.iter().rposition(|&other| other == set).unwrap() as u32;
+                }
+            }
+            if self.planted("a number past the last chunk") && (reply.value as usize) < chunks.len() {
+                chunks[reply.value as usize] = 0;
+            }
+            reply
         })
     }
 

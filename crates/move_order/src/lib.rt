@@ -1,0 +1,1 @@
+// The start order for a desk: definitions and theorems only.
