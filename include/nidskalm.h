@@ -8,7 +8,12 @@
  * target (a mode chosen by nidskalm_chunk_optimization_graph_new), where a direct dependency alone doesn't warn. The choice of a
  * merge target reads lent lists alone.
  *
- * The library is one archive, libnidskalm.a, which needs nothing but memcpy and memset: link with -lnidskalm.
+ * The library is one archive, libnidskalm.a, which needs nothing but memcpy and memset:
+ *
+ *     cc -Iinclude examples/c/plan.c include/nidskalm_refusal.c -Ltarget/staticlib -lnidskalm -o plan
+ *
+ * or, from the archive that tools/pack.sh makes, with the flags of `pkg-config --cflags --libs nidskalm`. examples/c/plan.c
+ * is a worked example. A call runs on the caller's stack: give a thread at least NIDSKALM_STACK bytes and its own needs.
  *
  * All state lies in a work area of 32-bit numbers that the caller lends. Between calls nobody else may write there.
  * Every list is a pointer and the count of its items. A pointer must be valid for that many items (any pointer for 0);
@@ -61,7 +66,7 @@ extern "C" {
 
 /* The library's version. */
 #define NIDSKALM_VERSION_MAJOR 0
-#define NIDSKALM_VERSION_MINOR 1
+#define NIDSKALM_VERSION_MINOR 2
 #define NIDSKALM_VERSION_PATCH 0
 
 /* Bytes of stack that a call needs at most: what the calls at the limits were measured to use, rounded up. */
@@ -77,6 +82,10 @@ extern "C" {
 #define NIDSKALM_MERGE_AREA(c, m, l) \
     ((uint64_t)(c) * (uint64_t)(c) + \
      UINT64_C(32) * ((uint64_t)(c) + (uint64_t)(m) + (uint64_t)(l) + UINT64_C(1)))
+
+/* A refusal's row in words; "not refused" for 0. It is not in the library: compile nidskalm_refusal.c, beside this header,
+ * with your program. The string is static. */
+const char *nidskalm_refusal(uint64_t row);
 
 typedef struct {
     uint64_t refusal, value;
