@@ -29,18 +29,21 @@
 //! ```
 #![warn(missing_docs)]
 
+mod dot;
 mod entries;
 mod entry_set;
 pub mod lent;
+mod load;
 mod merge_graph;
 mod move_graph;
 pub mod raw;
 mod refusal;
 
 pub use entries::Entries;
-pub use entry_set::EntrySet;
+pub use entry_set::{Bits, EntrySet};
+pub use load::{Load, OwnedLoad};
 pub use merge_graph::{Assignment, ChunkIdx, InitialChunks, MergeGraph, Mode, ModuleIdx, Size};
-pub use move_graph::{Edge, Load, MoveGraph};
+pub use move_graph::{Chunk, Edge, Edges, MoveGraph};
 pub use refusal::Refusal;
 
 /// No host for an entry bit.

@@ -28,6 +28,6 @@ fn the_first_atom_of_a_chain_reaches_all_others() {
         let mut graph = MoveGraph::new(load, u64::from(n) + 1, &sets).unwrap();
         assert!(!graph.cyclic_at_loading());
         assert_eq!(graph.try_move(0, target), Ok(true));
-        assert_eq!(reach(&graph.edges().unwrap(), target), n as usize - 1);
+        assert_eq!(reach(graph.edges().unwrap().as_slice(), target), n as usize - 1);
     }
 }
