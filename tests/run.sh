@@ -15,6 +15,7 @@ part "an input of several blocks through the program" python3 tests/moves_model.
 part "what the program chain writes is the model's" python3 tests/chain_model.py --check
 part "every number and many other inputs through the program chain, and what it writes through moves" python3 tests/chain_model.py --run target/bin/chain target/bin/moves
 part "C programs over the library" bash tests/drivers.sh
+part "scripts" bash tests/tools.sh
 part "the archive for servers" bash tests/pack.sh
 part "the Rust crate over the library" bash tests/rust.sh
 part "the original, the model and the library" env NIDSKALM_LIB_DIR=target/staticlib bash tests/oracle/run.sh
