@@ -10,6 +10,7 @@ part() { # WHAT COMMAND..
 }
 
 part "the programs and the static library are built" bash tests/build.sh
+part "the first look" bash tests/try.sh
 part "the program's recorded output is the model's" python3 tests/moves_model.py --check
 part "an input of several blocks through the program" python3 tests/moves_model.py --large target/bin/moves
 part "what the program chain writes is the model's" python3 tests/chain_model.py --check

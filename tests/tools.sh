@@ -22,6 +22,10 @@ refused() { # WORDS COMMAND..
 sed -n 's/^    \(10 0300 .*\)$/\1  # the worked example/p' README.md | head -n 1 > "$work/hex"
 [ -s "$work/hex" ] || fail "README.md has no worked example in hex"
 tools/unhex.py < "$work/hex" | cmp - crates/moves/stdin || fail "README's worked example isn't crates/moves/stdin"
+# README's typed example, with its remarks.
+sed -n "/unhex.py <<'END'/,/^    END/p" README.md | sed '1d;$d' | tools/unhex.py > "$work/typed"
+printf 'load acyclic\naccepted\n1\n2 1 1\nedges 1\n' > "$work/expected"
+target/bin/moves < "$work/typed" | diff - "$work/expected" || fail "README's typed example answers something else"
 printf '13 # load\n20 000g\n' > "$work/odd"
 refused 'standard input:2: `000g`' tools/unhex.py < "$work/odd"
 printf '130\n' > "$work/half"

@@ -112,6 +112,9 @@ impl<'a> MoveGraph<'a> {
     /// Loads the atoms with their entry sets, no two equal, and room for `sets` sets in all, at least one more than
     /// atoms. When all places are taken and a move needs another, the smallest empty set, as a number, gives up its own.
     ///
+    /// Whole builds of some packages have more than 512 atoms or 256 entry bits, and are refused by row 1. Then fuse atoms that
+    /// are to lie in one chunk anyway, or load one layer of the script at a time (README.md, "Over the limits").
+    ///
     /// ```
     /// use nidskalm::{EntrySet, Load, MoveGraph, NONE};
     ///

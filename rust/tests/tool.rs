@@ -140,6 +140,17 @@ fn drawn_pictures_are_those_of_the_tool() {
     }
 }
 
+/// The file that README.md shows.
+#[test]
+fn the_file_of_the_readme_is_read() {
+    let readme = include_str!("../../README.md").lines().skip_while(|line| *line != "    entry 1 screen0.js");
+    let text: String = readme.take_while(|line| line.starts_with("    ")).map(|line| format!("{line}\n")).collect();
+    let sizes = "3 atoms (1 fixed), 3 modules, 2 entries, 6900 bytes, 3 dependencies";
+    let path = file("readme.txt", text);
+    assert_eq!(printed(&["check", &path]), format!("{sizes}\n3 chunks, 2 edges, acyclic\n"));
+    assert!(printed(&["plan", &path, "--moves"]).contains("\naccepted: atom 0 (shared.js) to {0}\n"));
+}
+
 const PAIR: &str =
     "entry - one\nentry - two\n\natom 7 {0}\n  needs 1\n# back again\natom 1500 {1}\nmodule b.js\nneeds 0*2\n";
 
