@@ -1,5 +1,6 @@
 #!/usr/bin/env bash
-# The archive of tools/pack.sh, as a server without `rt` gets it: its checksums hold and find a changed file, and the example is built from it alone.
+# The archive of tools/pack.sh, as a server without `rt` gets it: its checksums hold and find a changed file, and the example is built from
+# it alone.
 set -euo pipefail
 cd "$(dirname "$0")/.."
 expected="$PWD/tests/expected/plan.txt"
@@ -30,7 +31,8 @@ how="without pkg-config, which isn't here"
 if command -v pkg-config > "$work/where"; then
     export PKG_CONFIG_PATH="$root/lib/pkgconfig"
     flags="$(pkg-config --cflags --libs nidskalm)"
-    [ "$(pkg-config --variable=refusal nidskalm)" -ef "$root/include/nidskalm_refusal.c" ] || fail "pkg-config's way to the words of refusals"
+    words="$(pkg-config --variable=refusal nidskalm)"
+    [ "$words" -ef "$root/include/nidskalm_refusal.c" ] || fail "pkg-config's way to the words of refusals"
     header="$(sed -n 's/^#define NIDSKALM_VERSION_[A-Z]* //p' "$root/include/nidskalm.h" | paste -sd.)"
     [ "$(pkg-config --modversion nidskalm)" = "$header" ] || fail "pkg-config's version isn't the header's, $header"
     how="by pkg-config"

@@ -1,6 +1,6 @@
 #!/usr/bin/env bash
-# Packs what a server without `rt` needs into one archive: library, header, the words of refusals, pkg-config file, example, NOTICE and LICENSE,
-# with a SHA-256 of each file (SHA256SUMS) and one of the archive (beside it). The same files give the same archive, byte by byte.
+# Packs what a server without `rt` needs into one archive: library, header, the words of refusals, pkg-config file, example, NOTICE and
+# LICENSE, with a SHA-256 of each file (SHA256SUMS) and one of the archive (beside it). The same files give the same archive, byte by byte.
 #
 #     tools/pack.sh [DIRECTORY]        writes DIRECTORY/nidskalm-VERSION-x86_64.tar.gz and .sha256; DIRECTORY is target/pack if not said
 set -euo pipefail

@@ -101,11 +101,15 @@ static int load_chunks(uint32_t mode, uint32_t *area, size_t length) {
     const uint32_t module_starts[INITIAL + 1] = {0, 1, 2}, modules[INITIAL] = {0, 1}, effects[MODULES] = {0, 0, 0, 0};
     const uint32_t from[MODULES + 1] = {0, 1, 1, 1, 2}, to[2] = {1, 2};
     const uint64_t both = 3, second = 2;
-    return refused("load", nidskalm_chunk_optimization_graph_new(SIZE, INITIAL, mode, module_starts, INITIAL + 1, modules,
-                                                                 INITIAL, &both, 0, modules, 0, effects, MODULES, area, length)) ||
-           refused("module 2", nidskalm_chunk_optimization_graph_init_module_assignment(SIZE, area, length, 2, &both, 1, effects, MODULES)) ||
-           refused("module 3", nidskalm_chunk_optimization_graph_init_module_assignment(SIZE, area, length, 3, &second, 1, effects, MODULES)) ||
-           refused("dependencies", nidskalm_chunk_optimization_graph_calc_chunk_dependencies(SIZE, area, length, from, MODULES + 1, to, 2));
+    return refused("load", nidskalm_chunk_optimization_graph_new(
+                               SIZE, INITIAL, mode, module_starts, INITIAL + 1, modules, INITIAL, &both, 0, modules, 0,
+                               effects, MODULES, area, length)) ||
+           refused("module 2", nidskalm_chunk_optimization_graph_init_module_assignment(
+                                   SIZE, area, length, 2, &both, 1, effects, MODULES)) ||
+           refused("module 3", nidskalm_chunk_optimization_graph_init_module_assignment(
+                                   SIZE, area, length, 3, &second, 1, effects, MODULES)) ||
+           refused("dependencies", nidskalm_chunk_optimization_graph_calc_chunk_dependencies(
+                                       SIZE, area, length, from, MODULES + 1, to, 2));
 }
 
 /* Chunk 2 is proposed for chunk 0, and 3 for 1. In mode 0 the second warning doesn't see that 2 is now part of 0: both are
@@ -117,8 +121,9 @@ static int merges(uint32_t mode) {
     uint32_t *area = malloc(length * sizeof *area);
     if (area == NULL) return 1;
     int failed = load_chunks(mode, area, length) ||
-                 refused("pass", nidskalm_chunk_optimization_graph_pass(SIZE, area, length, proposals, CANDIDATES, bars, CANDIDATES,
-                                                                        kinds, CANDIDATES, numbers, CANDIDATES));
+                 refused("pass", nidskalm_chunk_optimization_graph_pass(
+                                     SIZE, area, length, proposals, CANDIDATES, bars, CANDIDATES, kinds, CANDIDATES,
+                                     numbers, CANDIDATES));
     for (uint32_t i = 0; !failed && i < CANDIDATES; i++) {
         printf("mode %" PRIu32 ": chunk %" PRIu32 " %s %" PRIu32 "\n", mode, INITIAL + i,
                kinds[i] == 0 ? "is merged into" : "is created with number", numbers[i]);

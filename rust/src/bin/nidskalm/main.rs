@@ -1,4 +1,5 @@
 //! `nidskalm`: looks at a load, plans a split of it, draws it. README.md has the form of its files.
+mod cycle;
 mod file;
 mod planning;
 mod report;
@@ -10,7 +11,7 @@ use std::io::{IsTerminal, Write};
 use std::process::ExitCode;
 
 const HELP: &str = "\
-nidskalm check FILE                         sizes, and whether chunks import each other in a circle
+nidskalm check FILE                         sizes; whether chunks import each other in a circle, and a shortest one
 nidskalm plan FILE [--moves] [--rejections] moves greedily; chunks and edges before and after
 nidskalm dot FILE [--after]                 a picture for Graphviz, before or after planning
 
@@ -18,7 +19,8 @@ plan moves each atom that is alone in its chunk into the chunk of a dependent, o
 entry that wants it, the first that is accepted, until nothing more is. --moves prints the accepted moves,
 --rejections the rejected ones.
 
-Whether a graph is cyclic, and whether a move is accepted, is the proved library's verdict.
+Whether a graph is cyclic, and whether a move is accepted, is the proved library's verdict. The circle that check
+names is looked for by this tool itself, among the edges that the library lists.
 FILE is plain text (README.md, \"A file for the tool\"). Exit status: 0; 1 where check finds a cycle; 2 for a bad
 file or bad words, with a line that says what is wrong.
 ";
@@ -89,7 +91,10 @@ fn load(source: &Source) -> Result<MoveGraph<'static>, Refusal> {
 
 fn check(source: &Source) -> Result<Answer, Refusal> {
     let graph = load(source)?;
-    let text = format!("{}\n{}\n", report::sizes(source), report::graph(&graph)?);
+    let mut text = format!("{}\n{}\n", report::sizes(source), report::graph(&graph)?);
+    if !graph.is_acyclic() {
+        text += &report::cycle(source, &graph)?;
+    }
     Ok(Answer(text, u8::from(!graph.is_acyclic())))
 }
 

@@ -1,4 +1,5 @@
 //! What the tool prints.
+use crate::cycle::shortest;
 use crate::file::{Entry, Source};
 use crate::planning::Tried;
 use nidskalm::{Chunk, MoveGraph, Refusal};
@@ -32,6 +33,18 @@ pub fn graph(graph: &MoveGraph) -> Result<String, Refusal> {
     let (chunks, edges) = (graph.chunks()?.len(), graph.edge_count()? as usize);
     let cycle = if graph.is_acyclic() { "acyclic" } else { "cyclic: some chunks import each other in a circle" };
     Ok(format!("{}, {}, {cycle}", count(chunks, "chunk"), count(edges, "edge")))
+}
+
+/// A shortest circle, a line for each chunk: its set and its first module.
+pub fn cycle(source: &Source, graph: &MoveGraph) -> Result<String, Refusal> {
+    let chunks = graph.chunks()?;
+    let name =
+        |set| chunks.iter().find(|chunk| chunk.set == set).map_or(String::new(), |chunk| source.name(chunk.atoms[0]));
+    let lines = shortest(graph.edges()?.as_slice()).into_iter().map(|set| format!("    {set} {}\n", name(set)));
+    Ok(format!(
+        "a shortest circle, each chunk importing the next and the last the first:\n{}",
+        lines.collect::<String>()
+    ))
 }
 
 /// One line for a move.
