@@ -1,7 +1,7 @@
 /* Plans a small split through the C interface. At the repository's root:
  *
  *     rt staticlib nidskalm
- *     cc -Iinclude examples/c/plan.c include/nidskalm_refusal.c -Ltarget/staticlib -lnidskalm -o plan && ./plan
+ *     cc -Iinclude examples/c/plan.c include/nidskalm_refusal.c -Ltarget/staticlib -lnidskalm -o target/plan && target/plan
  *
  * Every call is lent all that it reads. A program that makes many calls wraps them once, as here. */
 #include <inttypes.h>
