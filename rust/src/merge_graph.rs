@@ -1,6 +1,7 @@
 //! The merge graph with an area of its own.
 use crate::entry_set::flat;
 use crate::{lent, EntrySet, Refusal, NONE};
+use std::borrow::Cow;
 
 /// A chunk's number.
 #[derive(Clone, Copy, Debug, PartialEq, Eq, Hash, PartialOrd, Ord)]
@@ -96,16 +97,46 @@ pub enum Assignment {
 #[derive(Clone, Debug)]
 pub struct MergeGraph<'a> {
     size: Size,
-    side_effects: &'a [u32],
+    side_effects: Cow<'a, [u32]>,
     area: Vec<u32>,
+}
+
+impl MergeGraph<'static> {
+    /// Loads as [`new`](MergeGraph::new) does, and keeps the side effects: for a graph in a struct.
+    ///
+    /// ```
+    /// use nidskalm::{ChunkIdx, InitialChunks, MergeGraph, Mode, ModuleIdx, Refusal, Size};
+    ///
+    /// struct Service {
+    ///     chunks: MergeGraph<'static>,
+    /// }
+    ///
+    /// fn start(effects: Vec<u32>) -> Result<Service, Refusal> {
+    ///     let size = Size { chunks: 2, modules: 1, entries: 2, entry_bits: 1 };
+    ///     let initial = InitialChunks { module_starts: &[0, 1], modules: &[0], sets: &[], set_chunks: &[] };
+    ///     Ok(Service { chunks: MergeGraph::owning(size, initial, Mode::StandForTarget, effects)? })
+    /// }
+    ///
+    /// let mut service = start(vec![1])?;
+    /// service.chunks.add_module_to_chunk(ModuleIdx(0), ChunkIdx(0))?;
+    /// assert_eq!(start(vec![]).map(drop).unwrap_err().row(), 15);
+    /// # Ok::<(), Refusal>(())
+    /// ```
+    pub fn owning(size: Size, initial: InitialChunks, mode: Mode, side_effects: Vec<u32>) -> Result<Self, Refusal> {
+        Self::loaded(size, initial, mode, side_effects.into())
+    }
 }
 
 impl<'a> MergeGraph<'a> {
     /// Loads the initial chunks. `side_effects` has a number for each module, nonzero means yes.
     pub fn new(size: Size, initial: InitialChunks, mode: Mode, side_effects: &'a [u32]) -> Result<Self, Refusal> {
+        Self::loaded(size, initial, mode, side_effects.into())
+    }
+
+    fn loaded(size: Size, initial: InitialChunks, mode: Mode, side_effects: Cow<'a, [u32]>) -> Result<Self, Refusal> {
         let (list, whole) = flat(initial.sets, size.entry_bits.div_ceil(64).min(4) as usize);
         let mut area = vec![0; lent::merge_area_length(size).unwrap_or(0)];
-        let reply = lent::chunk_optimization_graph_new(size, &initial, mode, &list, side_effects, &mut area);
+        let reply = lent::chunk_optimization_graph_new(size, &initial, mode, &list, &side_effects, &mut area);
         // Without entry bits the list is empty for any number of sets; and a bit may have been cut off.
         let row = Refusal::first(reply.refusal, initial.sets.len() != initial.set_chunks.len(), 15);
         let row = Refusal::first(row, !whole, 16);
@@ -120,14 +151,14 @@ impl<'a> MergeGraph<'a> {
             &mut self.area,
             module.0,
             bits,
-            self.side_effects,
+            &self.side_effects,
         );
         Refusal::check(reply.refusal, ())
     }
 
     /// Appends a module to a chunk.
     pub fn add_module_to_chunk(&mut self, module: ModuleIdx, chunk: ChunkIdx) -> Result<(), Refusal> {
-        let (size, area, effects) = (self.size, &mut self.area, self.side_effects);
+        let (size, area, effects) = (self.size, &mut self.area, &self.side_effects);
         let reply = lent::chunk_optimization_graph_add_module_to_chunk(size, area, module.0, chunk.0, effects);
         Refusal::check(reply.refusal, ())
     }

@@ -1,5 +1,8 @@
 //! Graphs that own their load, sets of entry bits, chunks, edges and pictures.
-use nidskalm::{Chunk, Edge, EntrySet, Load, MoveGraph, OwnedLoad, Refusal, NONE};
+use nidskalm::{
+    Chunk, ChunkIdx, Edge, EntrySet, InitialChunks, Load, MergeGraph, Mode, ModuleIdx, MoveGraph, OwnedLoad, Refusal,
+    Size, NONE,
+};
 use std::collections::BTreeSet;
 
 fn set(bits: u64) -> EntrySet {
@@ -47,6 +50,24 @@ fn a_service_keeps_its_graph() {
     let before = service.plan.clone();
     assert_eq!(service.plan.try_move(0, set(2)), Ok(true));
     assert_eq!(before.atom_set(0), Ok(set(1)));
+}
+
+/// A merge graph that owns its side effects answers as one that borrows them.
+#[test]
+fn merge_graphs_that_own_their_side_effects() {
+    let size = Size { chunks: 3, modules: 3, entries: 4, entry_bits: 2 };
+    let initial = InitialChunks { module_starts: &[0, 1, 2], modules: &[0, 1], sets: &[], set_chunks: &[] };
+    let effects = [0, 7, 1];
+    let borrowed = MergeGraph::new(size, initial, Mode::Original, &effects).unwrap();
+    let owned: MergeGraph<'static> = MergeGraph::owning(size, initial, Mode::Original, effects.to_vec()).unwrap();
+    for mut graph in [borrowed, owned] {
+        assert_eq!(graph.init_module_assignment(ModuleIdx(2), set(3)), Ok(()));
+        assert_eq!(graph.add_module_to_chunk(ModuleIdx(2), ChunkIdx(0)), Ok(()));
+        assert_eq!(row(graph.add_module_to_chunk(ModuleIdx(2), ChunkIdx(1))), 19);
+        assert_eq!(graph.pass(&[None], &[false]).map(|decided| decided.len()), Ok(1));
+    }
+    assert_eq!(row(MergeGraph::owning(size, initial, Mode::Original, vec![0; 2])), 15);
+    assert_eq!(row(MergeGraph::owning(Size { chunks: 0, ..size }, initial, Mode::Original, vec![0; 3])), 14);
 }
 
 #[test]
