@@ -235,10 +235,16 @@ fn bad_files_are_told_line_and_fault() {
             "often",
             (
                 "entry - a\natom 1 {}\nneeds 1*8193\natom 1 {0}".into(),
-                ":3: more than 8192 dependencies, the library's limit\n",
+                ":3: more than 8192 dependencies, the library's limit (README.md, \"Over the limits\")\n",
             ),
         ),
-        ("entries", (many("entry - a", 257), ":257: more than 256 entries, the library's limit\n")),
+        (
+            "entries",
+            (
+                many("entry - a", 257),
+                ":257: more than 256 entries, the library's limit (README.md, \"Over the limits\")\n",
+            ),
+        ),
     ]
     .into();
     for (name, (text, expected)) in cases {
@@ -247,7 +253,10 @@ fn bad_files_are_told_line_and_fault() {
     // Atoms with the bits of 0 to 512 as sets.
     let atom = |number: u64| format!("atom 1 {}\n", nidskalm::EntrySet::from(number));
     let text = many("entry - a", 10) + &(0..513).map(atom).collect::<String>();
-    assert_eq!(complaint("bad-atoms.txt", text), ":523: more than 512 atoms, the library's limit\n");
+    assert_eq!(
+        complaint("bad-atoms.txt", text),
+        ":523: more than 512 atoms, the library's limit (README.md, \"Over the limits\")\n"
+    );
     assert_eq!(complaint("bad-bytes.txt", b"# fine\nentry - \xff\n"), ":2: not UTF-8 text\n");
 }
 

@@ -7,6 +7,11 @@ const ATOMS: usize = 512;
 const DEPENDENCIES: usize = 8192;
 const ENTRIES: usize = 256;
 
+/// What is said of a file that is over one.
+fn over(limit: usize, things: &str) -> String {
+    format!("more than {limit} {things}, the library's limit (README.md, \"Over the limits\")")
+}
+
 /// What is wrong with a file, and in which line, from 1.
 pub struct Fault {
     pub line: usize,
@@ -115,7 +120,7 @@ impl Reader {
             return Err("an entry needs a host, or -, and a name".into());
         }
         if self.source.entries.len() == ENTRIES {
-            return Err(format!("more than {ENTRIES} entries, the library's limit"));
+            return Err(over(ENTRIES, "entries"));
         }
         let host = if host == "-" { None } else { Some(self.atom_number("the host", host)?) };
         self.source.entries.push(Entry { host, name: name.into() });
@@ -139,7 +144,7 @@ impl Reader {
             return Err(format!("the atom of line {before} has the same set, {set}"));
         }
         if self.source.atoms.len() == ATOMS {
-            return Err(format!("more than {ATOMS} atoms, the library's limit"));
+            return Err(over(ATOMS, "atoms"));
         }
         self.source.atoms.push(Atom { bytes, set, fixed, modules: vec![], needs: vec![] });
         Ok(())
@@ -177,7 +182,7 @@ impl Reader {
         }
         self.dependencies = self.dependencies.saturating_add(times);
         if self.dependencies > DEPENDENCIES {
-            return Err(format!("more than {DEPENDENCIES} dependencies, the library's limit"));
+            return Err(over(DEPENDENCIES, "dependencies"));
         }
         self.last()?.needs.extend(std::iter::repeat_n(atom, times));
         Ok(())
