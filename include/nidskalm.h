@@ -69,7 +69,8 @@ extern "C" {
 #define NIDSKALM_VERSION_MINOR 2
 #define NIDSKALM_VERSION_PATCH 0
 
-/* Bytes of stack that a call needs at most: what the calls at the limits were measured to use, rounded up. */
+/* Bytes of stack that a call needs at most: what the calls at the limits were measured to use, rounded up. On a thread with
+ * less, as one of 256 KiB, a call on a large load crashes. */
 #define NIDSKALM_STACK 393216
 
 /* No host, no proposal, no chunk. */
