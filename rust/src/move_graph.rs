@@ -100,7 +100,8 @@ impl MoveGraph<'static> {
     /// }
     ///
     /// let mut service = start()?;
-    /// assert!(service.plan.try_move(0, EntrySet::from(1))?);
+    /// service.plan.try_move(0, EntrySet::from(1))?;
+    /// assert_eq!(service.plan.atom_set(0)?, EntrySet::from(1));
     /// # Ok::<(), Refusal>(())
     /// ```
     pub fn owning(load: OwnedLoad, sets: u64, entry_sets: &[EntrySet]) -> Result<Self, Refusal> {

@@ -20,6 +20,11 @@ fn owned() -> MoveGraph<'static> {
     MoveGraph::owning(lists(), 8, &SETS.map(set)).unwrap()
 }
 
+/// Whether a move is accepted.
+fn moved(graph: &mut MoveGraph, atom: u32, target: u64) -> Result<bool, Refusal> {
+    graph.try_move(atom, set(target))
+}
+
 fn row<T: std::fmt::Debug>(result: Result<T, Refusal>) -> u64 {
     result.unwrap_err().row()
 }
@@ -32,7 +37,7 @@ fn an_owned_load_is_the_borrowed_one() {
     let mut borrowed = MoveGraph::new(load, 8, &SETS.map(set)).unwrap();
     let mut owned = owned();
     for (atom, target) in [(0, 1), (1, 3), (1, 2), (0, 3), (2, 0), (5, 1), (2, 4)] {
-        assert_eq!(owned.try_move(atom, set(target)), borrowed.try_move(atom, set(target)), "atom {atom} to {target}");
+        assert_eq!(moved(&mut owned, atom, target), moved(&mut borrowed, atom, target), "atom {atom} to {target}");
         assert_eq!(owned.edges().unwrap().as_slice(), borrowed.edges().unwrap().as_slice());
         assert_eq!(owned.is_acyclic(), borrowed.is_acyclic());
     }
@@ -45,10 +50,10 @@ fn a_service_keeps_its_graph() {
         plan: MoveGraph<'static>,
     }
     let mut service = std::thread::spawn(|| Service { plan: owned() }).join().unwrap();
-    assert_eq!(service.plan.try_move(0, set(1)), Ok(true));
+    assert_eq!(moved(&mut service.plan, 0, 1), Ok(true));
     assert_eq!(service.plan.load().atoms(), 3);
     let before = service.plan.clone();
-    assert_eq!(service.plan.try_move(0, set(2)), Ok(true));
+    assert_eq!(moved(&mut service.plan, 0, 2), Ok(true));
     assert_eq!(before.atom_set(0), Ok(set(1)));
 }
 
@@ -94,7 +99,7 @@ fn marks_of_owned_loads() {
     let load = |marks: &[bool]| MoveGraph::owning(lists().with_fixed(marks.iter().copied()), 8, &SETS.map(set));
     let mut graph = load(&[true, false, false]).unwrap();
     assert_eq!(row(graph.try_move(0, set(1))), 24);
-    assert_eq!(graph.try_move(1, set(2)), Ok(true));
+    assert_eq!(moved(&mut graph, 1, 2), Ok(true));
     assert_eq!(row(load(&[true, false])), 2);
     assert_eq!(row(load(&[false; 4])), 2);
 }
@@ -104,12 +109,12 @@ fn acyclic_by_loading_and_moves() {
     let load = OwnedLoad::from_lists([vec![1], vec![0], vec![]], [None, None, None]);
     let mut graph = MoveGraph::owning(load, 8, &[set(1), set(2), set(4)]).unwrap();
     assert!(!graph.is_acyclic());
-    assert_eq!(graph.try_move(2, set(1)), Ok(false), "outside the component");
+    assert_eq!(moved(&mut graph, 2, 1), Ok(false), "outside the component");
     assert_eq!(row(graph.try_move(2, set(4))), 12);
     assert!(!graph.is_acyclic());
-    assert_eq!(graph.try_move(0, set(2)), Ok(true));
+    assert_eq!(moved(&mut graph, 0, 2), Ok(true));
     assert!(graph.is_acyclic() && graph.cyclic_at_loading());
-    assert_eq!(graph.try_move(0, set(4)), Ok(false));
+    assert_eq!(moved(&mut graph, 0, 4), Ok(false));
     assert!(graph.is_acyclic());
 }
 
@@ -120,7 +125,7 @@ fn chunks_are_the_occupied_sets() {
         graph.chunks().unwrap().into_iter().map(|Chunk { set, atoms }| (set, atoms)).collect()
     };
     assert_eq!(atoms(&graph), [(set(1), vec![1]), (set(2), vec![2]), (set(3), vec![0])]);
-    assert_eq!(graph.try_move(1, set(2)), Ok(true));
+    assert_eq!(moved(&mut graph, 1, 2), Ok(true));
     assert_eq!(atoms(&graph), [(set(2), vec![1, 2]), (set(3), vec![0])]);
     for chunk in graph.chunks().unwrap() {
         assert_eq!(graph.atom_count(chunk.set), Ok(chunk.atoms.len() as u64));
