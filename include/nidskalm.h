@@ -8,7 +8,12 @@
  * target (a mode chosen by nidskalm_chunk_optimization_graph_new), where a direct dependency alone doesn't warn. The choice of a
  * merge target reads lent lists alone.
  *
- * The library is one archive, libnidskalm.a, which needs nothing but memcpy and memset: link with -lnidskalm.
+ * The library is one archive, libnidskalm.a, which needs nothing but memcpy and memset:
+ *
+ *     cc -Iinclude examples/c/plan.c include/nidskalm_refusal.c -Ltarget/staticlib -lnidskalm -o plan
+ *
+ * or, from the archive that tools/pack.sh makes, with the flags of `pkg-config --cflags --libs nidskalm`. examples/c/plan.c
+ * is a worked example. A call runs on the caller's stack: give a thread at least NIDSKALM_STACK bytes and its own needs.
  *
  * All state lies in a work area of 32-bit numbers that the caller lends. Between calls nobody else may write there.
  * Every list is a pointer and the count of its items. A pointer must be valid for that many items (any pointer for 0);
@@ -63,10 +68,11 @@ extern "C" {
 
 /* The library's version. */
 #define NIDSKALM_VERSION_MAJOR 0
-#define NIDSKALM_VERSION_MINOR 1
+#define NIDSKALM_VERSION_MINOR 2
 #define NIDSKALM_VERSION_PATCH 0
 
-/* Bytes of stack that a call needs at most: what the calls at the limits were measured to use, rounded up. */
+/* Bytes of stack that a call needs at most: what the calls at the limits were measured to use, rounded up. On a thread with
+ * less, as one of 256 KiB, a call on a large load crashes. */
 #define NIDSKALM_STACK 393216
 
 /* No host, no proposal, no chunk. */
@@ -79,6 +85,10 @@ extern "C" {
 #define NIDSKALM_MERGE_AREA(c, m, l) \
     ((uint64_t)(c) * (uint64_t)(c) + \
      UINT64_C(32) * ((uint64_t)(c) + (uint64_t)(m) + (uint64_t)(l) + UINT64_C(1)))
+
+/* A refusal's row in words; "not refused" for 0. It is not in the library: compile nidskalm_refusal.c, beside this header,
+ * with your program. The string is static. */
+const char *nidskalm_refusal(uint64_t row);
 
 typedef struct {
     uint64_t refusal, value;
@@ -108,6 +118,9 @@ typedef struct {
  * atom that hosts an entry bit, or NIDSKALM_NONE; `fixed` (A): a mark for each atom, nonzero where it is fixed: it
  * stays in its entry set. The area has at least NIDSKALM_MOVE_AREA(a, d, e, n) numbers. N is at least A + 1: when N sets
  * are registered and another is needed, the smallest empty one, as a number, gives up its place.
+ *
+ * Whole builds of some packages have more than 512 atoms or 256 entries, and are refused by row 1. A caller then fuses
+ * atoms that are to lie in one chunk anyway, or loads one layer at a time (README.md, "Over the limits").
  */
 
 /* Loads: `sets` holds the A entry sets, w numbers each, no two equal. Value 0 acyclic, 1 cyclic. */
@@ -284,8 +297,10 @@ nidskalm_reply nidskalm_chunk_optimization_graph_is_reachable(
     const uint32_t *area, size_t area_length,
     uint32_t from, uint32_t to);
 
-/* Gives target the dependencies of source, which loses them, whatever the warning would say. Where merged chunks stand
- * for their target (see nidskalm_chunk_optimization_graph_new for when to choose this), the merge is recorded. */
+/* Gives target the dependencies of source, which loses them, whatever the warning would say: ask it first. Which mode, at
+ * loading: where the script writer resolves an import of a merged chunk to its target, the nonzero one, in which the merge
+ * is recorded and later warnings see through it. With mode 0 they don't, and two merges that nobody was warned of can leave
+ * chunks that import each other: 0 on 1, 3 on 2; merge 2 into 0, then 3 into 1. */
 nidskalm_reply nidskalm_chunk_optimization_graph_merge_chunk_dependencies(
     uint64_t c, uint64_t m, uint64_t l, uint64_t e,
     uint32_t *area, size_t area_length,
@@ -294,9 +309,10 @@ nidskalm_reply nidskalm_chunk_optimization_graph_merge_chunk_dependencies(
 /* The pass over the chunks needing creation, in rising order. All four lists have one item for each: a proposed initial
  * chunk or NIDSKALM_NONE, a bar (nonzero bars merging), and the answers: kind 0 merged into chunk `number`, kind 1
  * created and registered under `number`. A chunk is merged into the proposed one if there is no bar and no warning, and
- * else created. Value: how many chunks needed creation. Where merged chunks stand for their target, a chunk that was
- * merged away is none of these, and warnings see through it: choose this mode, at loading, where imports of a merged
- * chunk are resolved to its target. */
+ * else created. Value: how many chunks needed creation. Which mode, at loading: where imports of a merged chunk are
+ * resolved to its target, the nonzero one. There a chunk that was merged away is no candidate, and warnings see through
+ * it. With mode 0 a pass can leave chunks that import each other although no merge was warned of (the loop at
+ * nidskalm_chunk_optimization_graph_new). */
 nidskalm_reply nidskalm_chunk_optimization_graph_pass(
     uint64_t c, uint64_t m, uint64_t l, uint64_t e,
     uint32_t *area, size_t area_length,

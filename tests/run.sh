@@ -10,10 +10,13 @@ part() { # WHAT COMMAND..
 }
 
 part "the programs and the static library are built" bash tests/build.sh
+part "the first look" bash tests/try.sh
 part "the program's recorded output is the model's" python3 tests/moves_model.py --check
 part "an input of several blocks through the program" python3 tests/moves_model.py --large target/bin/moves
 part "what the program chain writes is the model's" python3 tests/chain_model.py --check
 part "every number and many other inputs through the program chain, and what it writes through moves" python3 tests/chain_model.py --run target/bin/chain target/bin/moves
 part "C programs over the library" bash tests/drivers.sh
-part "the Rust crate over the library" cargo test --manifest-path rust/Cargo.toml --offline -j1 --quiet
+part "scripts" bash tests/tools.sh
+part "the archive for servers" bash tests/pack.sh
+part "the Rust crate over the library" bash tests/rust.sh
 part "the original, the model and the library" env NIDSKALM_LIB_DIR=target/staticlib bash tests/oracle/run.sh

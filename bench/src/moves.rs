@@ -2,6 +2,7 @@
 use oracle::library::Library;
 use oracle::moves_made_up::{Shape, random_load};
 use oracle::moves_model::{Graph, Load};
+use oracle::moves_real;
 use oracle::moves_views::original_lists;
 use oracle::original::OriginalMoves;
 use oracle::run::Random;
@@ -23,18 +24,22 @@ struct Input {
     accepted: u64,
 }
 
-/// An acyclic load without fixed atoms, and moves that answer alike for both.
-fn input(a: u64, d: u64, e: u64, n: u64) -> Input {
-    let mut random = Random(a * 31 + d);
-    let (load, sets) = loop {
-        let (mut load, sets) = random_load(&mut random, Shape { a, d, e, n, calls: 0 });
+/// An acyclic load without fixed atoms.
+fn made_up(random: &mut Random, a: u64, d: u64, e: u64, n: u64) -> (Load, Vec<Set>) {
+    loop {
+        let (mut load, sets) = random_load(random, Shape { a, d, e, n, calls: 0 });
         load.fixed.fill(0);
         if !Graph::new(&load, &sets).cyclic()
             && sets.iter().enumerate().all(|(place, set)| !sets[..place].contains(set))
         {
-            break (load, sets);
+            return (load, sets);
         }
-    };
+    }
+}
+
+/// Moves on a load that answer alike for both.
+fn input(mut random: Random, load: Load, sets: Vec<Set>) -> Input {
+    let (a, e, n) = (load.a, load.e, load.n);
     let flat: Vec<u64> = sets.iter().flat_map(|&set| words(set, e)).collect();
     let lists = original_lists(&load, &flat);
     let mut original = OriginalMoves::new(&lists);
@@ -119,40 +124,52 @@ fn library_times(library: &dyn Library, input: &Input) -> Vec<(&'static str, f64
     ]
 }
 
+/// The rows of one load.
+fn rows(library: Option<&dyn Library>, random: Random, load: Load, sets: Vec<Set>) {
+    let (a, d, e, n) = (load.a, load.d, load.e, load.n);
+    let input = input(random, load, sets);
+    let lists = original_lists(&input.load, &input.flat);
+    let new = best(20, || (), |(), _| drop(std::hint::black_box(OriginalMoves::new(&lists))));
+    let targets: Vec<(u32, BitSet)> =
+        input.moves.iter().map(|(atom, bits)| (*atom, BitSet::from_words(bits))).collect();
+    let moves = best(
+        MOVES,
+        || OriginalMoves::new(&lists),
+        |graph, k| {
+            std::hint::black_box(graph.try_move(targets[k].0, &targets[k].1));
+        },
+    );
+    let ours = library.map_or(vec![("new", 0.0), ("try_move", 0.0)], |library| library_times(library, &input));
+    for (call, ours) in ours {
+        let original = match call {
+            "new" => Some(new),
+            "try_move" => Some(moves),
+            _ => None,
+        };
+        let shown = original.map_or("–".into(), time);
+        let (own, against, against_new) = if library.is_some() {
+            (time(ours), original.map_or("–".into(), |original| ratio(ours, original)), ratio(ours, new))
+        } else {
+            ("–".into(), "–".into(), "–".into())
+        };
+        println!("| {a} | {d} | {e} | {n} | `{call}` | {shown} | {own} | {against} | {against_new} |");
+    }
+}
+
 pub fn table(library: Option<&dyn Library>) {
     println!("## Move graph\n");
     println!("| A | D | E | N | call | original | ours | ours / original | ours / original's `new` |");
     println!("|---|---|---|---|---|---|---|---|---|");
     for (a, d, e) in [(48, 96, 16), (48, 768, 16), (128, 512, 32), (512, 1024, 64), (512, 8192, 64)] {
         for n in [2 * a, a + 1] {
-            let input = input(a, d, e, n);
-            let lists = original_lists(&input.load, &input.flat);
-            let new = best(20, || (), |(), _| drop(std::hint::black_box(OriginalMoves::new(&lists))));
-            let targets: Vec<(u32, BitSet)> =
-                input.moves.iter().map(|(atom, bits)| (*atom, BitSet::from_words(bits))).collect();
-            let moves = best(
-                MOVES,
-                || OriginalMoves::new(&lists),
-                |graph, k| {
-                    std::hint::black_box(graph.try_move(targets[k].0, &targets[k].1));
-                },
-            );
-            let ours = library.map_or(vec![("new", 0.0), ("try_move", 0.0)], |library| library_times(library, &input));
-            for (call, ours) in ours {
-                let original = match call {
-                    "new" => Some(new),
-                    "try_move" => Some(moves),
-                    _ => None,
-                };
-                let shown = original.map_or("–".into(), time);
-                let (own, against, against_new) = if library.is_some() {
-                    (time(ours), original.map_or("–".into(), |original| ratio(ours, original)), ratio(ours, new))
-                } else {
-                    ("–".into(), "–".into(), "–".into())
-                };
-                println!("| {a} | {d} | {e} | {n} | `{call}` | {shown} | {own} | {against} | {against_new} |");
-            }
+            let mut random = Random(a * 31 + d);
+            let (load, sets) = made_up(&mut random, a, d, e, n);
+            rows(library, random, load, sets);
         }
+    }
+    // Real script: the loads of examples/loads, at N = A + 1.
+    for (load, sets) in moves_real::loads() {
+        rows(library, Random(load.a), load, sets);
     }
     println!();
 }

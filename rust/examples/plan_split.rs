@@ -1,49 +1,58 @@
-//! Plans a small split: folds shared code into entries where that is safe, then decides about the rest.
+//! Plans a small split, as examples/c/plan.c does, and prints the same lines.
 use nidskalm::{
-    Assignment, ChunkIdx, EntrySet, InitialChunks, Load, MergeGraph, Mode, ModuleIdx, MoveGraph, Refusal, Size,
+    Assignment, ChunkIdx, EntrySet, InitialChunks, MergeGraph, Mode, ModuleIdx, MoveGraph, OwnedLoad, Refusal, Size,
 };
 
-fn bits(set: EntrySet) -> String {
-    let bits: Vec<String> = set.bits().map(|bit| bit.to_string()).collect();
-    format!("{{{}}}", bits.join(", "))
-}
+const NAMES: [&str; 3] = ["shared.js", "screen0.js", "screen1.js"];
 
-fn main() -> Result<(), Refusal> {
-    // Atom 0 is code shared by the entries 0 and 1, which atoms 1 and 2 hold; both need it.
-    let load = Load { starts: &[0, 0, 1, 2], dependencies: &[0, 0], hosts: &[1, 2], fixed: &[0, 0, 0] };
-    let sets = [EntrySet::from(3), EntrySet::from(1), EntrySet::from(2)];
-    let mut moves = MoveGraph::new(load, 8, &sets)?;
-    println!("loaded, {}", if moves.cyclic_at_loading() { "cyclic" } else { "acyclic" });
-    for (atom, target) in [(0, EntrySet::from(1)), (1, EntrySet::from(3)), (1, EntrySet::from(1))] {
-        match moves.try_move(atom, target) {
-            Ok(moved) if moved.accepted => println!("atom {atom} to {}: accepted", bits(target)),
-            Ok(_) => println!("atom {atom} to {}: rejected, it would close a cycle", bits(target)),
-            Err(refusal) => println!("atom {atom} to {}: {refusal}", bits(target)),
+/// Three atoms and two screens, entry bits 0 and 1: both want shared.js, and screen1.js is certified, so it stays.
+fn moves() -> Result<(), Refusal> {
+    let load = OwnedLoad::from_lists([vec![], vec![0], vec![0]], [Some(1), Some(2)]).with_fixed([false, false, true]);
+    let wanted_by = [EntrySet::from_bits([0, 1]), EntrySet::from_bits([0]), EntrySet::from_bits([1])];
+    let mut graph = MoveGraph::owning(load, 8, &wanted_by)?;
+    println!("load: {}", if graph.is_acyclic() { "acyclic" } else { "cyclic" });
+    let (first, both) = (EntrySet::from_bits([0]), EntrySet::from_bits([0, 1]));
+    for (atom, target) in [(0, first), (1, both), (2, first), (3, first)] {
+        let name = NAMES.get(atom as usize).unwrap_or(&"no atom");
+        match graph.try_move(atom, target) {
+            Ok(moved) if moved.accepted => println!("{name} to {target}: accepted"),
+            Ok(_) => println!("{name} to {target}: rejected, two chunks would import each other"),
+            Err(refusal) => println!("{name} to {target}: {refusal}"),
         }
     }
-    for edge in moves.edges()? {
-        println!("chunk {} depends on {}, {} times", bits(edge.from), bits(edge.to), edge.multiplicity);
+    for edge in graph.edges()? {
+        println!("chunk {} imports {}, times: {}", edge.from, edge.to, edge.multiplicity);
     }
+    Ok(())
+}
 
-    // Two entry chunks hold modules 0 and 1. Both entries share module 2, and module 3 is for entry 1 alone: their sets
-    // name no chunk yet, so they get chunks 2 and 3, which need creation. Module 0 needs 2, 1 needs 3, and 3 needs 0.
+/// Chunks 0 and 1 hold modules 0 and 1. Modules 2 and 3 have sets of their own, so they get chunks 2 and 3, which need
+/// creation. Module 0 depends on 1, and 3 on 2. Chunk 2 is proposed for chunk 0, and 3 for 1.
+///
+/// In [`Mode::Original`] the second warning doesn't see that 2 is now part of 0: both are merged, and chunks 0 and 1 import
+/// each other. Where merged chunks stand for their target it does.
+fn merges(mode: Mode) -> Result<(), Refusal> {
     let size = Size { chunks: 8, modules: 4, entries: 16, entry_bits: 2 };
     let initial = InitialChunks { module_starts: &[0, 1, 2], modules: &[0, 1], sets: &[], set_chunks: &[] };
-    let mut merges = MergeGraph::new(size, initial, Mode::Original, &[0; 4])?;
-    merges.init_module_assignment(ModuleIdx(2), EntrySet::from(3))?;
-    merges.init_module_assignment(ModuleIdx(3), EntrySet::from(2))?;
-    merges.calc_chunk_dependencies(&[0, 1, 2, 2, 3], &[2, 3, 0])?;
-    // Chunk 0 is proposed for both. Chunk 3 depends on it directly, so the warning keeps it apart.
-    let decided = merges.pass(&[Some(ChunkIdx(0)), Some(ChunkIdx(0))], &[false, false])?;
+    let mut graph = MergeGraph::new(size, initial, mode, &[0; 4])?;
+    graph.init_module_assignment(ModuleIdx(2), EntrySet::from_bits([0, 1]))?;
+    graph.init_module_assignment(ModuleIdx(3), EntrySet::from_bits([1]))?;
+    graph.calc_chunk_dependencies(&[0, 1, 1, 1, 2], &[1, 2])?;
+    let decided = graph.pass(&[Some(ChunkIdx(0)), Some(ChunkIdx(1))], &[false, false])?;
     for (chunk, assignment) in (2..).zip(decided) {
+        let mode = mode as u32;
         match assignment {
-            Assignment::Merged(ChunkIdx(into)) => {
-                println!("chunk {chunk}: merged into chunk {into}")
-            }
+            Assignment::Merged(ChunkIdx(into)) => println!("mode {mode}: chunk {chunk} is merged into {into}"),
             Assignment::Created(ChunkIdx(number)) => {
-                println!("chunk {chunk}: created, registered under number {number}")
+                println!("mode {mode}: chunk {chunk} is created with number {number}")
             }
         }
     }
     Ok(())
+}
+
+fn main() -> Result<(), Refusal> {
+    moves()?;
+    merges(Mode::Original)?;
+    merges(Mode::StandForTarget)
 }

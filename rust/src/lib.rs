@@ -12,7 +12,8 @@
 //! [`Entries`] chooses the chunk that such a chunk may be merged into.
 //!
 //! No call on a graph panics on odd numbers: it answers, or gives a [`Refusal`] and has changed nothing. Both types own
-//! their work area; [`lent`] has the same calls on areas that you lend, and [`raw`] the C interface.
+//! their work area, and borrow or own ([`MoveGraph::owning`], [`MergeGraph::owning`]) what is lent to every call; [`lent`] has
+//! the same calls on areas that you lend, and [`raw`] the C interface.
 //!
 //! ```
 //! use nidskalm::{EntrySet, Load, MoveGraph, NONE};
@@ -29,18 +30,21 @@
 //! ```
 #![warn(missing_docs)]
 
+mod dot;
 mod entries;
 mod entry_set;
 pub mod lent;
+mod load;
 mod merge_graph;
 mod move_graph;
 pub mod raw;
 mod refusal;
 
 pub use entries::Entries;
-pub use entry_set::EntrySet;
+pub use entry_set::{Bits, EntrySet};
+pub use load::{Load, OwnedLoad};
 pub use merge_graph::{Assignment, ChunkIdx, InitialChunks, MergeGraph, Mode, ModuleIdx, Size};
-pub use move_graph::{Edge, Load, MoveGraph, Moved};
+pub use move_graph::{Chunk, Edge, Edges, MoveGraph, Moved};
 pub use refusal::Refusal;
 
 /// No host for an entry bit.

@@ -1,6 +1,7 @@
 //! The merge graph with an area of its own.
 use crate::entry_set::flat;
 use crate::{lent, EntrySet, Refusal, NONE};
+use std::borrow::Cow;
 
 /// A chunk's number.
 #[derive(Clone, Copy, Debug, PartialEq, Eq, Hash, PartialOrd, Ord)]
@@ -96,16 +97,46 @@ pub enum Assignment {
 #[derive(Clone, Debug)]
 pub struct MergeGraph<'a> {
     size: Size,
-    side_effects: &'a [u32],
+    side_effects: Cow<'a, [u32]>,
     area: Vec<u32>,
+}
+
+impl MergeGraph<'static> {
+    /// Loads as [`new`](MergeGraph::new) does, and keeps the side effects: for a graph in a struct.
+    ///
+    /// ```
+    /// use nidskalm::{ChunkIdx, InitialChunks, MergeGraph, Mode, ModuleIdx, Refusal, Size};
+    ///
+    /// struct Service {
+    ///     chunks: MergeGraph<'static>,
+    /// }
+    ///
+    /// fn start(effects: Vec<u32>) -> Result<Service, Refusal> {
+    ///     let size = Size { chunks: 2, modules: 1, entries: 2, entry_bits: 1 };
+    ///     let initial = InitialChunks { module_starts: &[0, 1], modules: &[0], sets: &[], set_chunks: &[] };
+    ///     Ok(Service { chunks: MergeGraph::owning(size, initial, Mode::StandForTarget, effects)? })
+    /// }
+    ///
+    /// let mut service = start(vec![1])?;
+    /// service.chunks.add_module_to_chunk(ModuleIdx(0), ChunkIdx(0))?;
+    /// assert_eq!(start(vec![]).map(drop).unwrap_err().row(), 15);
+    /// # Ok::<(), Refusal>(())
+    /// ```
+    pub fn owning(size: Size, initial: InitialChunks, mode: Mode, side_effects: Vec<u32>) -> Result<Self, Refusal> {
+        Self::loaded(size, initial, mode, side_effects.into())
+    }
 }
 
 impl<'a> MergeGraph<'a> {
     /// Loads the initial chunks. `side_effects` has a number for each module, nonzero means yes.
     pub fn new(size: Size, initial: InitialChunks, mode: Mode, side_effects: &'a [u32]) -> Result<Self, Refusal> {
+        Self::loaded(size, initial, mode, side_effects.into())
+    }
+
+    fn loaded(size: Size, initial: InitialChunks, mode: Mode, side_effects: Cow<'a, [u32]>) -> Result<Self, Refusal> {
         let (list, whole) = flat(initial.sets, size.entry_bits.div_ceil(64).min(4) as usize);
         let mut area = vec![0; lent::merge_area_length(size).unwrap_or(0)];
-        let reply = lent::chunk_optimization_graph_new(size, &initial, mode, &list, side_effects, &mut area);
+        let reply = lent::chunk_optimization_graph_new(size, &initial, mode, &list, &side_effects, &mut area);
         // Without entry bits the list is empty for any number of sets; and a bit may have been cut off.
         let row = Refusal::first(reply.refusal, initial.sets.len() != initial.set_chunks.len(), 15);
         let row = Refusal::first(row, !whole, 16);
@@ -120,14 +151,14 @@ impl<'a> MergeGraph<'a> {
             &mut self.area,
             module.0,
             bits,
-            self.side_effects,
+            &self.side_effects,
         );
         Refusal::check(reply.refusal, ())
     }
 
     /// Appends a module to a chunk.
     pub fn add_module_to_chunk(&mut self, module: ModuleIdx, chunk: ChunkIdx) -> Result<(), Refusal> {
-        let (size, area, effects) = (self.size, &mut self.area, self.side_effects);
+        let (size, area, effects) = (self.size, &mut self.area, &self.side_effects);
         let reply = lent::chunk_optimization_graph_add_module_to_chunk(size, area, module.0, chunk.0, effects);
         Refusal::check(reply.refusal, ())
     }
@@ -173,9 +204,12 @@ impl<'a> MergeGraph<'a> {
         Refusal::check(reply.refusal, reply.value == 1)
     }
 
-    /// Gives target the dependencies of source, which loses them, whatever the warning would say. In
-    /// [`Mode::StandForTarget`], the one to choose where imports of a merged chunk are resolved to its target, the merge
-    /// is recorded, and neither may have been merged away (28).
+    /// Gives target the dependencies of source, which loses them, whatever the warning would say: ask
+    /// [`would_create_circular_dependency`](Self::would_create_circular_dependency) first.
+    ///
+    /// Choose [`Mode::StandForTarget`] where imports of a merged chunk are resolved to its target: there the merge is recorded,
+    /// later warnings see through it, and neither chunk may have been merged away (28). In [`Mode::Original`] two merges that
+    /// nobody was warned of can leave chunks that import each other ([`MergeGraph`] has the smallest such pair).
     pub fn merge_chunk_dependencies(&mut self, target: ChunkIdx, source: ChunkIdx) -> Result<(), Refusal> {
         let (size, area) = (self.size, &mut self.area);
         let reply = lent::chunk_optimization_graph_merge_chunk_dependencies(size, area, target.0, source.0);
@@ -183,9 +217,30 @@ impl<'a> MergeGraph<'a> {
     }
 
     /// Decides about each chunk that needs creation, in rising order: one proposal and one bar for each. A chunk is
-    /// merged into the proposed one if there is no bar and no warning, and else created. In [`Mode::StandForTarget`] a
-    /// chunk that was merged away is no candidate, and none that was may be proposed (28); choose it where imports of a
-    /// merged chunk are resolved to its target.
+    /// merged into the proposed one if there is no bar and no warning, and else created.
+    ///
+    /// Choose [`Mode::StandForTarget`] where imports of a merged chunk are resolved to its target: there a chunk that was merged
+    /// away is no candidate, and none that was may be proposed (28). In [`Mode::Original`] a pass can leave chunks that import
+    /// each other although no merge was warned of:
+    ///
+    /// ```
+    /// use nidskalm::{Assignment::*, ChunkIdx, EntrySet, InitialChunks, MergeGraph, Mode, ModuleIdx, Size};
+    ///
+    /// // Chunk 0 depends on 1, and 3 on 2; 2 and 3 need creation. Proposed: 2 into 0, 3 into 1.
+    /// let pass = |mode| {
+    ///     let size = Size { chunks: 4, modules: 4, entries: 4, entry_bits: 2 };
+    ///     let initial = InitialChunks { module_starts: &[0, 1, 2], modules: &[0, 1], sets: &[], set_chunks: &[] };
+    ///     let mut graph = MergeGraph::new(size, initial, mode, &[0; 4])?;
+    ///     graph.init_module_assignment(ModuleIdx(2), EntrySet::from(3))?;
+    ///     graph.init_module_assignment(ModuleIdx(3), EntrySet::from(2))?;
+    ///     graph.calc_chunk_dependencies(&[0, 1, 1, 1, 2], &[1, 2])?;
+    ///     graph.pass(&[Some(ChunkIdx(0)), Some(ChunkIdx(1))], &[false, false])
+    /// };
+    /// // Both are merged: 0 depends on 1, and 1 on 2, which is 0.
+    /// assert_eq!(pass(Mode::Original)?, [Merged(ChunkIdx(0)), Merged(ChunkIdx(1))]);
+    /// assert_eq!(pass(Mode::StandForTarget)?, [Merged(ChunkIdx(0)), Created(ChunkIdx(2))]);
+    /// # Ok::<(), nidskalm::Refusal>(())
+    /// ```
     pub fn pass(&mut self, proposals: &[Option<ChunkIdx>], bars: &[bool]) -> Result<Vec<Assignment>, Refusal> {
         // A proposed chunk with the number of none isn't none: it becomes another that is never initial.
         let number = |chunk: &Option<ChunkIdx>| chunk.map_or(NONE, |chunk| chunk.0.min(NONE - 1));

@@ -98,4 +98,16 @@ mod tests {
             assert_eq!(Refusal(row).to_string(), format!("refused {row}: {words}"));
         }
     }
+
+    /// tests/expected/refusals.txt has what the C function prints; tests/drivers.sh holds it to that.
+    #[test]
+    fn the_words_are_those_of_nidskalm_refusal() {
+        let printed: Vec<&str> = include_str!("../../tests/expected/refusals.txt").lines().collect();
+        assert_eq!(printed.len(), 65);
+        assert_eq!(printed[0], "0: not refused");
+        for row in (1..64).chain([u64::MAX]) {
+            let line = format!("{row}: {}", Refusal(row).condition());
+            assert!(printed.contains(&line.as_str()), "{line}");
+        }
+    }
 }

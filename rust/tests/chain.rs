@@ -30,6 +30,6 @@ fn the_first_atom_of_a_chain_reaches_all_others() {
         let moved = graph.try_move(0, target).unwrap();
         assert!(moved.accepted);
         assert_eq!(moved.reached, u64::from(n) - 1);
-        assert_eq!(reach(&graph.edges().unwrap(), target), n as usize - 1);
+        assert_eq!(reach(graph.edges().unwrap().as_slice(), target), n as usize - 1);
     }
 }

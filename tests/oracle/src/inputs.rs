@@ -5,6 +5,7 @@ use crate::merges_made_up;
 use crate::merges_model::{NONE, Size};
 use crate::moves_cases::{Damage, MoveCall, MoveCase};
 use crate::moves_made_up::{self, Shape};
+use crate::moves_real;
 use crate::run::{Case, Counts, Disagreement, Random, run};
 
 /// How much of everything is run.
@@ -111,11 +112,20 @@ impl Runner<'_> {
         Ok(())
     }
 
+    /// Real script, with moves as a planner makes them.
+    fn real_moves(&mut self) -> Found {
+        for case in moves_real::cases(&mut Random(self.amount.seed ^ 0x7265_616c), self.amount.percent) {
+            self.run(&case)?;
+        }
+        Ok(())
+    }
+
     fn moves(&mut self) -> Found {
         let mut random = Random(self.amount.seed ^ 0x6d6f_7665);
         self.small_moves(&mut random)?;
         self.long_moves(&mut random)?;
         self.month_of_moves(&mut random)?;
+        self.real_moves()?;
         for _ in 0..self.amount.times(1) {
             for shape in move_shapes(&mut random) {
                 self.run(&moves_made_up::random_case(&mut random, shape, 12))?;

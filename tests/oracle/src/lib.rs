@@ -13,6 +13,7 @@ pub mod merges_model;
 pub mod moves_cases;
 pub mod moves_made_up;
 pub mod moves_model;
+pub mod moves_real;
 pub mod moves_views;
 #[cfg(original)]
 pub mod original;
