@@ -22,6 +22,7 @@ pub mod original;
 pub mod original;
 #[path = "../../../rust/src/raw.rs"]
 pub mod raw;
+pub mod ranks;
 pub mod record;
 pub mod replay;
 pub mod run;
