@@ -20,9 +20,9 @@ pub mod original;
 #[cfg(not(original))]
 #[path = "no_original.rs"]
 pub mod original;
+pub mod ranks;
 #[path = "../../../rust/src/raw.rs"]
 pub mod raw;
-pub mod ranks;
 pub mod record;
 pub mod replay;
 pub mod run;
