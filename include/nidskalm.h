@@ -202,6 +202,19 @@ nidskalm_edge_reply nidskalm_reduced_chunk_graph_edge_at(
     const uint32_t *area, size_t area_length,
     uint64_t k);
 
+/* Ranks the placements of two areas of one load and one n: fewer chunks first, then fewer distinct edges, then the atoms'
+ * sets compared one by one as numbers from atom 0, the smaller first. Value 0: the first comes before the second, 1 equal
+ * (every atom has the same set in both), 2 after. The rows of the first area come before those of the second. Both areas
+ * are only read and may be one. */
+nidskalm_reply nidskalm_reduced_chunk_graph_rank(
+    uint64_t a, uint64_t d, uint64_t e, uint64_t n,
+    const uint32_t *starts, size_t starts_length,
+    const uint32_t *dependencies, size_t dependencies_length,
+    const uint32_t *hosts, size_t hosts_length,
+    const uint32_t *fixed, size_t fixed_length,
+    const uint32_t *first, size_t first_length,
+    const uint32_t *second, size_t second_length);
+
 /* Whether the chunk graph of the placement has a cycle, found by a search of its own in the textbook's manner; no flag of
  * the area is read for it. Value 0 acyclic, 1 cyclic. */
 nidskalm_reply nidskalm_reduced_chunk_graph_has_cycle(

@@ -47,6 +47,10 @@ static void moves(void) {
     expect("an edge", edge.refusal, edge.from0 * 100 + edge.to0 * 10 + edge.multiplicity, 0, 211);
     edge = nidskalm_reduced_chunk_graph_edge_at(LOAD, area, length, 1);
     expect("past the last edge", edge.refusal, edge.found, 0, 0);
+    reply = nidskalm_reduced_chunk_graph_rank(LOAD, area, length, area, length);
+    expect("a ranking with itself", reply.refusal, reply.value, 0, 1);
+    reply = nidskalm_reduced_chunk_graph_rank(LOAD, area, length, area, length - 1);
+    expect("a ranking with a short area", reply.refusal, reply.value, 3, 0);
     reply = nidskalm_reduced_chunk_graph_has_cycle(LOAD, area, length);
     expect("whether there is a cycle", reply.refusal, reply.value, 0, 0);
     reply = nidskalm_reduced_chunk_graph_has_cycle(LOAD, area, length - 1);

@@ -138,6 +138,35 @@ static void longest_walk(void) {
     }
 }
 
+static void ranked(const char *name, load x, const uint32_t *first, const uint32_t *second, size_t length) {
+    nidskalm_reply reply = nidskalm_reduced_chunk_graph_rank(LENT(x), first, length, second, length);
+    say(name, reply.refusal != 0 ? row(reply) : 100 * reply.value);
+}
+
+/* 512 atoms without dependencies, twice: 0 for before, 100 for equal, 200 for after. The last atom's set alone differs, then atom 0's too, which
+ * decides; then two atoms share a set. A number changed is row 9 of whichever area it is in. */
+static void two_plans(void) {
+    static uint32_t first[NIDSKALM_MOVE_AREA(512, 0, 10, 513)], second[NIDSKALM_MOVE_AREA(512, 0, 10, 513)];
+    static uint64_t sets[512];
+    const uint64_t targets[] = {600, 700, 1};
+    const load x = {512, 0, 10, 513, zeros, zeros, nobody, zeros};
+    number(sets, LENGTH(sets));
+    loaded("512 atoms", x, sets, LENGTH(sets), first, LENGTH(first));
+    loaded("512 atoms again", x, sets, LENGTH(sets), second, LENGTH(second));
+    ranked("two plans alike", x, first, second, LENGTH(first));
+    moved("the last atom of the first moves up", x, first, LENGTH(first), 511, targets, 1);
+    ranked("the last atom decides", x, first, second, LENGTH(first));
+    moved("atom 0 of the second moves up", x, second, LENGTH(second), 0, targets + 1, 1);
+    ranked("atom 0 decides", x, first, second, LENGTH(first));
+    moved("atom 0 of the second joins atom 1", x, second, LENGTH(second), 0, targets + 2, 1);
+    ranked("fewer chunks decide", x, first, second, LENGTH(first));
+    ranked("the other way round", x, second, first, LENGTH(first));
+    ranked("one area twice", x, second, second, LENGTH(second));
+    second[513 * 513 + 3] += 1;
+    ranked("a wrong number in the second", x, first, second, LENGTH(first));
+    ranked("in the first", x, second, first, LENGTH(first));
+}
+
 static void too_many_atoms(void) {
     static uint32_t area[NIDSKALM_MOVE_AREA(513, 0, 10, 513)];
     static uint64_t sets[513];
@@ -333,6 +362,7 @@ int main(void) {
     month_of_moves();
     most_edges();
     longest_walk();
+    two_plans();
     too_many_atoms();
     most_chunks("room for 1024 chunks in a short area", 1024);
     most_chunks("room for 1025 chunks", 1025);

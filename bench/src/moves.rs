@@ -119,6 +119,7 @@ fn library_times(library: &dyn Library, input: &Input) -> Vec<(&'static str, f64
         ("edge_count", ask(&|area, _| library.edge_count(load, area).value)),
         ("chunk_count", ask(&|area, _| library.chunk_count(load, area).value)),
         ("edge_at", ask(&|area, k| library.edge_at(load, area, k as u64).multiplicity)),
+        ("rank", ask(&|area, _| library.rank(load, area, area).value)),
         ("has_cycle", ask(&|area, _| library.has_cycle(load, area).value)),
         ("start_order", ask(&|area, k| library.start_order(load, area, k as u64 % load.e, &mut [0; 512]).value)),
     ]

@@ -108,6 +108,12 @@ pub fn reduced_chunk_graph_edge_at(load: &Load, n: u64, area: &[u32], k: u64) ->
     with_load!(nidskalm_reduced_chunk_graph_edge_at, load, n, area.as_ptr(), area.len(), k)
 }
 
+/// Ranks two areas of one load: value 0 where the first comes before the second, 1 where they are equal, 2 after.
+pub fn reduced_chunk_graph_rank(load: &Load, n: u64, first: &[u32], second: &[u32]) -> Reply {
+    let (lent, length) = (first.as_ptr(), first.len());
+    with_load!(nidskalm_reduced_chunk_graph_rank, load, n, lent, length, second.as_ptr(), second.len())
+}
+
 /// Whether there is a cycle, by the book's search: value 0 acyclic, 1 cyclic.
 pub fn reduced_chunk_graph_has_cycle(load: &Load, n: u64, area: &[u32]) -> Reply {
     with_load!(nidskalm_reduced_chunk_graph_has_cycle, load, n, area.as_ptr(), area.len())

@@ -2,7 +2,7 @@
 use crate::NONE;
 
 /// Atoms' dependencies, entry bits' hosts and which atoms are fixed, borrowed by every call.
-#[derive(Clone, Copy, Debug)]
+#[derive(Clone, Copy, Debug, PartialEq, Eq)]
 pub struct Load<'a> {
     /// One more than there are atoms: atom i depends on `dependencies[starts[i]..starts[i + 1]]`.
     pub starts: &'a [u32],

@@ -1,7 +1,8 @@
 //! The move graph with an area of its own.
 use crate::entry_set::flat;
 use crate::load::Lists;
-use crate::{lent, EntrySet, Load, OwnedLoad, Refusal};
+use crate::{lent, EntrySet, Load, OwnedLoad, RankError, Refusal};
+use std::cmp::Ordering;
 use std::collections::BTreeMap;
 
 /// An edge of the chunk graph.
@@ -252,6 +253,31 @@ impl<'a> MoveGraph<'a> {
             multiplicity: reply.multiplicity,
         };
         Refusal::check(reply.refusal, (reply.found == 1).then_some(edge))
+    }
+
+    /// Which of two plans is better, of this graph and another of the same load and the same room for sets: `Less` where this one
+    /// comes first. Fewer chunks come first, then fewer edges, then the atoms' sets as numbers from atom 0, the smaller first;
+    /// `Equal` exactly where every atom has the same set in both. Graphs of different loads or rooms have no ranking.
+    ///
+    /// ```
+    /// use nidskalm::{EntrySet, Load, MoveGraph, NONE};
+    /// use std::cmp::Ordering;
+    ///
+    /// let load = Load { starts: &[0, 1, 1], dependencies: &[1], hosts: &[NONE, NONE], fixed: &[0, 0] };
+    /// let sets = [EntrySet::from(1), EntrySet::from(2)];
+    /// let (apart, mut joined) = (MoveGraph::new(load, 3, &sets)?, MoveGraph::new(load, 3, &sets)?);
+    /// assert_eq!(joined.rank(&apart), Ok(Ordering::Equal));
+    /// assert!(joined.try_move(0, EntrySet::from(2))?.accepted);
+    /// assert_eq!(joined.rank(&apart), Ok(Ordering::Less));
+    /// assert_eq!(apart.rank(&joined), Ok(Ordering::Greater));
+    /// # Ok::<(), nidskalm::Refusal>(())
+    /// ```
+    pub fn rank(&self, other: &MoveGraph) -> Result<Ordering, RankError> {
+        if self.load() != other.load() || self.sets != other.sets {
+            return Err(RankError::OtherLoad);
+        }
+        let reply = lent::reduced_chunk_graph_rank(&self.load(), self.sets, &self.area, &other.area);
+        Refusal::check(reply.refusal, reply.value.cmp(&1)).map_err(RankError::Refused)
     }
 
     /// Whether the graph has a cycle now, found by a search of its own in the textbook's manner.

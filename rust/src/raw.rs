@@ -93,6 +93,8 @@ unsafe extern "C" {
     pub fn nidskalm_reduced_chunk_graph_chunk_count(a: u64, d: u64, e: u64, n: u64, starts: *const u32, starts_length: usize, dependencies: *const u32, dependencies_length: usize, hosts: *const u32, hosts_length: usize, fixed: *const u32, fixed_length: usize, area: *const u32, area_length: usize) -> Reply;
     /// The k-th edge, from 0, by rising source set, then target set.
     pub fn nidskalm_reduced_chunk_graph_edge_at(a: u64, d: u64, e: u64, n: u64, starts: *const u32, starts_length: usize, dependencies: *const u32, dependencies_length: usize, hosts: *const u32, hosts_length: usize, fixed: *const u32, fixed_length: usize, area: *const u32, area_length: usize, k: u64) -> EdgeReply;
+    /// Ranks two areas of one load; value 0 before, 1 equal, 2 after.
+    pub fn nidskalm_reduced_chunk_graph_rank(a: u64, d: u64, e: u64, n: u64, starts: *const u32, starts_length: usize, dependencies: *const u32, dependencies_length: usize, hosts: *const u32, hosts_length: usize, fixed: *const u32, fixed_length: usize, first: *const u32, first_length: usize, second: *const u32, second_length: usize) -> Reply;
     /// Whether there is a cycle, by the book's search; value 0 acyclic, 1 cyclic.
     pub fn nidskalm_reduced_chunk_graph_has_cycle(a: u64, d: u64, e: u64, n: u64, starts: *const u32, starts_length: usize, dependencies: *const u32, dependencies_length: usize, hosts: *const u32, hosts_length: usize, fixed: *const u32, fixed_length: usize, area: *const u32, area_length: usize) -> Reply;
     /// The chunks to fetch for an entry bit, in their order.

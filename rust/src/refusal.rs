@@ -111,3 +111,23 @@ mod tests {
         }
     }
 }
+
+/// Why two graphs have no ranking.
+#[derive(Clone, Copy, Debug, PartialEq, Eq)]
+pub enum RankError {
+    /// The two have different loads, or different room for sets.
+    OtherLoad,
+    /// The call was refused.
+    Refused(Refusal),
+}
+
+impl fmt::Display for RankError {
+    fn fmt(&self, f: &mut fmt::Formatter) -> fmt::Result {
+        match self {
+            Self::OtherLoad => f.write_str("the two graphs have different loads, or different room for sets"),
+            Self::Refused(refusal) => refusal.fmt(f),
+        }
+    }
+}
+
+impl Error for RankError {}

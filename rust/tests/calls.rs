@@ -1,8 +1,9 @@
 //! Every call once through the safe crate, and the rows that only it can bring about.
 use nidskalm::{
     lent, Assignment, ChunkIdx, Edge, Entries, EntrySet, InitialChunks, Load, MergeGraph, Mode, ModuleIdx, MoveGraph,
-    Moved, Refusal, Size, NONE,
+    Moved, RankError, Refusal, Size, NONE,
 };
+use std::cmp::Ordering;
 
 fn set(bits: u64) -> EntrySet {
     EntrySet::from(bits)
@@ -38,6 +39,55 @@ fn moves_and_questions() {
     assert_eq!(graph.edges().unwrap().as_slice(), [Edge { from: set(2), to: set(1), multiplicity: 1 }]);
     assert_eq!(graph.edge_at(1), Ok(None));
     assert_eq!(graph.has_cycle(), Ok(false));
+}
+
+/// Fewer chunks first, then fewer edges, then the sets from atom 0.
+#[test]
+fn plans_are_ranked() {
+    let load = Load { starts: &[0, 1, 1, 1], dependencies: &[1], hosts: &[NONE; 3], fixed: &[0, 0, 0] };
+    let at = |places: [u64; 3]| {
+        let mut graph = MoveGraph::new(load, 8, &[set(5), set(6), set(7)]).unwrap();
+        let moves = (0..).zip(places);
+        moves.filter(|&(atom, place)| place != 5 + u64::from(atom)).for_each(|(atom, place)| {
+            assert!(graph.try_move(atom, set(place)).unwrap().accepted);
+        });
+        graph
+    };
+    let ranks = |first: [u64; 3], second: [u64; 3]| at(first).rank(&at(second));
+    assert_eq!(ranks([1, 2, 3], [1, 2, 3]), Ok(Ordering::Equal));
+    // Two chunks with an edge come before three, and without the edge before that.
+    assert_eq!(ranks([4, 1, 1], [1, 2, 3]), Ok(Ordering::Less));
+    assert_eq!(ranks([4, 4, 1], [1, 2, 2]), Ok(Ordering::Less));
+    // Then the first atom whose sets differ decides.
+    assert_eq!(ranks([1, 2, 4], [1, 3, 2]), Ok(Ordering::Less));
+    assert_eq!(ranks([2, 1, 3], [1, 2, 3]), Ok(Ordering::Greater));
+    let graph = at([1, 2, 3]);
+    assert_eq!(graph.rank(&graph), Ok(Ordering::Equal));
+    let wider = MoveGraph::new(load, 9, &[set(5), set(6), set(7)]).unwrap();
+    assert_eq!(graph.rank(&wider), Err(RankError::OtherLoad));
+    let marked = MoveGraph::new(Load { fixed: &[0, 0, 1], ..load }, 8, &[set(5), set(6), set(7)]).unwrap();
+    assert_eq!(graph.rank(&marked), Err(RankError::OtherLoad));
+}
+
+/// "the first passes all checks of a later call (1 to 6, 9), then the second".
+#[test]
+fn the_first_area_is_checked_first() {
+    let mut area = vec![0; lent::move_area_length(&LOAD, 4).unwrap()];
+    assert_eq!(lent::reduced_chunk_graph_new(&LOAD, 4, &[3, 1, 2], &mut area).refusal, 0);
+    // The acyclic flag is kept in number 18 = 4×4 + 2.
+    let mut wrong = area.clone();
+    wrong[18] = 0;
+    let refusal = |load: &Load, n: u64, first: &[u32], second: &[u32]| {
+        lent::reduced_chunk_graph_rank(load, n, first, second).refusal
+    };
+    assert_eq!(refusal(&LOAD, 4, &area, &area), 0);
+    assert_eq!(refusal(&LOAD, 3, &wrong, &wrong), 1);
+    assert_eq!(refusal(&Load { fixed: &[0, 0], ..LOAD }, 4, &wrong, &wrong), 2);
+    assert_eq!(refusal(&LOAD, 4, &area[1..], &wrong), 3);
+    assert_eq!(refusal(&LOAD, 4, &wrong, &area[1..]), 9);
+    assert_eq!(refusal(&LOAD, 4, &area, &area[1..]), 3);
+    assert_eq!(refusal(&LOAD, 4, &area, &wrong), 9);
+    assert_eq!(refusal(&Load { hosts: &[1, 3], ..LOAD }, 4, &area, &wrong), 6);
 }
 
 #[test]

@@ -11,6 +11,7 @@ pub mod Chain
 pub mod Fixed
 pub mod Fewer
 pub mod StartOrder
+pub mod Ranking
 pub mod MergeRefused
 pub mod MergeKept
 pub mod MergeLoaded

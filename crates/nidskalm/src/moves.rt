@@ -4,6 +4,7 @@ ghost use Rattle.move_ledger.specs.Graph.{lent};
 ghost use Rattle.move_ledger.specs.Ledger as ledger;
 ghost use Rattle.move_area.specs.Calls as calls;
 ghost use Rattle.move_order.specs.Order.{started};
+ghost use Rattle.move_rank.specs.Ranking.{ranking};
 ghost use Rattle.nidskalm_replies.specs.Replies.{move-reply, try-reply, set-reply, edge-reply};
 use nidskalm_replies::EdgeReply;
 use nidskalm_replies::MoveReply;
@@ -13,6 +14,7 @@ use nidskalm_replies::of_edge;
 use nidskalm_replies::of_load;
 use nidskalm_replies::of_move;
 use nidskalm_replies::of_number;
+use nidskalm_replies::of_rank;
 use nidskalm_replies::of_set;
 
 // Loads a graph: 0 where it is acyclic, 1 where it is cyclic.
@@ -255,6 +257,36 @@ pub extern "C" fn nidskalm_reduced_chunk_graph_edge_at(
         fixed,
         area,
         k,
+    ))
+}
+
+// Ranks the placements of two areas: 0 where the first comes before the second, 1 where they are equal, 2 where it comes after.
+#[no_mangle]
+pub extern "C" fn nidskalm_reduced_chunk_graph_rank(
+    a: u64,
+    d: u64,
+    e: u64,
+    n: u64,
+    starts: &[u32],
+    dependencies: &[u32],
+    hosts: &[u32],
+    fixed: &[u32],
+    first: &[u32],
+    second: &[u32],
+) -> Reply
+    ensures { λ r. ⌜ r ≡ move-reply (ranking (lent a d e (now (starts .entry)) (now (dependencies .entry)) (now (hosts .entry))) (now (fixed .entry)) n (now (first .entry)) (now (second .entry))) ⌝ }
+{
+    of_rank(reduced_chunk_graph::rank(
+        a as usize,
+        d as usize,
+        e as usize,
+        n as usize,
+        starts,
+        dependencies,
+        hosts,
+        fixed,
+        first,
+        second,
     ))
 }
 

@@ -1,6 +1,6 @@
 // The replies of the C interface, and what each is of the answers of both graphs and of the choice of a merge target.
 ghost use mathlib.Core.Path.{_≡_};
-ghost use Rattle.reduced_chunk_graph.specs.Answers.{ofLoad, ofMove, ofSet, ofNumber, ofEdge};
+ghost use Rattle.reduced_chunk_graph.specs.Answers.{ofLoad, ofMove, ofSet, ofNumber, ofRank, ofEdge};
 ghost use Rattle.chunk_optimizer.specs.Answers.{done-told, temp-told, said-told};
 ghost use Rattle.merge_target.specs.Answers.{target-told};
 ghost use mathlib.Core.List.{[], _∷_};
@@ -17,6 +17,7 @@ use reduced_chunk_graph::EdgeAnswer;
 use reduced_chunk_graph::LoadAnswer;
 use reduced_chunk_graph::MoveAnswer;
 use reduced_chunk_graph::NumberAnswer;
+use reduced_chunk_graph::RankAnswer;
 use reduced_chunk_graph::SetAnswer;
 
 // `refusal` is 0 or the number of the row that refuses the call, here and below; the other fields are 0 when refused.
@@ -133,6 +134,17 @@ pub fn of_number(answer: NumberAnswer) -> Reply
     match answer {
         NumberAnswer::Number(k) => answered(k),
         NumberAnswer::Refused(q) => refused(q),
+    }
+}
+
+pub fn of_rank(answer: RankAnswer) -> Reply
+    ensures { λ r. ⌜ r ≡ move-reply (ofRank answer) ⌝ }
+{
+    match answer {
+        RankAnswer::Before => answered(0),
+        RankAnswer::Equal => answered(1),
+        RankAnswer::After => answered(2),
+        RankAnswer::Refused(q) => refused(q),
     }
 }
 

@@ -10,6 +10,8 @@ use Rattle.reduced_chunk_graph.specs.declared.SetAnswer.{SetAnswer}
 use Rattle.reduced_chunk_graph.specs.declared.SetAnswer.the-variants as set
 use Rattle.reduced_chunk_graph.specs.declared.NumberAnswer.{NumberAnswer}
 use Rattle.reduced_chunk_graph.specs.declared.NumberAnswer.the-variants as number
+use Rattle.reduced_chunk_graph.specs.declared.RankAnswer.{RankAnswer}
+use Rattle.reduced_chunk_graph.specs.declared.RankAnswer.the-variants as rank
 use Rattle.reduced_chunk_graph.specs.declared.EdgeAnswer.{EdgeAnswer}
 use Rattle.reduced_chunk_graph.specs.declared.EdgeAnswer.the-variants as edge
 
@@ -34,6 +36,13 @@ ofSet (set.Refused q) = refused q
 abbrev pub ofNumber : NumberAnswer → Answer
 ofNumber (number.Number k) = answer.number k
 ofNumber (number.Refused q) = refused q
+
+-- the answer of `rank`: before, equal and after by a number each
+abbrev pub ofRank : RankAnswer → Answer
+ofRank rank.Before = answer.number 0
+ofRank rank.Equal = answer.number 1
+ofRank rank.After = answer.number 2
+ofRank (rank.Refused q) = refused q
 
 -- the answer of `edge_at`
 abbrev pub ofEdge : EdgeAnswer → Answer

@@ -4,3 +4,4 @@ pub mod Loads
 pub mod Moves
 pub mod MoveLaws
 pub mod Asked
+pub mod Ranks

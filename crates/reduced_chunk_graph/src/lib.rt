@@ -2,6 +2,7 @@
 mod load;
 mod moves;
 mod questions;
+mod ranking;
 mod verdict;
 
 pub use load::new;
@@ -12,6 +13,7 @@ pub use questions::chunk_count;
 pub use questions::edge_at;
 pub use questions::edge_count;
 pub use questions::multiplicity;
+pub use ranking::rank;
 pub use verdict::has_cycle;
 
 // What `new` and `has_cycle` answer. `Refused` names a row of the table of refusals, here and below.
@@ -38,6 +40,14 @@ pub enum SetAnswer {
 // What `atom_count`, `multiplicity`, `edge_count` and `chunk_count` answer.
 pub enum NumberAnswer {
     Number(u64),
+    Refused(u32),
+}
+
+// What `rank` answers, of the first of two areas.
+pub enum RankAnswer {
+    Before,
+    Equal,
+    After,
     Refused(u32),
 }
 

@@ -2,11 +2,11 @@
 use crate::library::Library;
 use crate::limits;
 use crate::merges_made_up;
-use crate::merges_model::{NONE, Size};
+use crate::merges_model::{Size, NONE};
 use crate::moves_cases::{Damage, MoveCall, MoveCase};
 use crate::moves_made_up::{self, Shape};
 use crate::moves_real;
-use crate::run::{Case, Counts, Disagreement, Random, run};
+use crate::run::{run, Case, Counts, Disagreement, Random};
 
 /// How much of everything is run.
 #[derive(Clone, Copy)]
@@ -46,13 +46,18 @@ impl Runner<'_> {
                 let edge = MoveCall::EdgeAt { k: random.below(3) };
                 let order = MoveCall::StartOrder { bit: random.below(2), room: a as usize };
                 let first = MoveCall::Move { atom, bits: vec![set] };
-                let calls = [first, second, MoveCall::EdgeCount, edge, order, MoveCall::HasCycle, third, MoveCall::HasCycle];
+                let calls =
+                    [first, second, MoveCall::EdgeCount, edge, order, MoveCall::HasCycle, third, MoveCall::HasCycle];
                 let calls = calls.into_iter().map(|call| (call, Damage::default())).collect();
                 self.run(&MoveCase { calls, ..case.clone() })?;
             }
         }
         let calls = vec![(MoveCall::HasCycle, Damage::default())];
-        if a == 0 { self.run(&MoveCase { calls, ..case.clone() }) } else { Ok(()) }
+        if a == 0 {
+            self.run(&MoveCase { calls, ..case.clone() })
+        } else {
+            Ok(())
+        }
     }
 
     fn every_small(&mut self) -> Found {

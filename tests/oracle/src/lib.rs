@@ -20,6 +20,7 @@ pub mod original;
 #[cfg(not(original))]
 #[path = "no_original.rs"]
 pub mod original;
+pub mod ranks;
 #[path = "../../../rust/src/raw.rs"]
 pub mod raw;
 pub mod record;

@@ -77,6 +77,7 @@ pub trait Library {
     fn edge_count(&self, load: &Load, area: &[u32]) -> Reply;
     fn chunk_count(&self, load: &Load, area: &[u32]) -> Reply;
     fn edge_at(&self, load: &Load, area: &[u32], k: u64) -> EdgeReply;
+    fn rank(&self, load: &Load, first: &[u32], second: &[u32]) -> Reply;
     fn has_cycle(&self, load: &Load, area: &[u32]) -> Reply;
     fn start_order(&self, load: &Load, area: &[u32], bit: u64, chunks: &mut [u32]) -> Reply;
 
@@ -177,6 +178,11 @@ mod ours {
 
         fn edge_at(&self, load: &Load, area: &[u32], k: u64) -> EdgeReply {
             with_load!(nidskalm_reduced_chunk_graph_edge_at, load, area.as_ptr(), area.len(), k)
+        }
+
+        fn rank(&self, load: &Load, first: &[u32], second: &[u32]) -> Reply {
+            let (lent, length) = (first.as_ptr(), first.len());
+            with_load!(nidskalm_reduced_chunk_graph_rank, load, lent, length, second.as_ptr(), second.len())
         }
 
         fn has_cycle(&self, load: &Load, area: &[u32]) -> Reply {

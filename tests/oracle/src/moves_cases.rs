@@ -4,6 +4,7 @@ use crate::library::{EdgeReply, Library, MoveReply, Reply, SetReply};
 use crate::moves_model::{Load, MoveState, NONE, entry_sets, load_refusal, whole};
 use crate::moves_views::{model_view, original_answer, original_lists};
 use crate::original::OriginalMoves;
+use crate::ranks::rank;
 use crate::run::{Case, Counts, GUARD, Random, same, same_area, shorter};
 use crate::sets::{Set, width};
 use crate::stand_ins::rolldown_utils::BitSet;
@@ -185,7 +186,11 @@ impl MoveCase {
         }
         counts.refused(answer.refusal());
         same("damaged call", &library_answer(library, load, &mut ours[..lent], call), &answer)?;
-        same_area("damaged call", &ours, &expected)
+        same_area("damaged call", &ours, &expected)?;
+        // The area as it was, and the one with something wrong, ranked either way.
+        let (whole, lent) = (&area[..area.len() - GUARD], &ours[..lent]);
+        same("ranking a damaged second", &library.rank(load, whole, lent), &rank(load, whole, lent))?;
+        same("ranking a damaged first", &library.rank(load, lent, whole), &rank(load, lent, whole))
     }
 }
 
@@ -310,6 +315,15 @@ impl Running<'_> {
         told.map_or(Ok(()), |told| same("original against the model", &told, answer))
     }
 
+    /// The library's ranking of an earlier plan and this one, either way, against the model's.
+    fn same_rank(&self, load: &Load, earlier: &[u32], turned: bool) -> Result<(), String> {
+        let Some(library) = self.library else { return Ok(()) };
+        let lent = self.area.len() - GUARD;
+        let (first, second) = (&earlier[..lent], &self.expected[..lent]);
+        let (first, second) = if turned { (second, first) } else { (first, second) };
+        same("ranking", &library.rank(load, first, second), &rank(load, first, second))
+    }
+
     /// The library's answer and area against the model's.
     fn same_library(&mut self, load: &Load, call: &MoveCall, answer: &Answer) -> Result<(), String> {
         let Some(library) = self.library else { return Ok(()) };
@@ -325,6 +339,7 @@ impl Running<'_> {
 impl MoveCase {
     fn check_calls(&self, running: &mut Running, counts: &mut Counts) -> Result<(), String> {
         let load = &self.load;
+        let mut earlier = running.expected.clone();
         for (place, (call, damage)) in self.calls.iter().enumerate() {
             counts.calls += 1;
             let at = |why: String| format!("call {place}: {why}");
@@ -347,6 +362,13 @@ impl MoveCase {
             }
             running.same_original(load, call, &answer).map_err(at)?;
             running.same_library(load, call, &answer).map_err(at)?;
+            if answer.refusal() == 0 && matches!(call, MoveCall::Move { .. }) {
+                running.same_rank(load, &earlier, place % 2 == 0).map_err(at)?;
+                // Now and then the plan that later ones are ranked with is another.
+                if place % 5 == 4 {
+                    earlier.clone_from(&running.expected);
+                }
+            }
         }
         Ok(())
     }

@@ -4,13 +4,14 @@ use crate::library::{EdgeReply, Library, MergeLoad, MoveReply, Reply, SetReply};
 use crate::merges_calls::{self, MergeCall};
 use crate::merges_model::Size;
 use crate::moves_model::{Graph, Load, MoveState, NONE, whole};
+use crate::ranks::{merits, rank, told};
 use crate::sets::{Set, lent_set, width};
 
 /// No bug: nobody looks at these flags.
 pub const HARMLESS: &str = "loading clears the flags of chunks not yet made";
 
 /// Bugs by name; the first two are none.
-pub const PLANTS: [&str; 73] = [
+pub const PLANTS: [&str; 77] = [
     "none",
     HARMLESS,
     "repeated dependency counted once",
@@ -21,6 +22,10 @@ pub const PLANTS: [&str; 73] = [
     "wrong order of edges",
     "facade edges left out of the verdict",
     "multiplicities invented on listing",
+    "fewer edges ranked before fewer chunks",
+    "more chunks ranked first",
+    "ranked from the last atom",
+    "the second plan isn't checked",
     "a write beyond the area",
     "a write at refusal 12",
     "old edges after a move",
@@ -228,6 +233,26 @@ impl Library for StandIn {
             }
             reply
         })
+    }
+
+    fn rank(&self, load: &Load, first: &[u32], second: &[u32]) -> Reply {
+        let place = |area: &[u32]| whole::open(load, area).map(|state| state.ledger().place);
+        let (one, other) = match (place(first), place(second)) {
+            (Ok(one), Ok(other)) => (merits(load, &one), merits(load, &other)),
+            (Ok(_), Err(9)) if self.planted("the second plan isn't checked") => return Reply::value(0),
+            _ => return rank(load, first, second),
+        };
+        if self.planted("fewer edges ranked before fewer chunks") {
+            return told((one.1, one.0, one.2).cmp(&(other.1, other.0, other.2)));
+        }
+        if self.planted("more chunks ranked first") {
+            return told((other.0, one.1, one.2).cmp(&(one.0, other.1, other.2)));
+        }
+        if self.planted("ranked from the last atom") {
+            let turned = |places: Vec<Set>| places.into_iter().rev().collect::<Vec<_>>();
+            return told((one.0, one.1, turned(one.2)).cmp(&(other.0, other.1, turned(other.2))));
+        }
+        told(one.cmp(&other))
     }
 
     fn has_cycle(&self, load: &Load, area: &[u32]) -> Reply {

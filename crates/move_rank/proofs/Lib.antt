@@ -1,0 +1,2 @@
+-- Laws that the functions of `move_rank` cite. Assumes nothing.
+pub mod Comparing
