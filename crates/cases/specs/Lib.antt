@@ -2,6 +2,7 @@
 pub mod Run
 pub mod Moves
 pub mod Loadings
+pub mod Ranks
 pub mod MergeRun
 pub mod Merges
 pub mod Cases
