@@ -87,6 +87,8 @@ fn the_first_area_is_checked_first() {
     assert_eq!(refusal(&LOAD, 4, &wrong, &area[1..]), 9);
     assert_eq!(refusal(&LOAD, 4, &area, &area[1..]), 3);
     assert_eq!(refusal(&LOAD, 4, &area, &wrong), 9);
+    assert_eq!(refusal(&Load { starts: &[0, 1, 0, 2], ..LOAD }, 4, &area, &wrong), 4);
+    assert_eq!(refusal(&Load { dependencies: &[0, 2], ..LOAD }, 4, &area, &wrong), 5);
     assert_eq!(refusal(&Load { hosts: &[1, 3], ..LOAD }, 4, &area, &wrong), 6);
 }
 

@@ -316,12 +316,14 @@ impl Running<'_> {
     }
 
     /// The library's ranking of an earlier plan and this one, either way, against the model's.
-    fn same_rank(&self, load: &Load, earlier: &[u32], turned: bool) -> Result<(), String> {
+    fn same_rank(&self, load: &Load, earlier: &[u32], turned: bool, counts: &mut Counts) -> Result<(), String> {
         let Some(library) = self.library else { return Ok(()) };
         let lent = self.area.len() - GUARD;
         let (first, second) = (&earlier[..lent], &self.expected[..lent]);
         let (first, second) = if turned { (second, first) } else { (first, second) };
-        same("ranking", &library.rank(load, first, second), &rank(load, first, second))
+        let told = rank(load, first, second);
+        counts.ranked[told.value as usize] += 1;
+        same("ranking", &library.rank(load, first, second), &told)
     }
 
     /// The library's answer and area against the model's.
@@ -363,7 +365,7 @@ impl MoveCase {
             running.same_original(load, call, &answer).map_err(at)?;
             running.same_library(load, call, &answer).map_err(at)?;
             if answer.refusal() == 0 && matches!(call, MoveCall::Move { .. }) {
-                running.same_rank(load, &earlier, place % 2 == 0).map_err(at)?;
+                running.same_rank(load, &earlier, place % 2 == 0, counts).map_err(at)?;
                 // Now and then the plan that later ones are ranked with is another.
                 if place % 5 == 4 {
                     earlier.clone_from(&running.expected);

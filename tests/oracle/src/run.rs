@@ -59,6 +59,8 @@ pub struct Counts {
     pub rejected: u64,
     /// Moves for which an empty set gave up its place.
     pub evicted: u64,
+    /// Rankings of two plans of one history: before, equal, after.
+    pub ranked: [u64; 3],
     pub warned: u64,
     pub unwarned: u64,
     pub merged: u64,
@@ -76,6 +78,8 @@ impl Counts {
         println!("{name}: {} cases, {} calls", self.cases, self.calls);
         println!("  loads acyclic {}, cyclic {}", self.acyclic, self.cyclic);
         println!("  moves accepted {}, rejected {}, with an eviction {}", self.accepted, self.rejected, self.evicted);
+        let [before, equal, after] = self.ranked;
+        println!("  plans before {before}, equal {equal}, after {after}");
         println!("  warnings yes {}, no {}", self.warned, self.unwarned);
         println!("  pass merged {}, created {}", self.merged, self.created);
         println!("  damaged areas refused {}, consistent {}", self.damaged_refused, self.damaged_consistent);
