@@ -17,7 +17,7 @@
  *
  * All state lies in a work area of 32-bit numbers that the caller lends. Between calls nobody else may write there.
  * Every list is a pointer and the count of its items. A pointer must be valid for that many items (any pointer for 0);
- * the area and lists of answers must not overlap other lists. Nothing else is asked of the caller: whatever the
+ * an area that is written and lists of answers must not overlap other lists. Nothing else is asked of the caller: whatever the
  * numbers, a call ends and answers, or is refused. A refused call writes nothing.
  *
  * A reply's `refusal` is 0, or the number of the first fitting row; where it isn't 0, the other fields are 0. Rows are

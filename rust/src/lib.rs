@@ -11,7 +11,8 @@
 //!
 //! [`Entries`] chooses the chunk that such a chunk may be merged into.
 //!
-//! No call on a graph panics on odd numbers: it answers, or gives a [`Refusal`] and has changed nothing. Both types own
+//! No call on a graph panics on odd numbers: it answers, or gives a [`Refusal`] ([`RankError`] where two
+//! graphs are ranked) and has changed nothing. Both types own
 //! their work area, and borrow or own ([`MoveGraph::owning`], [`MergeGraph::owning`]) what is lent to every call; [`lent`] has
 //! the same calls on areas that you lend, and [`raw`] the C interface.
 //!

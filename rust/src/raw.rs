@@ -1,7 +1,7 @@
 //! The C interface as it stands: lent areas, pointers and lengths. `include/nidskalm.h` says the same for C.
 //!
-//! Every list is a pointer and the count of its numbers, and a call writes only into its `*mut` lists: areas and the
-//! pass's answers. Each pointer must be valid for that many numbers during the call (any pointer for 0), and a `*mut`
+//! Every list is a pointer and the count of its numbers, and a call writes only into its `*mut` lists: areas, the
+//! pass's answers and the start order's list. Each pointer must be valid for that many numbers during the call (any pointer for 0), and a `*mut`
 //! list must not overlap any other list. Any numbers whatsoever get an answer or a refusal, and a refusal writes
 //! nothing.
 
