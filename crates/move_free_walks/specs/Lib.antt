@@ -10,3 +10,6 @@ pub mod NodeFree
 pub mod Seeds
 pub mod Blanked
 pub mod SpareNode
+pub mod HowFree
+pub mod Sums
+pub mod Pairs
