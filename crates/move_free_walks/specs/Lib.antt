@@ -13,3 +13,5 @@ pub mod SpareNode
 pub mod HowFree
 pub mod Sums
 pub mod Pairs
+pub mod Beside
+pub mod SpareSlots

@@ -15,16 +15,16 @@ use Rattle.move_free_walks.specs.Joins.{old, leaves, enters, why-joined,
 use Rattle.move_free_walks.specs.Alone.{Alone, joined-edge}
 use Rattle.move_free_walks.specs.Free.{without, outs, ins, back-now, kept}
 
-then-more : {g : ℕ → ℕ → Bool} {x y z : ℕ} → Upto g x y → Walk g y z → Walk g x z
+pub then-more : {g : ℕ → ℕ → Bool} {x y z : ℕ} → Upto g x y → Walk g y z → Walk g x z
 then-more {g} {x} {y} {z} (inl e) w = subst (λ k. Walk g k z) (sym e) w
 then-more (inr u) w = join u w
 
-more-then : {g : ℕ → ℕ → Bool} {x y z : ℕ} → Walk g x y → Upto g y z → Walk g x z
+pub more-then : {g : ℕ → ℕ → Bool} {x y z : ℕ} → Walk g x y → Upto g y z → Walk g x z
 more-then {g} {x} {y} {z} w (inl e) = subst (λ k. Walk g x k) e w
 more-then w (inr u) = join w u
 
 -- the last step of a walk
-last-step : {g : ℕ → ℕ → Bool} {x z : ℕ} → Walk g x z → (y : ℕ) × (g y z ≡ true) × Upto g x y
+pub last-step : {g : ℕ → ℕ → Bool} {x z : ℕ} → Walk g x z → (y : ℕ) × (g y z ≡ true) × Upto g x y
 last-step {g} {x} (one h) = (x, h, inl refl)
 last-step {g} {x} (more h p) = let r = last-step p in (r .0, r .1, inr (longer-by h (r .2)))
   where
@@ -32,11 +32,11 @@ last-step {g} {x} (more h p) = let r = last-step p in (r .0, r .1, inr (longer-b
     longer-by {u} {v} {w} a (inl e) = one (subst (λ k. g u k ≡ true) e a)
     longer-by a (inr s) = more a s
 
-first-step : {g : ℕ → ℕ → Bool} {x z : ℕ} → Walk g x z → (y : ℕ) × (g x y ≡ true) × Upto g y z
+pub first-step : {g : ℕ → ℕ → Bool} {x z : ℕ} → Walk g x z → (y : ℕ) × (g x y ≡ true) × Upto g y z
 first-step (one {x} {y} h) = (y, h, inl refl)
 first-step (more {x} {y} {z} h p) = (y, h, inr p)
 
-lift-upto : {e e′ : ℕ → ℕ → Bool} → ((x y : ℕ) → e x y ≡ true → e′ x y ≡ true) → {x y : ℕ} → Upto e x y → Upto e′ x y
+pub lift-upto : {e e′ : ℕ → ℕ → Bool} → ((x y : ℕ) → e x y ≡ true → e′ x y ≡ true) → {x y : ℕ} → Upto e x y → Upto e′ x y
 lift-upto f (inl e) = inl e
 lift-upto f (inr w) = inr (lift f w)
 
