@@ -15,3 +15,5 @@ pub mod Sums
 pub mod Pairs
 pub mod Beside
 pub mod SpareSlots
+pub mod ByMarks
+pub mod AtomCount

@@ -26,7 +26,7 @@ use Rattle.move_ledger.specs.NodeWalks.{mult-nodes, edge-inside}
 use Rattle.move_ledger.specs.NodeMoves.{placing-set}
 use Rattle.move_free_walks.specs.Joins.{cut, Ahead, Behind, Fore, Aft, Free, Acyclic}
 use Rattle.move_free_walks.specs.Alone.{Alone}
-use Rattle.move_free_walks.specs.Free.{outs, ins, alone-in, moved-free, moved-own}
+use Rattle.move_free_walks.specs.Free.{outs, ins, alone-in, rest-acyclic, moved-free, moved-own}
 use Rattle.move_free_walks.specs.Renamed.{ahead-named, behind-named, out-named, in-named, acyclic-named, free-named, fore-named, aft-named}
 use Rattle.move_free_walks.specs.Present.{ahead-present, behind-present}
 use Rattle.move_free_walks.specs.Counted.{meets, is-free, free-decides}
@@ -109,6 +109,10 @@ module _ {load : Load} {nodes sets : List ℕ} (o : InOrder load) (p : Placing l
 
   set-other : (X : ℕ) → X < length sets → (X ≡ at nodes a → ⊥) → at sets X ≡ at (placed nodes sets) a → ⊥
   set-other X b d e = d (p .distinct X (at nodes a) b (p .inside a (s .atom)) (e ∙ here a (s .atom)))
+
+  -- from an acyclic graph there is no cycle without the atom
+  pub node-rest-acyclic : cyclic (edge load (placed nodes sets)) (placed nodes sets) ≡ false → Acyclic (node-rest load nodes sets a z)
+  node-rest-acyclic free = acyclic-named named target z (s .within) .1 (rest-acyclic load (placed nodes sets) a (at sets z) long alone free)
 
   module _ (X : ℕ) (b : X < length sets) (d : X ≡ at nodes a → ⊥) where
     -- from an acyclic graph, the later steps of the two walks can go along the present edges

@@ -77,7 +77,7 @@ fore-seeds g h out n low X = (
 )
 
 -- the second goes along the turned edges
-turned : {g : ℕ → ℕ → Bool} {x y : ℕ} → Walk g x y → Walk (λ u v. g v u) y x
+pub turned : {g : ℕ → ℕ → Bool} {x y : ℕ} → Walk g x y → Walk (λ u v. g v u) y x
 turned (one q) = one q
 turned (more q w) = join (turned w) (one q)
 
