@@ -1,26 +1,27 @@
 -- For the code: the moves of an atom that are accepted, counted over nodes. The atom stands alone at node z, behind all registered sets. Assumes nothing.
 use Prim.Native.Nat.{ℕ, _+_, _^_, _≤_, _<_}
 use native.Mathlib.Omega.{arith}
-use mathlib.Core.Path.{_≡_, refl, sym, ap, ap₂, fun-ext, subst, _∙_}
+use mathlib.Core.Path.{_≡_, refl, sym, ap, ap₂, subst, _∙_}
 use mathlib.Core.Bool.{Bool, true, false, not, _&&_}
 use mathlib.Core.List.{List}
 use lib.Dec.{eqb, ltb}
 use lib.ListN.{length, set}
 use Rattle.graphs.specs.Bools.{Decides, fails}
 use Rattle.graphs.specs.Count.{ind, count, count-more, count-ext}
-use Rattle.graphs.specs.Lists.{has, has-place}
-use Rattle.graphs.specs.Slots.{slotEdge}
+use Rattle.graphs.specs.Lists.{has, has-place, below}
+use Rattle.graphs.specs.Slots.{slotEdge, Ends}
 use Rattle.graphs.specs.SlotLaws.{mult-self}
 use Rattle.graphs.specs.Walk.{cyclic}
+use Rattle.graphs.specs.Walks.{acyclic-walk, cyclic-walk, sources-below}
 use Rattle.move_ledger.specs.Graph.{Load, none, at, occupied, edge}
 use Rattle.move_ledger.specs.LoadLaws.{InOrder}
 use Rattle.move_ledger.specs.Ledger.{put}
 use Rattle.move_ledger.specs.Nodes.{placed, Placing, sources, targets, node-edge}
-use Rattle.move_ledger.specs.NodeWalks.{edge-inside}
+use Rattle.move_ledger.specs.NodeWalks.{ends-nodes, edge-inside}
 use Rattle.move_ledger.specs.NodeMoves.{placing-set}
 use Rattle.move_ledger.specs.NodePlaces.{placed-put, placing-put}
 use Rattle.move_ledger.specs.Places.{put-behind}
-use Rattle.move_free_walks.specs.Joins.{cut, Ahead, Behind, Acyclic}
+use Rattle.move_free_walks.specs.Joins.{cut, cut-edge, Ahead, Behind, Acyclic}
 use Rattle.move_free_walks.specs.NodeFree.{Spare, spare-top, aside, node-rest, fine, counted, counted-free, counted-none, node-rest-acyclic}
 use Rattle.move_free_walks.specs.SpareNode.{bare, counted-spare}
 use Rattle.move_free_walks.specs.SpareSlots.{sources-spare, targets-spare}
@@ -102,3 +103,19 @@ module _ {load : Load} {nodes sets : List ℕ} (o : InOrder load) (p : Placing l
   rest-free h =
       subst (λ g. Acyclic (cut g z)) same-edges
       (node-rest-acyclic o grown a (length sets) spare (subst (λ q. cyclic (edge load q) q ≡ false) (sym (placed-put p (length sets) (2 ^ load .E) (omega arith) (bare p (2 ^ load .E)))) h))
+
+  -- the slots with the atom at z have their ends among z + 1 nodes
+  pub aside-ends : Ends (sources load (set nodes a (length sets)) sets) (targets load (set nodes a (length sets)) sets) (length sets + 1) (load .D + load .E)
+  aside-ends =
+      rw (sym (sources-spare load (set nodes a (length sets)) sets), sym (targets-spare load (set nodes a (length sets)) sets))
+      (ends-nodes o (placing-set grown a (length sets) (spare .within)) (length sets + 1) (omega (arith, long)) (omega arith))
+
+  rest-from : (x y : ℕ) → cut e z x y ≡ true → x < length sets
+  rest-from x y h = let r = cut-edge e z x y h in let b = inside x y (r .0) .0 in let d = r .1 in omega arith
+
+  -- a search among the other nodes tells
+  pub rest-none : cyclic (cut (node-edge load (set nodes a (length sets)) sets) (length sets)) (below (length sets)) ≡ false → Acyclic (cut (node-edge load (set nodes a (length sets)) sets) (length sets))
+  rest-none h = acyclic-walk (cut e z) (below z) (sources-below rest-from) .0 h
+
+  pub rest-some : cyclic (cut (node-edge load (set nodes a (length sets)) sets) (length sets)) (below (length sets)) ≡ true → Acyclic (cut (node-edge load (set nodes a (length sets)) sets) (length sets)) → ⊥
+  rest-some h g = let r = cyclic-walk (cut e z) (below z) (sources-below rest-from) .0 h in g (r .0) (r .1)

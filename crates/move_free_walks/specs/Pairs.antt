@@ -87,4 +87,3 @@ module _ (load : Load) (fixed : List ℕ) {nodes sets : List ℕ} (p : Placing l
       flag : (t : Bool) → cond t 1 0 ≡ ind t
       flag true = refl
       flag false = refl
-
