@@ -40,7 +40,7 @@ mod refusal;
 pub use entries::Entries;
 pub use entry_set::EntrySet;
 pub use merge_graph::{Assignment, ChunkIdx, InitialChunks, MergeGraph, Mode, ModuleIdx, Size};
-pub use move_graph::{Edge, Load, MoveGraph, Moved};
+pub use move_graph::{Edge, Freedom, Load, MoveGraph, Moved};
 pub use refusal::Refusal;
 
 /// No host for an entry bit.
