@@ -3,7 +3,7 @@ use Prim.Native.Nat.{ℕ, _+_, _-_, _*_, _^_, _≤_, _<_}
 use native.Mathlib.Omega.{arith}
 use mathlib.Core.Path.{_≡_, refl, sym, ap, ap₂, subst, _∙_}
 use mathlib.Core.Bool.{Bool, true, false, not, cond, _&&_, true≢false}
-use mathlib.Core.List.{List}
+use mathlib.Core.List.{List, []}
 use lib.Dec.{eqb, ltb}
 use lib.ListN.{length, getD, set}
 use borrow.Author.Tests.{eq-eqb, ne-eqb}
@@ -231,6 +231,11 @@ module _ {load : Load} {fixed : List ℕ} {n : ℕ} {area : List ℕ} {atom each
       atom-fixed load fixed (placeIn load n area) long in-range atom (can .there) ∙ ap (λ t. cond (not t) (length (rising (placeIn load n area)) - 1) 0) (ne-eqb (getD fixed atom 0) 0 h) ∙ sym (can .all .others) in
       record { accepted = omega (arith, whole); rejected = omega (arith, whole); fixed = sym e; sum = omega arith }
 
+  -- no atom has more sets than there are
+  pub atom-few : {k : ℕ} → k ≡ counted load (nodesIn load n area) atom (length (setsIn n area)) (fine load (nodesIn load n area) (setsIn n area) atom) → k ≤ each
+  atom-few q =
+      omega (arith, q, can .all .others, atom-accepted load [] (p atom-asks) (range atom-asks) atom (can .there), atom-sum load [] (placeIn load n area) long in-range atom (can .there))
+
   -- another
   module _ (h : getD fixed atom 0 ≡ 0) {k : ℕ} (q : k ≡ counted load (nodesIn load n area) atom (length (setsIn n area)) (fine load (nodesIn load n area) (setsIn n area) atom)) where
     taken : k ≡ free.targets load fixed (placeIn load n area) is-accepted atom
@@ -241,11 +246,8 @@ module _ {load : Load} {fixed : List ℕ} {n : ℕ} {area : List ℕ} {atom each
     unfixed : free.targets load fixed (placeIn load n area) is-fixed atom ≡ 0
     unfixed = atom-fixed load fixed (placeIn load n area) long in-range atom (can .there) ∙ ap (λ t. cond (not t) (length (rising (placeIn load n area)) - 1) 0) (eq-eqb (getD fixed atom 0) 0 h)
 
-    pub atom-few : k ≤ each
-    atom-few = omega (arith, whole, taken)
-
     pub atom-moves : OfAtom load fixed (placeIn load n area) atom each k (each - k) 0
-    atom-moves = record { accepted = taken; rejected = omega (arith, whole, taken, unfixed); fixed = sym unfixed; sum = omega (arith, atom-few) }
+    atom-moves = record { accepted = taken; rejected = omega (arith, whole, taken, unfixed); fixed = sym unfixed; sum = omega (arith, whole, taken) }
 
 pub record CanFree (load : Load) (fixed : List ℕ) (n : ℕ) (area : List ℕ) : Type 0 where
   pub loadable : Loadable load n true (length area)

@@ -1,7 +1,7 @@
 // How many nodes an atom may go to.
 ghost use mathlib.Core.Path.{_≡_};
 ghost use mathlib.Core.Bool.{not, _&&_};
-ghost use Prim.Native.Nat.{_+_};
+ghost use Prim.Native.Nat.{_+_, _≤_};
 ghost use lib.Dec.{eqb};
 ghost use Rattle.graphs.specs.Count.{ind, count};
 ghost use Rattle.move_freedom.specs.Tally.{both, admits, CanMeet, CanTally, occupiedAt, CanOccupied};
@@ -36,6 +36,7 @@ fn meeting(out: &[u32], back: &[u32], n: usize) -> u32
 // 1 where a node, with `count` atoms, is another than the atom's own, has neither flag, and is the only one of k that meet if there are such.
 fn one(count: u32, x: usize, own: usize, ahead: u32, behind: u32, meets: u32, k: u32) -> u32
     ensures { λ r. ⌜ r ≡ ind (not (eqb count 0) && (not (eqb x own) && (eqb ahead 0 && (eqb behind 0 && eqb k meets)))) ⌝ }
+    ensures { λ r. ⌜ r ≤ 1 ⌝ }
 {
     if count == 0 {
         return 0;

@@ -12,7 +12,7 @@ shared-slice-read-if1 : tie.Need-shared-slice-read-if1
 shared-slice-read-if1 c = search needs
 
 returns : tie.Need-returns
-returns c = atom-stays (c .before .before .before .before .before .before .before .pre) (c .if1 .taken)
+returns c = atom-stays (c .before .before .before .before .before .before .before .pre) (λ e. omega (arith, c .if1 .taken))
 
 accepted-requires : tie.Need-accepted-requires
 accepted-requires c κs = search needs
@@ -21,7 +21,7 @@ cast-open : tie.Need-cast-open
 cast-open c = search needs
 
 sub-t17 : tie.Need-sub-t17
-sub-t17 c = omega (arith, atom-few (c .before .before .before .before .before .before .before .before .pre) (c .before .if1 .left) (c .accepted .ensures))
+sub-t17 c = omega (arith, atom-few (c .before .before .before .before .before .before .before .before .pre) (c .accepted .ensures))
 
 returns-2 : tie.Need-returns-2
 returns-2 c = atom-moves (c .before .before .before .before .before .before .before .before .pre) (c .before .if1 .left) (c .accepted .ensures)

@@ -3,7 +3,7 @@ use Prim.Native.Nat.{_-_, _≤_}
 use native.Mathlib.Omega.{arith}
 use mathlib.Core.Path.{_≡_, sym, ap, _∙_}
 use borrow.Author.Needs.{needs}
-use Rattle.graphs.specs.Count.{count, count-none, count-more, ind-le}
+use Rattle.graphs.specs.Count.{count, count-none, count-more}
 use Rattle.move_freedom.specs.Tally.{admits, admits-one}
 use Rattle.move_freedom.proofs.tally.open_nodes.Statement.{statement}
 use Rattle.move_freedom.proofs.tally.open_nodes.Tie as tie
@@ -57,7 +57,7 @@ one-requires : tie.Need-one-requires Inv-loop μ-loop
 one-requires c κs = search needs
 
 add-all : tie.Need-add-all Inv-loop μ-loop
-add-all c = omega (arith, admits-one (c .before .before .before .before .before .before .before .before .before .before .before .before .before .before .args .area .now) (c .before .before .before .before .before .before .before .before .before .before .before .before .before .before .args .at) (c .before .before .before .before .before .before .before .before .before .before .before .before .before .before .args .own) (c .before .before .before .before .before .before .before .before .before .before .before .before .before .before .args .ahead .now) (c .before .before .before .before .before .before .before .before .before .before .before .before .before .before .args .behind .now) (c .before .before .before .before .before .before .before .before .before .before .before .before .before .before .args .out .now) (c .before .before .before .before .before .before .before .before .before .before .before .before .before .before .args .back .now) (c .before .before .before .before .before .before .before .before .before .before .before .before .before .before .args .k) (c .before .before .before .before .before .before .before .before .loop .x) (c .before .before .before .before .met .ensures) (c .one .ensures), ind-le (admits (c .before .before .before .before .before .before .before .before .before .before .before .before .before .before .args .area .now) (c .before .before .before .before .before .before .before .before .before .before .before .before .before .before .args .at) (c .before .before .before .before .before .before .before .before .before .before .before .before .before .before .args .own) (c .before .before .before .before .before .before .before .before .before .before .before .before .before .before .args .ahead .now) (c .before .before .before .before .before .before .before .before .before .before .before .before .before .before .args .behind .now) (c .before .before .before .before .before .before .before .before .before .before .before .before .before .before .args .out .now) (c .before .before .before .before .before .before .before .before .before .before .before .before .before .before .args .back .now) (c .before .before .before .before .before .before .before .before .before .before .before .before .before .before .args .k) (c .before .before .before .before .before .before .before .before .loop .x)))
+add-all c = omega (arith, c .one .ensures .1)
 
 add-x : tie.Need-add-x Inv-loop μ-loop
 add-x c = search needs
@@ -66,7 +66,7 @@ loop-less : tie.Need-loop-less Inv-loop μ-loop
 loop-less c = search needs
 
 loop-again : tie.Need-loop-again Inv-loop μ-loop
-loop-again c = (omega arith, omega (arith, admits-one (c .before .before .before .before .before .before .before .before .before .before .before .before .before .before .args .area .now) (c .before .before .before .before .before .before .before .before .before .before .before .before .before .before .args .at) (c .before .before .before .before .before .before .before .before .before .before .before .before .before .before .args .own) (c .before .before .before .before .before .before .before .before .before .before .before .before .before .before .args .ahead .now) (c .before .before .before .before .before .before .before .before .before .before .before .before .before .before .args .behind .now) (c .before .before .before .before .before .before .before .before .before .before .before .before .before .before .args .out .now) (c .before .before .before .before .before .before .before .before .before .before .before .before .before .before .args .back .now) (c .before .before .before .before .before .before .before .before .before .before .before .before .before .before .args .k) (c .before .before .before .before .before .before .before .before .loop .x) (c .before .before .before .before .met .ensures) (c .one .ensures), count-more (admits (c .before .before .before .before .before .before .before .before .before .before .before .before .before .before .args .area .now) (c .before .before .before .before .before .before .before .before .before .before .before .before .before .before .args .at) (c .before .before .before .before .before .before .before .before .before .before .before .before .before .before .args .own) (c .before .before .before .before .before .before .before .before .before .before .before .before .before .before .args .ahead .now) (c .before .before .before .before .before .before .before .before .before .before .before .before .before .before .args .behind .now) (c .before .before .before .before .before .before .before .before .before .before .before .before .before .before .args .out .now) (c .before .before .before .before .before .before .before .before .before .before .before .before .before .before .args .back .now) (c .before .before .before .before .before .before .before .before .before .before .before .before .before .before .args .k)) (c .before .before .before .before .before .before .before .before .loop .x)), omega (arith, admits-one (c .before .before .before .before .before .before .before .before .before .before .before .before .before .before .args .area .now) (c .before .before .before .before .before .before .before .before .before .before .before .before .before .before .args .at) (c .before .before .before .before .before .before .before .before .before .before .before .before .before .before .args .own) (c .before .before .before .before .before .before .before .before .before .before .before .before .before .before .args .ahead .now) (c .before .before .before .before .before .before .before .before .before .before .before .before .before .before .args .behind .now) (c .before .before .before .before .before .before .before .before .before .before .before .before .before .before .args .out .now) (c .before .before .before .before .before .before .before .before .before .before .before .before .before .before .args .back .now) (c .before .before .before .before .before .before .before .before .before .before .before .before .before .before .args .k) (c .before .before .before .before .before .before .before .before .loop .x) (c .before .before .before .before .met .ensures) (c .one .ensures), ind-le (admits (c .before .before .before .before .before .before .before .before .before .before .before .before .before .before .args .area .now) (c .before .before .before .before .before .before .before .before .before .before .before .before .before .before .args .at) (c .before .before .before .before .before .before .before .before .before .before .before .before .before .before .args .own) (c .before .before .before .before .before .before .before .before .before .before .before .before .before .before .args .ahead .now) (c .before .before .before .before .before .before .before .before .before .before .before .before .before .before .args .behind .now) (c .before .before .before .before .before .before .before .before .before .before .before .before .before .before .args .out .now) (c .before .before .before .before .before .before .before .before .before .before .before .before .before .before .args .back .now) (c .before .before .before .before .before .before .before .before .before .before .before .before .before .before .args .k) (c .before .before .before .before .before .before .before .before .loop .x))))
+loop-again c = (omega arith, omega (arith, admits-one (c .before .before .before .before .before .before .before .before .before .before .before .before .before .before .args .area .now) (c .before .before .before .before .before .before .before .before .before .before .before .before .before .before .args .at) (c .before .before .before .before .before .before .before .before .before .before .before .before .before .before .args .own) (c .before .before .before .before .before .before .before .before .before .before .before .before .before .before .args .ahead .now) (c .before .before .before .before .before .before .before .before .before .before .before .before .before .before .args .behind .now) (c .before .before .before .before .before .before .before .before .before .before .before .before .before .before .args .out .now) (c .before .before .before .before .before .before .before .before .before .before .before .before .before .before .args .back .now) (c .before .before .before .before .before .before .before .before .before .before .before .before .before .before .args .k) (c .before .before .before .before .before .before .before .before .loop .x) (c .before .before .before .before .met .ensures) (c .one .ensures .0), count-more (admits (c .before .before .before .before .before .before .before .before .before .before .before .before .before .before .args .area .now) (c .before .before .before .before .before .before .before .before .before .before .before .before .before .before .args .at) (c .before .before .before .before .before .before .before .before .before .before .before .before .before .before .args .own) (c .before .before .before .before .before .before .before .before .before .before .before .before .before .before .args .ahead .now) (c .before .before .before .before .before .before .before .before .before .before .before .before .before .before .args .behind .now) (c .before .before .before .before .before .before .before .before .before .before .before .before .before .before .args .out .now) (c .before .before .before .before .before .before .before .before .before .before .before .before .before .before .args .back .now) (c .before .before .before .before .before .before .before .before .before .before .before .before .before .before .args .k)) (c .before .before .before .before .before .before .before .before .loop .x)), omega (arith, c .one .ensures .1))
 
 returns : tie.Need-returns Inv-loop μ-loop
 returns c = let e : c .before .loop .x ≡ c .before .before .before .before .before .before .before .args .z = omega arith in c .before .loop .inv .1 ∙ ap (count (admits (c .before .before .before .before .before .before .before .args .area .now) (c .before .before .before .before .before .before .before .args .at) (c .before .before .before .before .before .before .before .args .own) (c .before .before .before .before .before .before .before .args .ahead .now) (c .before .before .before .before .before .before .before .args .behind .now) (c .before .before .before .before .before .before .before .args .out .now) (c .before .before .before .before .before .before .before .args .back .now) (c .before .before .before .before .before .before .before .args .k))) e
