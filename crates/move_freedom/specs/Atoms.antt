@@ -123,8 +123,8 @@ module _ {load : Load} {n : ℕ} {area : List ℕ} {atom : ℕ} (can : CanCount 
       inside = omega (arith, can .loadable .sizes .area);
     }
 
-    pub open-asks : CanOpen area (n * n + 24 + 8 * n) (getD area (n * n) 0) s t (load .D + load .E)
-    open-asks = record { slots = short; sources = omega (arith, short); targets = omega (arith, short); ends = ends; few = few; inside = omega (arith, can .ranged .few, can .loadable .sizes .area) }
+    pub open-asks : CanOpen area (n * n + 24 + 8 * n) (getD area (n * n) 0) (getD area (atomAt n + atom) 0) s t (load .D + load .E)
+    open-asks = record { slots = short; sources = omega (arith, short); targets = omega (arith, short); ends = ends; few = few; inside = omega (arith, can .ranged .few, can .loadable .sizes .area); there = can .ranged .nodes atom (can .there) }
 
     abbrev cut-cyclic : Bool
     cut-cyclic = cyclic (cut (slotEdge s t m) z) (below z)

@@ -1,5 +1,5 @@
 -- How many nodes an atom may go to, by flags. Assumes nothing.
-use Prim.Native.Nat.{ℕ, _+_, _≤_}
+use Prim.Native.Nat.{ℕ, _+_, _≤_, _<_}
 use mathlib.Core.Path.{_≡_, ap, _∙_}
 use mathlib.Core.Bool.{Bool, not, _&&_}
 use mathlib.Core.List.{List}
@@ -25,13 +25,14 @@ pub record CanMeet (out back : List ℕ) (n : ℕ) : Type 0 where
   pub backs : n ≤ length back
   pub few : n ≤ 1025
 
-pub record CanTally (area : List ℕ) (from z : ℕ) (ahead behind out back : List ℕ) : Type 0 where
+pub record CanTally (area : List ℕ) (from z own : ℕ) (ahead behind out back : List ℕ) : Type 0 where
   pub inside : from + z ≤ length area
   pub aheads : z ≤ length ahead
   pub behinds : z ≤ length behind
   pub outs : z + 1 ≤ length out
   pub backs : z + 1 ≤ length back
   pub few : z ≤ 1024
+  pub there : own < z
 
 pub record CanOccupied (area : List ℕ) (from z : ℕ) : Type 0 where
   pub inside : from + z ≤ length area

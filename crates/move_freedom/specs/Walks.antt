@@ -156,13 +156,14 @@ stepped-out s t m z ends few only e x = alike _ _ there here
         (eq-eqb (getD t (k .0) 0) x (k .3)))
 
 -- m slots between z + 1 nodes, and the atom counts of z nodes in an area
-pub record CanOpen (area : List ℕ) (from z : ℕ) (s t : List ℕ) (m : ℕ) : Type 0 where
+pub record CanOpen (area : List ℕ) (from z own : ℕ) (s t : List ℕ) (m : ℕ) : Type 0 where
   pub slots : m ≤ 8448
   pub sources : m ≤ length s
   pub targets : m ≤ length t
   pub ends : Ends s t (z + 1) m
   pub few : z ≤ 1024
   pub inside : from + z ≤ length area
+  pub there : own < z
 
 pub record CanLeave (s t : List ℕ) (m z : ℕ) (out : List ℕ) : Type 0 where
   pub sources : m ≤ length s
@@ -188,7 +189,7 @@ module _ {s t : List ℕ} {m z : ℕ} {out : List ℕ} (can : CanLeave s t m z o
   pub leave-done : {out′ : List ℕ} → Flagged s t only none m out out′ → Leaves s t m z out out′
   leave-done {out′} v = record { each = λ x b. v .each x b ∙ ap (λ u. cond u 1 (getD out x 0)) (stepped-out s t m z (can .ends) (can .few) only e x); long = v .long }
 
-module _ {area : List ℕ} {from z : ℕ} {s t : List ℕ} {m : ℕ} (can : CanOpen area from z s t m) where
+module _ {area : List ℕ} {from z own : ℕ} {s t : List ℕ} {m : ℕ} (can : CanOpen area from z own s t m) where
   turned-ends : Ends t s (z + 1) m
   turned-ends = record { source = can .ends .target; target = can .ends .source }
 
@@ -219,7 +220,7 @@ module _ {area : List ℕ} {from z : ℕ} {s t : List ℕ} {m : ℕ} (can : CanO
     leaves-can = record { sources = can .sources; targets = can .targets; ends = can .ends; few = can .few; room = omega arith }
 
     module _ {ah be ou : List ℕ} (v : Flagged s t fo z m (replicate 1025 0) ah) (w : Flagged t s ba z m (replicate 1025 0) be) (l : Leaves s t m z (replicate 1025 0) ou) where
-      pub tally-can : CanTally area from z ah be ou ba
+      pub tally-can : CanTally area from z own ah be ou ba
       tally-can = record {
         inside = can .inside;
         aheads = omega (arith, can .few, v .long);
@@ -227,6 +228,7 @@ module _ {area : List ℕ} {from z : ℕ} {s t : List ℕ} {m : ℕ} (can : CanO
         outs = omega (arith, can .few, l .long);
         backs = omega (arith, can .few, reached-long (slotEdge t s m) (z + 1) z q);
         few = can .few;
+        there = can .there;
       }
 
       flat : (u : Bool) (x : ℕ) → x < 1025 → cond u 1 (getD (replicate 1025 0) x 0) ≡ ind u
@@ -254,10 +256,10 @@ module _ {area : List ℕ} {from z : ℕ} {s t : List ℕ} {m : ℕ} (can : CanO
       both-at x b = ap (λ u. u && not (eqb (getD ba x 0) 0)) (up (slotEdge s t m z x) (out-at x b)) ∙ ap (λ u. slotEdge s t m z x && u) (up (back (slotEdge s t m) z (z + 1) x) (back-at x b))
 
       -- the nodes that are counted
-      pub opened : (own : ℕ) {r : ℕ} → r ≡ count (admits area from own ah be ou ba (count (both ou ba) (z + 1))) z
+      pub opened : {r : ℕ} → r ≡ count (admits area from own ah be ou ba (count (both ou ba) (z + 1))) z
           → r ≡ count (λ X. occupiedAt area from X && (not (eqb X own) && free-by (slotEdge s t m) z (z + 1) X)) z
       unfolding free-by
-      opened own h = h ∙ count-ext _ _ z (λ X b. ap (λ u. occupiedAt area from X && (not (eqb X own) && u)) (each X b))
+      opened h = h ∙ count-ext _ _ z (λ X b. ap (λ u. occupiedAt area from X && (not (eqb X own) && u)) (each X b))
         where
           each : (X : ℕ) → X < z
               → (eqb (getD ah X 0) 0 && (eqb (getD be X 0) 0 && eqb (count (both ou ba) (z + 1)) (ind (both ou ba X))))

@@ -68,7 +68,7 @@ fn open_nodes(
     back: &[u32],
     k: u32,
 ) -> u32
-    requires { ⌜ CanTally (now area) at z (now ahead) (now behind) (now out) (now back) ⌝ }
+    requires { ⌜ CanTally (now area) at z own (now ahead) (now behind) (now out) (now back) ⌝ }
     ensures { λ r. ⌜ r ≡ count (admits (now (area .entry)) at own (now (ahead .entry)) (now (behind .entry)) (now (out .entry)) (now (back .entry)) k) z ⌝ }
 {
     let mut all = 0;
@@ -92,7 +92,7 @@ pub fn open_to(
     out: &[u32],
     back: &[u32],
 ) -> u32
-    requires { ⌜ CanTally (now area) at z (now ahead) (now behind) (now out) (now back) ⌝ }
+    requires { ⌜ CanTally (now area) at z own (now ahead) (now behind) (now out) (now back) ⌝ }
     ensures { λ r. ⌜ r ≡ count (admits (now (area .entry)) at own (now (ahead .entry)) (now (behind .entry)) (now (out .entry)) (now (back .entry)) (count (both (now (out .entry)) (now (back .entry))) (z + 1))) z ⌝ }
 {
     let k = meeting(out, back, z + 1);

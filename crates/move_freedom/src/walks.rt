@@ -44,7 +44,7 @@ pub fn open_nodes(
     targets: &[u32],
     m: usize,
 ) -> u32
-    requires { ⌜ CanOpen (now area) at z (now sources) (now targets) m ⌝ }
+    requires { ⌜ CanOpen (now area) at z own (now sources) (now targets) m ⌝ }
     ensures { λ r. ⌜ r ≡ count (λ X. occupiedAt (now (area .entry)) at X && (not (eqb X own) && free-by (slotEdge (now (sources .entry)) (now (targets .entry)) m) z (z + 1) X)) z ⌝ }
 {
     let mut forth = [0u32; 1025];

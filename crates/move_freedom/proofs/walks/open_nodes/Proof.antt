@@ -68,7 +68,7 @@ open-to-requires : tie.Need-open-to-requires
 open-to-requires c κs = tally-can (c .before .before .before .before .before .before .before .before .before .before .before .before .before .before .before .before .before .before .before .before .before .before .before .before .pre) (c .before .before .before .before .before .before .before .before .before .before .before .before .before .before .before .before .before .before .before .reach .ensures) (c .before .before .before .before .before .before .before .before .before .before .before .before .before .before .before .before .reach2 .ensures) (c .before .before .before .before .before .before .before .before .before .before .before .before .steps .ensures) (c .before .before .before .before .before .before .before .before .steps2 .ensures) (c .before .before .before .before .before .leaving .ensures)
 
 returns : tie.Need-returns
-returns c = opened (c .before .before .before .before .before .before .before .before .before .before .before .before .before .before .before .before .before .before .before .before .before .before .before .before .before .pre) (c .before .before .before .before .before .before .before .before .before .before .before .before .before .before .before .before .before .before .before .before .reach .ensures) (c .before .before .before .before .before .before .before .before .before .before .before .before .before .before .before .before .before .reach2 .ensures) (c .before .before .before .before .before .before .before .before .before .before .before .before .before .steps .ensures) (c .before .before .before .before .before .before .before .before .before .steps2 .ensures) (c .before .before .before .before .before .before .leaving .ensures) (c .before .before .before .before .before .before .before .before .before .before .before .before .before .before .before .before .before .before .before .before .before .before .before .before .before .args .own) (c .open-to .ensures)
+returns c = opened (c .before .before .before .before .before .before .before .before .before .before .before .before .before .before .before .before .before .before .before .before .before .before .before .before .before .pre) (c .before .before .before .before .before .before .before .before .before .before .before .before .before .before .before .before .before .before .before .before .reach .ensures) (c .before .before .before .before .before .before .before .before .before .before .before .before .before .before .before .before .before .reach2 .ensures) (c .before .before .before .before .before .before .before .before .before .before .before .before .before .steps .ensures) (c .before .before .before .before .before .before .before .before .before .steps2 .ensures) (c .before .before .before .before .before .before .leaving .ensures) (c .open-to .ensures)
 
 pub open-nodes-spec : {M : Type 1} → statement M
 open-nodes-spec =
