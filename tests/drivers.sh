@@ -49,14 +49,17 @@ planted_targets() {
 build header tests/header.c
 build moves_limits tests/moves_limits.c
 build merge_limits tests/merge_limits.c
+build freedom tests/freedom.c
 build replay tests/replay.c tests/replay_moves.c tests/replay_merges.c
 build targets tests/targets.c
 : > "$out/moves_limits.in"
 : > "$out/merge_limits.in"
+: > "$out/freedom.in"
 cp tests/oracle/recorded.txt "$out/replay.in"
 "$out/header" || fail "the C interface by its header"
 compare moves_limits
 compare merge_limits
+compare freedom
 tests/oracle/expected.py < tests/oracle/recorded.txt | diff - tests/expected/replay.txt || fail "tests/expected/replay.txt isn't of recorded.txt"
 compare replay
 planted_answers
