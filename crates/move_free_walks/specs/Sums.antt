@@ -19,8 +19,8 @@ use Rattle.entry_set.specs.Sets.{value, legal, words, width}
 use Rattle.entry_set.specs.JoinedLaws.{length-parts, joined-parts}
 use Rattle.move_ledger.specs.Graph.{Load, at, edge, rising, sum}
 use Rattle.move_ledger.specs.GraphLaws.{outside-stays}
-use Rattle.move_ledger.specs.Listing.{Rising, none, next, rising-rising, has-rising, has-bound}
-use Rattle.move_ledger.specs.Answer.{Report, Answer, refused, accepted, rejected, is-refused, is-accepted}
+use Rattle.move_ledger.specs.Listing.{Rising, none, next, rising-rising, has-rising}
+use Rattle.move_ledger.specs.Answer.{Answer, refused, accepted, rejected, is-refused, is-accepted}
 use Rattle.move_ledger.specs.Ledger.{step1, stays, report, decide}
 use Rattle.move_ledger.specs.MoveLaws.{choose, decide-chooses}
 use Rattle.move_ledger.specs.Evict.{total-add}

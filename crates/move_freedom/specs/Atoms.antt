@@ -2,7 +2,7 @@
 use Prim.Native.Nat.{ℕ, _+_, _-_, _*_, _^_, _≤_, _<_}
 use native.Mathlib.Omega.{arith}
 use mathlib.Core.Path.{_≡_, refl, sym, ap, ap₂, subst, _∙_}
-use mathlib.Core.Bool.{Bool, true, false, not, cond, _&&_, true≢false}
+use mathlib.Core.Bool.{Bool, true, false, not, cond, _&&_}
 use mathlib.Core.List.{List, []}
 use lib.Dec.{eqb, ltb}
 use lib.ListN.{length, getD, set}
@@ -12,10 +12,9 @@ use Rattle.graphs.specs.Lists.{below}
 use Rattle.graphs.specs.Slots.{slotEdge, Ends}
 use Rattle.graphs.specs.Total.{total, total-none, total-more}
 use Rattle.graphs.specs.Walk.{cyclic}
-use Rattle.layout.specs.Patch.{part-long, part-at}
-use Rattle.move_ledger.specs.Graph.{Load, none, at, members, occupied, edge, rising}
-use Rattle.move_ledger.specs.Answer.{Answer, is-accepted}
-use Rattle.move_ledger.specs.Ledger.{stays}
+use Rattle.layout.specs.Patch.{part-at}
+use Rattle.move_ledger.specs.Graph.{Load, none, at, occupied, edge, rising}
+use Rattle.move_ledger.specs.Answer.{is-accepted}
 use Rattle.move_ledger.specs.LoadLaws.{Loadable}
 use Rattle.move_ledger.specs.Nodes.{placed, Placing, node-edge, sources, targets}
 use Rattle.move_ledger.specs.NodeLaws.{placed-length, placed-at}

@@ -8,11 +8,11 @@ use mathlib.Core.List.{List, []}
 use lib.Dec.{eqb}
 use lib.ListN.{length, getD, set, replicate, length-set, getD-replicate}
 use lib.Seq.{getD-set-same, getD-set-other}
-use borrow.Author.Tests.{ltb-true, lt-ltb, eqb-true, eqb-false, eq-eqb, ne-eqb, not-true}
+use borrow.Author.Tests.{ltb-true, lt-ltb, eqb-true, eqb-false, eq-eqb, not-true}
 use Rattle.graphs.specs.Bools.{and-left, and-right, and-both, alike}
 use Rattle.graphs.specs.Count.{ind, count, count-ext, count-pos}
 use Rattle.graphs.specs.Lists.{below, some-below, some-give, some-take}
-use Rattle.graphs.specs.Slots.{same, slot, mult, slotEdge, Ends}
+use Rattle.graphs.specs.Slots.{slot, mult, slotEdge, Ends}
 use Rattle.graphs.specs.SlotLaws.{same-yes, edge-slot, slot-turned}
 use Rattle.graphs.specs.Tab.{tab-length, tab-at}
 use Rattle.graphs.specs.Walk.{via}
