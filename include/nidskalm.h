@@ -111,6 +111,12 @@ typedef struct {
     uint64_t refusal, found, from0, from1, from2, from3, to0, to1, to2, to3, multiplicity;
 } nidskalm_edge_reply;
 
+/* For every atom and every occupied set other than its own, how many moves would be accepted, rejected, or refused as the
+ * atom is fixed. They add up to atoms * (occupied sets - 1), or 0 without atoms. */
+typedef struct {
+    uint64_t refusal, accepted, rejected, fixed;
+} nidskalm_freedom_reply;
+
 /* ---- The move graph ----
  *
  * Every call is lent the load: A atoms, D dependencies, E entry bits, room for N sets; `starts` (A + 1) and
@@ -236,6 +242,15 @@ nidskalm_reply nidskalm_reduced_chunk_graph_start_order(
     const uint32_t *fixed, size_t fixed_length,
     const uint32_t *area, size_t area_length,
     uint64_t bit, uint32_t *chunks, size_t chunks_length);
+
+/* How free the plan is: each atom tried, without a move, with each occupied set other than its own. */
+nidskalm_freedom_reply nidskalm_reduced_chunk_graph_freedom(
+    uint64_t a, uint64_t d, uint64_t e, uint64_t n,
+    const uint32_t *starts, size_t starts_length,
+    const uint32_t *dependencies, size_t dependencies_length,
+    const uint32_t *hosts, size_t hosts_length,
+    const uint32_t *fixed, size_t fixed_length,
+    const uint32_t *area, size_t area_length);
 
 /* ---- The merge graph ----
  *

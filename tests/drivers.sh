@@ -49,6 +49,7 @@ planted_targets() {
 build header tests/header.c
 build moves_limits tests/moves_limits.c
 build merge_limits tests/merge_limits.c
+build freedom tests/freedom.c
 build replay tests/replay.c tests/replay_moves.c tests/replay_merges.c
 build targets tests/targets.c
 build refusals tests/refusals.c include/nidskalm_refusal.c
@@ -57,12 +58,14 @@ build plan examples/c/plan.c include/nidskalm_refusal.c
 : > "$out/merge_limits.in"
 : > "$out/refusals.in"
 : > "$out/plan.in"
+: > "$out/freedom.in"
 cp tests/oracle/recorded.txt "$out/replay.in"
 "$out/header" || fail "the C interface by its header"
 compare plan
 compare refusals
 compare moves_limits
 compare merge_limits
+compare freedom
 tests/oracle/expected.py < tests/oracle/recorded.txt | diff - tests/expected/replay.txt || fail "tests/expected/replay.txt isn't of recorded.txt"
 compare replay
 planted_answers

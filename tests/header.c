@@ -43,6 +43,8 @@ static void moves(void) {
     expect("the number of edges", reply.refusal, reply.value, 0, 1);
     reply = nidskalm_reduced_chunk_graph_chunk_count(LOAD, area, length);
     expect("the number of chunks", reply.refusal, reply.value, 0, 2);
+    nidskalm_freedom_reply freedom = nidskalm_reduced_chunk_graph_freedom(LOAD, area, length);
+    expect("freedom", freedom.refusal, freedom.accepted * 100 + freedom.rejected * 10 + freedom.fixed, 0, 111);
     nidskalm_edge_reply edge = nidskalm_reduced_chunk_graph_edge_at(LOAD, area, length, 0);
     expect("an edge", edge.refusal, edge.from0 * 100 + edge.to0 * 10 + edge.multiplicity, 0, 211);
     edge = nidskalm_reduced_chunk_graph_edge_at(LOAD, area, length, 1);

@@ -4,7 +4,7 @@
 //! What lies beyond is not touched. A load's numbers of atoms, dependencies and entry bits, the number of initial
 //! chunks, and those of chunks and modules of [`Entries`], are taken from the lengths of the lists in [`Load`],
 //! [`InitialChunks`] and [`Entries`]. Every row of refusals can still occur.
-use crate::raw::{self, EdgeReply, MoveReply, Reply, SetReply};
+use crate::raw::{self, EdgeReply, FreedomReply, MoveReply, Reply, SetReply};
 use crate::{Entries, InitialChunks, Load, Mode, Size};
 
 /// Numbers that a move graph's area must have, or none where the sizes are over the limits.
@@ -101,6 +101,11 @@ pub fn reduced_chunk_graph_edge_count(load: &Load, n: u64, area: &[u32]) -> Repl
 /// The number of chunks: sets that have an atom.
 pub fn reduced_chunk_graph_chunk_count(load: &Load, n: u64, area: &[u32]) -> Reply {
     with_load!(nidskalm_reduced_chunk_graph_chunk_count, load, n, area.as_ptr(), area.len())
+}
+
+/// How free the plan is.
+pub fn reduced_chunk_graph_freedom(load: &Load, n: u64, area: &[u32]) -> FreedomReply {
+    with_load!(nidskalm_reduced_chunk_graph_freedom, load, n, area.as_ptr(), area.len())
 }
 
 /// The k-th edge, from 0, by rising source set, then target set.

@@ -45,7 +45,7 @@ pub use entries::Entries;
 pub use entry_set::{Bits, EntrySet};
 pub use load::{Load, OwnedLoad};
 pub use merge_graph::{Assignment, ChunkIdx, InitialChunks, MergeGraph, Mode, ModuleIdx, Size};
-pub use move_graph::{Chunk, Edge, Edges, MoveGraph, Moved};
+pub use move_graph::{Chunk, Edge, Edges, Freedom, MoveGraph, Moved};
 pub use refusal::{RankError, Refusal};
 
 /// No host for an entry bit.

@@ -16,6 +16,18 @@ pub struct Edge {
     pub multiplicity: u64,
 }
 
+/// How free a plan is: the pairs of an atom and an occupied set other than its own, counted by what a move would be answered. They
+/// add up to atoms × (occupied sets - 1).
+#[derive(Clone, Copy, Debug, PartialEq, Eq)]
+pub struct Freedom {
+    /// The move would be accepted.
+    pub accepted: u64,
+    /// It would be rejected.
+    pub rejected: u64,
+    /// The atom is fixed.
+    pub fixed: u64,
+}
+
 /// What a move came to: whether it is accepted, and then how many distinct edges came and went and how many other chunks the
 /// atom's chunk reaches. An edge that both graphs have counts as neither; a rejected move has zeros.
 #[derive(Clone, Copy, Debug, PartialEq, Eq)]
@@ -242,6 +254,22 @@ impl<'a> MoveGraph<'a> {
     pub fn chunk_count(&self) -> Result<u64, Refusal> {
         let reply = lent::reduced_chunk_graph_chunk_count(&self.load(), self.sets, &self.area);
         Refusal::check(reply.refusal, reply.value)
+    }
+
+    /// How free the plan is: each atom tried, without a move, with each occupied set other than its own.
+    ///
+    /// ```
+    /// use nidskalm::{EntrySet, Freedom, Load, MoveGraph, NONE};
+    ///
+    /// let load = Load { starts: &[0, 1, 1, 2], dependencies: &[1, 0], hosts: &[NONE; 3], fixed: &[0, 0, 7] };
+    /// let graph = MoveGraph::new(load, 4, &[6, 5, 3].map(EntrySet::from))?;
+    /// assert_eq!(graph.freedom()?, Freedom { accepted: 3, rejected: 1, fixed: 2 });
+    /// # Ok::<(), nidskalm::Refusal>(())
+    /// ```
+    pub fn freedom(&self) -> Result<Freedom, Refusal> {
+        let reply = lent::reduced_chunk_graph_freedom(&self.load(), self.sets, &self.area);
+        let freedom = Freedom { accepted: reply.accepted, rejected: reply.rejected, fixed: reply.fixed };
+        Refusal::check(reply.refusal, freedom)
     }
 
     /// The k-th edge, from 0, by rising source set, then target set; none past the last.

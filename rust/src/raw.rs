@@ -31,6 +31,20 @@ pub struct MoveReply {
     pub reached: u64,
 }
 
+/// A refusal's row and the three counts of a plan's freedom; zeros where it is refused.
+#[repr(C)]
+#[derive(Clone, Copy, Debug, Default, PartialEq, Eq)]
+pub struct FreedomReply {
+    /// 0, or the number of the row that refused the call.
+    pub refusal: u64,
+    /// Pairs of an atom and an occupied set other than its own whose move would be accepted.
+    pub accepted: u64,
+    /// Pairs whose move would be rejected.
+    pub rejected: u64,
+    /// Pairs of a fixed atom.
+    pub fixed: u64,
+}
+
 /// A refusal's row and a set, bit 0 lowest in `set0`.
 #[repr(C)]
 #[derive(Clone, Copy, Debug, Default, PartialEq, Eq)]
@@ -91,6 +105,8 @@ unsafe extern "C" {
     pub fn nidskalm_reduced_chunk_graph_edge_count(a: u64, d: u64, e: u64, n: u64, starts: *const u32, starts_length: usize, dependencies: *const u32, dependencies_length: usize, hosts: *const u32, hosts_length: usize, fixed: *const u32, fixed_length: usize, area: *const u32, area_length: usize) -> Reply;
     /// The number of chunks: sets that have an atom.
     pub fn nidskalm_reduced_chunk_graph_chunk_count(a: u64, d: u64, e: u64, n: u64, starts: *const u32, starts_length: usize, dependencies: *const u32, dependencies_length: usize, hosts: *const u32, hosts_length: usize, fixed: *const u32, fixed_length: usize, area: *const u32, area_length: usize) -> Reply;
+    /// How free the plan is.
+    pub fn nidskalm_reduced_chunk_graph_freedom(a: u64, d: u64, e: u64, n: u64, starts: *const u32, starts_length: usize, dependencies: *const u32, dependencies_length: usize, hosts: *const u32, hosts_length: usize, fixed: *const u32, fixed_length: usize, area: *const u32, area_length: usize) -> FreedomReply;
     /// The k-th edge, from 0, by rising source set, then target set.
     pub fn nidskalm_reduced_chunk_graph_edge_at(a: u64, d: u64, e: u64, n: u64, starts: *const u32, starts_length: usize, dependencies: *const u32, dependencies_length: usize, hosts: *const u32, hosts_length: usize, fixed: *const u32, fixed_length: usize, area: *const u32, area_length: usize, k: u64) -> EdgeReply;
     /// Ranks two areas of one load; value 0 before, 1 equal, 2 after.

@@ -1,11 +1,14 @@
 // The calls of the move graph.
+use nidskalm_replies::FreedomReply;
+use nidskalm_replies::of_freedom;
 ghost use mathlib.Core.Path.{_≡_};
 ghost use Rattle.move_ledger.specs.Graph.{lent};
 ghost use Rattle.move_ledger.specs.Ledger as ledger;
 ghost use Rattle.move_area.specs.Calls as calls;
 ghost use Rattle.move_order.specs.Order.{started};
 ghost use Rattle.move_rank.specs.Ranking.{ranking};
-ghost use Rattle.nidskalm_replies.specs.Replies.{move-reply, try-reply, set-reply, edge-reply};
+ghost use Rattle.nidskalm_replies.specs.Replies.{move-reply, try-reply, set-reply, edge-reply, freedom-reply};
+ghost use Rattle.plan_freedom.specs.Told.{told};
 use nidskalm_replies::EdgeReply;
 use nidskalm_replies::MoveReply;
 use nidskalm_replies::Reply;
@@ -348,5 +351,33 @@ pub extern "C" fn nidskalm_reduced_chunk_graph_start_order(
         area,
         bit,
         chunks,
+    ))
+}
+
+// For every atom and every occupied set other than its own, how many moves would be accepted, rejected, or refused as the atom is fixed.
+#[no_mangle]
+pub extern "C" fn nidskalm_reduced_chunk_graph_freedom(
+    a: u64,
+    d: u64,
+    e: u64,
+    n: u64,
+    starts: &[u32],
+    dependencies: &[u32],
+    hosts: &[u32],
+    fixed: &[u32],
+    area: &[u32],
+) -> FreedomReply
+    ensures { λ r. ⌜ r ≡ freedom-reply (told (lent a d e (now (starts .entry)) (now (dependencies .entry)) (now (hosts .entry))) (now (fixed .entry)) n (now (area .entry))) ⌝ }
+{
+    of_freedom(plan_freedom::freedom(
+        a as usize,
+        d as usize,
+        e as usize,
+        n as usize,
+        starts,
+        dependencies,
+        hosts,
+        fixed,
+        area,
     ))
 }

@@ -7,6 +7,7 @@ use Rattle.entry_set.specs.Sets.{entrySet}
 use Rattle.entry_set.specs.declared.EntrySet.{EntrySet}
 use Rattle.move_ledger.specs.Graph.{Edge}
 use Rattle.move_ledger.specs.Answer as moved
+use Rattle.plan_freedom.specs.Told as told
 use Rattle.merge_state.specs.State.{None}
 use Rattle.merge_state.specs.Table as merged
 use Rattle.chunk_optimizer.specs.declared.PassAnswer.{PassAnswer}
@@ -15,6 +16,7 @@ use Rattle.nidskalm_replies.specs.declared.Reply.{Reply}
 use Rattle.nidskalm_replies.specs.declared.MoveReply.{MoveReply}
 use Rattle.nidskalm_replies.specs.declared.SetReply.{SetReply}
 use Rattle.nidskalm_replies.specs.declared.EdgeReply.{EdgeReply}
+use Rattle.nidskalm_replies.specs.declared.FreedomReply.{FreedomReply}
 
 -- row q refuses the call: the other fields are 0
 abbrev pub refusing : ℕ → Reply
@@ -55,6 +57,11 @@ try-reply (moved.number k) = no-move 0
 try-reply (moved.set s) = no-move 0
 try-reply (moved.edge e) = no-move 0
 try-reply moved.none = no-move 0
+
+-- `freedom`
+unfoldable pub freedom-reply : told.Told → FreedomReply
+freedom-reply (told.refused q) = record { refusal = q; accepted = 0; rejected = 0; fixed = 0 }
+freedom-reply (told.counts f) = record { refusal = 0; accepted = f .accepted; rejected = f .rejected; fixed = f .fixed }
 
 -- a set's four numbers
 abbrev pub set-answering : ℕ → List ℕ → SetReply

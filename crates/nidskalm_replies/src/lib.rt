@@ -3,16 +3,18 @@ ghost use mathlib.Core.Path.{_≡_};
 ghost use Rattle.reduced_chunk_graph.specs.Answers.{ofLoad, ofMove, ofSet, ofNumber, ofRank, ofEdge};
 ghost use Rattle.chunk_optimizer.specs.Answers.{done-told, temp-told, said-told};
 ghost use Rattle.merge_target.specs.Answers.{target-told};
+ghost use Rattle.plan_freedom.specs.Told.{ofFreedom};
 ghost use mathlib.Core.List.{[], _∷_};
 ghost use Rattle.entry_set.specs.Sets.{value};
 ghost use Rattle.chunk_optimizer.specs.declared.TempIdxAnswer.the-variants as temps;
-ghost use Rattle.nidskalm_replies.specs.Replies.{refusing, answering, moving, no-edge, an-edge, move-reply, try-reply, set-reply, edge-reply, merge-reply, pass-reply};
+ghost use Rattle.nidskalm_replies.specs.Replies.{refusing, answering, moving, no-edge, an-edge, move-reply, try-reply, set-reply, edge-reply, freedom-reply, merge-reply, pass-reply};
 use chunk_optimizer::DoneAnswer;
 use chunk_optimizer::OptionChunkIdx;
 use chunk_optimizer::PassAnswer;
 use chunk_optimizer::TempIdxAnswer;
 use chunk_optimizer::YesNoAnswer;
 use merge_target::TargetAnswer;
+use plan_freedom::FreedomAnswer;
 use reduced_chunk_graph::EdgeAnswer;
 use reduced_chunk_graph::LoadAnswer;
 use reduced_chunk_graph::MoveAnswer;
@@ -62,6 +64,15 @@ pub struct EdgeReply {
     pub to2: u64,
     pub to3: u64,
     pub multiplicity: u64,
+}
+
+// For every atom and every occupied set other than its own, how many moves would be accepted, rejected, or refused as the atom is fixed.
+#[repr(C)]
+pub struct FreedomReply {
+    pub refusal: u64,
+    pub accepted: u64,
+    pub rejected: u64,
+    pub fixed: u64,
 }
 
 // Row q refuses the call.
@@ -124,6 +135,25 @@ pub fn of_move(answer: MoveAnswer) -> MoveReply
             appeared: 0,
             vanished: 0,
             reached: 0,
+        },
+    }
+}
+
+pub fn of_freedom(answer: FreedomAnswer) -> FreedomReply
+    ensures { λ r. ⌜ r ≡ freedom-reply (ofFreedom answer) ⌝ }
+{
+    match answer {
+        FreedomAnswer::Counts(counts) => FreedomReply {
+            refusal: 0,
+            accepted: counts.accepted,
+            rejected: counts.rejected,
+            fixed: counts.fixed,
+        },
+        FreedomAnswer::Refused(q) => FreedomReply {
+            refusal: q as u64,
+            accepted: 0,
+            rejected: 0,
+            fixed: 0,
         },
     }
 }
