@@ -20,7 +20,7 @@ use Rattle.entry_set.specs.JoinedLaws.{length-parts, joined-parts}
 use Rattle.move_ledger.specs.Graph.{Load, at, edge, rising, sum}
 use Rattle.move_ledger.specs.GraphLaws.{outside-stays}
 use Rattle.move_ledger.specs.Listing.{Rising, none, next, rising-rising, has-rising}
-use Rattle.move_ledger.specs.Answer.{Answer, refused, accepted, rejected, is-refused, is-accepted}
+use Rattle.move_ledger.specs.Answer.{Report, Answer, refused, accepted, rejected, is-refused, is-accepted}
 use Rattle.move_ledger.specs.Ledger.{step1, stays, report, decide}
 use Rattle.move_ledger.specs.MoveLaws.{choose, decide-chooses}
 use Rattle.move_ledger.specs.Evict.{total-add}
@@ -41,11 +41,14 @@ module _ (load : Load) (fixed place : List ℕ) (a X : ℕ) (n : length place �
   abbrev moved : List ℕ
   moved = set place a (value (words (width (load .E)) X))
 
+  abbrev reports : Report
+  reports = report load place moved (value (words (width (load .E)) X))
+
   v : value (words (width (load .E)) X) ≡ X
   v = words-value (load .E) X small
 
   chosen : (f : Answer → Bool) → f (decide load fixed place a (words (width (load .E)) X))
-      ≡ f (cond (stays fixed a) (refused 24) (cond (step1 load place a || cyclic (edge load moved) moved) rejected (accepted (report load place moved))))
+      ≡ f (cond (stays fixed a) (refused 24) (cond (step1 load place a || cyclic (edge load moved) moved) rejected (accepted reports)))
   unfolding choose
   chosen f =
       ap f
@@ -55,7 +58,7 @@ module _ (load : Load) (fixed place : List ℕ) (a X : ℕ) (n : length place �
   pub fixed-answer : is-fixed (decide load fixed place a (words (width (load .E)) X)) ≡ stays fixed a
   fixed-answer = chosen is-fixed ∙ go (stays fixed a) (step1 load place a || cyclic (edge load moved) moved)
     where
-      go : (f t : Bool) → is-fixed (cond f (refused 24) (cond t rejected (accepted (report load place moved)))) ≡ f
+      go : (f t : Bool) → is-fixed (cond f (refused 24) (cond t rejected (accepted reports))) ≡ f
       go true t = refl
       go false true = refl
       go false false = refl
@@ -63,7 +66,7 @@ module _ (load : Load) (fixed place : List ℕ) (a X : ℕ) (n : length place �
   pub refused-answer : is-refused (decide load fixed place a (words (width (load .E)) X)) ≡ is-fixed (decide load fixed place a (words (width (load .E)) X))
   refused-answer = chosen is-refused ∙ go (stays fixed a) (step1 load place a || cyclic (edge load moved) moved) ∙ sym (chosen is-fixed)
     where
-      go : (f t : Bool) → is-refused (cond f (refused 24) (cond t rejected (accepted (report load place moved)))) ≡ is-fixed (cond f (refused 24) (cond t rejected (accepted (report load place moved))))
+      go : (f t : Bool) → is-refused (cond f (refused 24) (cond t rejected (accepted reports))) ≡ is-fixed (cond f (refused 24) (cond t rejected (accepted reports)))
       go true t = refl
       go false true = refl
       go false false = refl
@@ -73,9 +76,9 @@ module _ (load : Load) (fixed place : List ℕ) (a X : ℕ) (n : length place �
   one-answer =
       omega (arith, ap ind (chosen is-accepted), ap ind (chosen is-rejected), ap ind (chosen is-fixed), go (stays fixed a) (step1 load place a || cyclic (edge load moved) moved))
     where
-      go : (f t : Bool) → ind (is-accepted (cond f (refused 24) (cond t rejected (accepted (report load place moved)))))
-          + ind (is-rejected (cond f (refused 24) (cond t rejected (accepted (report load place moved)))))
-          + ind (is-fixed (cond f (refused 24) (cond t rejected (accepted (report load place moved))))) ≡ 1
+      go : (f t : Bool) → ind (is-accepted (cond f (refused 24) (cond t rejected (accepted reports))))
+          + ind (is-rejected (cond f (refused 24) (cond t rejected (accepted reports))))
+          + ind (is-fixed (cond f (refused 24) (cond t rejected (accepted reports)))) ≡ 1
       go true t = refl
       go false true = refl
       go false false = refl
@@ -91,7 +94,7 @@ module _ (load : Load) (fixed place : List ℕ) (a X : ℕ) (n : length place �
           outside-stays load place a (value (words (width (load .E)) X)) n (and-left (cyclic (edge load place) place) _ h)
           (not-true _ (and-right (cyclic (edge load place) place) _ h))
 
-      go : (f t u : Bool) → (t ≡ true → u ≡ true) → is-accepted (cond f (refused 24) (cond (t || u) rejected (accepted (report load place moved)))) ≡ (not f && not u)
+      go : (f t u : Bool) → (t ≡ true → u ≡ true) → is-accepted (cond f (refused 24) (cond (t || u) rejected (accepted reports))) ≡ (not f && not u)
       go true t u h = refl
       go false true u h = sym (ap not (h refl))
       go false false true h = refl
