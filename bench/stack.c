@@ -31,6 +31,7 @@ static void atom_count(void) { refusal = nidskalm_reduced_chunk_graph_atom_count
 static void multiplicity(void) { refusal = nidskalm_reduced_chunk_graph_multiplicity(LOAD, bits, 4, bits, 4).refusal; }
 static void edge_count(void) { refusal = nidskalm_reduced_chunk_graph_edge_count(LOAD).refusal; }
 static void has_cycle(void) { refusal = nidskalm_reduced_chunk_graph_has_cycle(LOAD).refusal; }
+static void freedom(void) { refusal = nidskalm_reduced_chunk_graph_freedom(LOAD).refusal; }
 static void rank(void) { refusal = nidskalm_reduced_chunk_graph_rank(LOAD, area, sizeof area / sizeof *area).refusal; }
 static void chunk_count(void) { refusal = nidskalm_reduced_chunk_graph_chunk_count(LOAD).refusal; }
 static void edge_at(void) { refusal = nidskalm_reduced_chunk_graph_edge_at(LOAD, 3).refusal; }
@@ -143,6 +144,7 @@ static void moves(const char *name, uint64_t atoms, uint64_t entries, uint64_t r
     tell("`edge_at`", edge_at);
     tell("`rank`", rank);
     tell("`has_cycle`", has_cycle);
+    tell("`freedom`", freedom);
     if (!cyclic) tell("`start_order`", start_order);
     bits[3] = 0;
 }
