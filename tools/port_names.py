@@ -21,7 +21,7 @@ INNER = re.compile(r"^\s+(?:pub )?([^\s:(){}.,;=]+) :")
 
 
 # Of two definitions that would have one name in snake case, the other name of one.
-APART = {"state-of": "colour_of"}
+APART = {"state-of": "colour_of", "nodeAt": "atom_node", "set-of": "set_command"}
 
 
 def read(path):
@@ -35,6 +35,19 @@ def own(path):
     return parts[2] == "specs" or (parts[2] == "proofs" and len(parts) == 4)
 
 
+def plain(text):
+    """The lines of a file, those of a section `module _`, also of one inside another, as if they stood at its left."""
+    sections = [0]
+    for line in text.splitlines():
+        indent = len(line) - len(line.lstrip(" "))
+        if line.strip():
+            while indent < sections[-1]:
+                sections.pop()
+            if indent == sections[-1] and line.lstrip(" ").startswith("module "):
+                sections.append(indent + 2)
+        yield line[sections[-1] :] if line.startswith(" " * sections[-1]) else line
+
+
 def snake(word):
     return re.sub(r"(?<=[a-z0-9])([A-Z])", lambda m: "_" + m.group(1).lower(), word)
 
@@ -44,7 +57,7 @@ def declared(files):
     names, lemmas, inner = set(), set(), set()
     for path in files:
         inside = False
-        for line in read(path).splitlines():
+        for line in plain(read(path)):
             made, top = MADE.match(line), TOP.match(line)
             if made:
                 names.add(made.group(3))
@@ -106,7 +119,7 @@ def table(files):
 def scope(text, crate_names):
     """The names that a file declares or takes from this repository."""
     found = set()
-    for line in text.splitlines():
+    for line in plain(text):
         m = TOP.match(line) or MADE.match(line)
         if m:
             found.add(m.group(m.lastindex))

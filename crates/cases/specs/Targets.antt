@@ -3,7 +3,7 @@ use Rattle.std.specs.Prelude.{ℕ, ◌≡◌, refl, List, [], ◌∷◌}
 use Rattle.graphs.specs.Lists.{any, below}
 use Rattle.merge_state.specs.State.{misfit}
 use Rattle.merge_state.specs.Table.{Answer, refused, chunk, nothing, falling, bad_starts, any_misfit}
-use Rattle.merge_choice.specs.Choice.{Lists, lists, some_in, some_from, bits, role, first_below, some-role, imports, wins, first-target, unreached, leaks, dynamic-module, pollutes, polluted, there, strayed, guarded, user_target, dynamic_target, chosen, choice}
+use Rattle.merge_choice.specs.Choice.{Lists, lists, some_in, some_from, bits, role, first_below, some_role, imports, wins, first_target, unreached, leaks, dynamic_module, pollutes, polluted, there, strayed, guarded, user_target, dynamic_target, chosen, choice}
 use Rattle.merge_choice.specs.Find.{bad_lists, bad_entry, bad_lengths, bad_spans, bad_numbers, row23, row25, find, find_by}
 use Rattle.merge_choice.specs.Find as found
 
@@ -92,7 +92,7 @@ expected =
     ∷ refused 23 ∷ refused 23 ∷ refused 23 ∷ []
 
 pub targets_right : answers ≡ expected
-unfolding any below misfit falling bad_starts any_misfit some_in some_from bits role first_below some-role imports wins first-target unreached leaks dynamic-module pollutes polluted there strayed guarded user_target dynamic_target chosen choice bad_lists bad_entry bad_lengths bad_spans bad_numbers row23 found.told find
+unfolding any below misfit falling bad_starts any_misfit some_in some_from bits role first_below some_role imports wins first_target unreached leaks dynamic_module pollutes polluted there strayed guarded user_target dynamic_target chosen choice bad_lists bad_entry bad_lengths bad_spans bad_numbers row23 found.told find
 targets_right = refl
 
 -- by a bank's own classes, of the same chunks: two user entries or, where emitted ones are dynamic, one of each
@@ -118,5 +118,5 @@ abbrev pub class_expected : List Answer
 class_expected = chunk 0 ∷ nothing ∷ chunk 0 ∷ refused 25 ∷ refused 25 ∷ refused 25 ∷ refused 25 ∷ refused 23 ∷ []
 
 pub class_targets_right : class_answers ≡ class_expected
-unfolding any below misfit falling bad_starts any_misfit some_in some_from bits role first_below some-role imports wins first-target unreached leaks dynamic-module pollutes polluted there strayed guarded user_target dynamic_target chosen choice bad_lists bad_entry bad_lengths bad_spans bad_numbers row23 row25 found.told find_by
+unfolding any below misfit falling bad_starts any_misfit some_in some_from bits role first_below some_role imports wins first_target unreached leaks dynamic_module pollutes polluted there strayed guarded user_target dynamic_target chosen choice bad_lists bad_entry bad_lengths bad_spans bad_numbers row23 row25 found.told find_by
 class_targets_right = refl

@@ -39,8 +39,8 @@ module _ (input : List ℕ) {k : ℕ} (e : k ≡ before_newline input) (b : k �
   pub asked-empty : k ≡ 0 → 0 ≡ asked input
   asked-empty h = rw (eq-eqb (length (take k input)) 0 (omega (arith, long))) at whole
 
-  pub asked-nought : (k ≡ 0 → ⊥) → at input 0 < 49 → 0 ≡ asked input
-  asked-nought h z =
+  pub asked_nought : (k ≡ 0 → ⊥) → at input 0 < 49 → 0 ≡ asked input
+  asked_nought h z =
       rw (ne_eqb (length (take k input)) 0 (λ q. omega (arith, long)), lt-ltb (at (take k input) 0) 49 (omega (arith, get_or-take k input 0 0 (omega arith)))) at whole
 
   pub asked-over : {v : ℕ} → v ≡ value 0 (take k input) → 512 < v → 0 ≡ asked input
@@ -51,8 +51,8 @@ module _ (input : List ℕ) {k : ℕ} (e : k ≡ before_newline input) (b : k �
       none false true = refl
       none false false = refl
 
-  pub asked-right : {v : ℕ} → (k ≡ 0 → ⊥) → 49 ≤ at input 0 → v ≡ value 0 (take k input) → v ≤ 512 → v ≡ asked input
-  asked-right {v} h z q l =
+  pub asked_right : {v : ℕ} → (k ≡ 0 → ⊥) → 49 ≤ at input 0 → v ≡ value 0 (take k input) → v ≤ 512 → v ≡ asked input
+  asked_right {v} h z q l =
       q
       ∙ (rw (
         ne_eqb (length (take k input)) 0 (λ q. omega (arith, long)),

@@ -5,7 +5,7 @@ use Rattle.std.proofs.Math.Decide.{ℕ_discrete}
 use Rattle.std.proofs.lemmas.Bool.{lt-leb}
 use Rattle.graphs.specs.Tab.{tab, tab-at}
 use Rattle.move_ledger.specs.Graph.{Load, none, at, owner}
-use Rattle.move_ledger.specs.LoadLaws.{Starts, owner-is}
+use Rattle.move_ledger.specs.LoadLaws.{Starts, owner_is}
 
 -- "a load of n atoms": "11 for each atom on the next, rising". "With E = 16"; no bit has a host
 abbrev pub chain : ℕ → Load
@@ -50,4 +50,4 @@ module _ (n : ℕ) where
   -- entry k is the dependency of atom k
   pub owner_at : (k : ℕ) → k < n - 1 → owner (chain n) k ≡ k
   owner_at k h =
-      owner-is starts k k (omega arith) (omega (arith, start-at k (omega arith))) (omega (arith, start-at (suc k) (omega arith)))
+      owner_is starts k k (omega arith) (omega (arith, start-at k (omega arith))) (omega (arith, start-at (suc k) (omega arith)))

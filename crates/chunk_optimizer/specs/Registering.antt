@@ -11,7 +11,7 @@ use Rattle.merge_area.specs.Layout.{room, cell, head}
 use Rattle.merge_area.specs.Within.{Within, Headed}
 use Rattle.merge_area.specs.Writes.{register_area, write}
 use Rattle.merge_area.specs.Calls.{standing, Called}
-use Rattle.merge_laws.specs.Rows.{fits_here, fits_next, fits-none, early, late, stood, refused-called, acted-called}
+use Rattle.merge_laws.specs.Rows.{fits_here, fits_next, fits-none, early, late, stood, refused_called, acted_called}
 
 -- the rows 14, 15 and 21 don't fit
 pub record Standing (z : Sizes) (a : List ℕ) : Type 0 where
@@ -26,20 +26,20 @@ module _ (z : Sizes) (a : List ℕ) {q : ℕ} (e : q ≡ standing z false false 
 
   pub turned-back : (k x : ℕ) {r : Answer} → (q ≡ 0 → ⊥) → r ≡ refused q → Called z a (register_chunk_graph_index k x) r a
   unfolding over_lists bad_lists
-  turned-back k x h p = refused-called z a _ (early z a (register_chunk_graph_index k x) e h) h p refl
+  turned-back k x h p = refused_called z a _ (early z a (register_chunk_graph_index k x) e h) h p refl
 
 module _ {z : Sizes} {a : List ℕ} (v : Standing z a) (k x : ℕ) where
   -- "registered key ≥ C"
-  pub key-past : {r : Answer} {after : List ℕ} → z.chunks ≤ k → r ≡ refused 16 → after ≡ a → Called z a (register_chunk_graph_index k x) r after
+  pub key_past : {r : Answer} {after : List ℕ} → z.chunks ≤ k → r ≡ refused 16 → after ≡ a → Called z a (register_chunk_graph_index k x) r after
   unfolding over_lists bad_lists later
-  key-past h p s = refused-called z a _ (late z a (register_chunk_graph_index k x) 0 16 v.row refl (fits_here _ 16 [] (or_left _ _ (le-leb _ _ h)))) (omega arith) p s
+  key_past h p s = refused_called z a _ (late z a (register_chunk_graph_index k x) 0 16 v.row refl (fits_here _ 16 [] (or_left _ _ (le-leb _ _ h)))) (omega arith) p s
 
   -- "chunk .. not yet made"
   pub not_made : {r : Answer} {after : List ℕ} → cell a (head z 1) ≤ x → r ≡ refused 16 → after ≡ a → Called z a (register_chunk_graph_index k x) r after
   unfolding over_lists bad_lists later
-  not_made h p s = refused-called z a _ (late z a (register_chunk_graph_index k x) 0 16 v.row refl (fits_here _ 16 [] (or_right (leb z.chunks k) _ (le-leb _ _ h)))) (omega arith) p s
+  not_made h p s = refused_called z a _ (late z a (register_chunk_graph_index k x) 0 16 v.row refl (fits_here _ 16 [] (or_right (leb z.chunks k) _ (le-leb _ _ h)))) (omega arith) p s
 
   pub registers : {r : Answer} {after : List ℕ} → k < z.chunks → x < cell a (head z 1) → r ≡ done → after ≡ register_area z a k x → Called z a (register_chunk_graph_index k x) r after
   unfolding over_lists bad_lists later acted write
   registers l h p s =
-      acted-called z a _ (late z a (register_chunk_graph_index k x) 0 0 v.row refl (fits_next _ 16 0 [] (or_false _ _ (lt-leb _ _ l) (lt-leb _ _ h)) fits-none)) refl p s
+      acted_called z a _ (late z a (register_chunk_graph_index k x) 0 0 v.row refl (fits_next _ 16 0 [] (or_false _ _ (lt-leb _ _ l) (lt-leb _ _ h)) fits-none)) refl p s

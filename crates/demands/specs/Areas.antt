@@ -16,7 +16,7 @@ use Rattle.move_area.specs.Held.{bodies-sized, consistent-held, consistent-whole
 use Rattle.move_area.specs.ListLaws.{alike_one}
 use Rattle.move_area.specs.Fixed.{flagged, checks_out}
 use Rattle.move_area.specs.Calls as on-area
-use Rattle.move_area.specs.History.{Holding, holding-decode, holding-checks, call_area, call_step}
+use Rattle.move_area.specs.History.{Holding, holding_decode, holding_checks, call_area, call_step}
 
 -- an area that no row from 1 to 9 turns back holds the ledger that is read from it
 pub holding : (load : Load) (fixed : List ℕ) (N : ℕ) (area : List ℕ) → refusal load fixed N (length area) ≡ 0 → checks_out load fixed N area ≡ true → Holding load fixed N area (decode load N area)
@@ -66,27 +66,27 @@ holding_fresh {load} {N} {area} {st} h =
       occupied-at = ap (λ (u : List ℕ). get_or u (N * N + 3) 0) (sym h.whole) ∙ read-occupied N load.A (bodies load N st) (bodies-sized h.held) area h.room;
       distinct_at = ap (λ (u : List ℕ). get_or u (N * N + 4) 0) (sym h.whole) ∙ read-distinct N load.A (bodies load N st) (bodies-sized h.held) area h.room;
       legal = h.legal;
-      checks = holding-checks h;
+      checks = holding_checks h;
     }
 
 -- a move on an area that holds a ledger answers as the ledger does, and so does the next one
-pub step_answer : (load : Load) (fixed : List ℕ) (N : ℕ) (area : List ℕ) (a : ℕ) (s : List ℕ) → Holding load fixed N area (decode load N area)
+pub step-answer : (load : Load) (fixed : List ℕ) (N : ℕ) (area : List ℕ) (a : ℕ) (s : List ℕ) → Holding load fixed N area (decode load N area)
     → (on-area.try_move load fixed N area a s).answer ≡ (move load fixed N (decode load N area).ledger a s).answer
 unfolding call call_area
-step_answer load fixed N area a s h = (call_step load fixed N area (decode load N area) (try_move a s) h).answers
+step-answer load fixed N area a s h = (call_step load fixed N area (decode load N area) (try_move a s) h).answers
 
 -- and leaves an area that says what the ledger's next state does
 pub step_after : (load : Load) (fixed : List ℕ) (N : ℕ) (area : List ℕ) (a : ℕ) (s : List ℕ) → Holding load fixed N area (decode load N area)
     → (decode load N (on-area.try_move load fixed N area a s).area).ledger ≡ (move load fixed N (decode load N area).ledger a s).after
 unfolding call call_area
 step_after load fixed N area a s h =
-    let p = call_step load fixed N area (decode load N area) (try_move a s) h in ap (λ (u : State). u.ledger) (holding-decode p.holds) ∙ p.follows
+    let p = call_step load fixed N area (decode load N area) (try_move a s) h in ap (λ (u : State). u.ledger) (holding_decode p.holds) ∙ p.follows
 
 -- with the counts, edges and totals of that state, and no row from 1 to 9 that turns it back
 pub step-fresh : (load : Load) (fixed : List ℕ) (N : ℕ) (area : List ℕ) (a : ℕ) (s : List ℕ) → Holding load fixed N area (decode load N area)
     → Fresh load fixed N (decode load N (on-area.try_move load fixed N area a s).area).ledger (on-area.try_move load fixed N area a s).area
 unfolding call_area
-step-fresh load fixed N area a s h = let p = call_step load fixed N area (decode load N area) (try_move a s) h in rw (holding-decode p.holds) (holding_fresh p.holds)
+step-fresh load fixed N area a s h = let p = call_step load fixed N area (decode load N area) (try_move a s) h in rw (holding_decode p.holds) (holding_fresh p.holds)
 
 pub after-step : (load : Load) (fixed : List ℕ) (N : ℕ) (area : List ℕ) (a : ℕ) (s : List ℕ) (b : ℕ) (t : List ℕ) → Holding load fixed N area (decode load N area)
     → (on-area.try_move load fixed N (on-area.try_move load fixed N area a s).area b t).answer ≡ (move load fixed N (move load fixed N (decode load N area).ledger a s).after b t).answer

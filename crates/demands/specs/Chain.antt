@@ -12,11 +12,11 @@ use Rattle.graphs.specs.Bools.{or_false, and_both}
 use Rattle.graphs.specs.Lists.{has, has-at, has-place, none_below}
 use Rattle.graphs.specs.Tab.{tab-length, is_tab}
 use Rattle.graphs.specs.Walk.{Walk, one, more, via, cyclic}
-use Rattle.graphs.specs.Walks.{join, via-walk, acyclic-walk}
+use Rattle.graphs.specs.Walks.{join, via_walk, acyclic_walk}
 use Rattle.entry_set.specs.Joined.{joined}
 use Rattle.entry_set.specs.Sets.{value}
 use Rattle.move_ledger.specs.Graph.{none, at, owner, edge, reach}
-use Rattle.move_ledger.specs.GraphLaws.{Why, by_entry, by_facade, edge-why, why-edge, entry-lies, lies-entry, lies-set, lies_in, edge-source}
+use Rattle.move_ledger.specs.GraphLaws.{Why, by_entry, by_facade, edge_why, why_edge, entry-lies, lies-entry, lies-set, lies_in, edge-source}
 use Rattle.move_ledger.specs.Answer.{acyclic, is_refused, is_accepted, reported}
 use Rattle.move_ledger.specs.Ledger.{loaded, decide, move, call, ledger}
 use Rattle.move_ledger.specs.Ledger as calls
@@ -26,13 +26,13 @@ use Rattle.move_ledger.specs.Reach.{reach-all, rising-length}
 use Rattle.move_area.specs.Calls.{new, try_move}
 use Rattle.move_area.specs.History.{call_area, area_after}
 use Rattle.chain_commands.specs.Chain.{chain, sets, set_at, next-at, owner_at, starts}
-use Rattle.demands.specs.Demand3.{next_answer}
+use Rattle.demands.specs.Demand3.{next-answer}
 use Rattle.demands.specs.Reached.{move-reached}
 
 module _ (n : ℕ) where
   -- an edge goes from an atom's set to the next one's
   edge-next : (p : List ℕ) (X Y : ℕ) → edge (chain n) p X Y ≡ true → (k : ℕ) × (k < n - 1) × (at p k ≡ X) × (at p (suc k) ≡ Y)
-  edge-next p X Y h = go (edge-why (chain n) p X Y h).1
+  edge-next p X Y h = go (edge_why (chain n) p X Y h).1
     where
       go : Why (chain n) p X Y → (k : ℕ) × (k < n - 1) × (at p k ≡ X) × (at p (suc k) ≡ Y)
       go (by_entry k l q) =
@@ -42,7 +42,7 @@ module _ (n : ℕ) where
 
   next_edge : (p : List ℕ) (k : ℕ) → k < n - 1 → (at p k ≡ at p (suc k) → ⊥) → edge (chain n) p (at p k) (at p (suc k)) ≡ true
   next_edge p k h d =
-      why-edge (chain n) p (at p k) (at p (suc k)) d
+      why_edge (chain n) p (at p k) (at p (suc k)) d
       (by_entry k h (lies-entry (chain n) p _ _ k
       (lies_in (chain n) p (at p k) _ (omega (arith, owner_at n k h)) (ap (at p) (owner_at n k h)))
       (lies_in (chain n) p (at p (suc k)) _ (omega (arith, next-at n k h)) (ap (at p) (next-at n k h)))))
@@ -57,7 +57,7 @@ module _ (n : ℕ) where
     from = edge-source (chain n) p long
 
     no_cycle : cyclic (edge (chain n) p) p ≡ false
-    no_cycle = (acyclic-walk (edge (chain n) p) p from).1 (λ X w. omega (arith, rises w))
+    no_cycle = (acyclic_walk (edge (chain n) p) p from).1 (λ X w. omega (arith, rises w))
 
     step : (k : ℕ) → k < n - 1 → edge (chain n) p (at p k) (at p (suc k)) ≡ true
     step k h = next_edge p k h (λ e. omega (arith, up k h, ap g e))
@@ -71,7 +71,7 @@ module _ (n : ℕ) where
       where
         go : (i : ℕ) → i < length p → at p i ≡ Z → via (edge (chain n) p) p (at p 0) Z ≡ true
         go zero b e = absurd (d (sym e))
-        go (suc i) b e = (via-walk (edge (chain n) p) p from (at p 0) Z).1 (subst (Walk (edge (chain n) p) (at p 0)) e (walk i (omega arith)))
+        go (suc i) b e = (via_walk (edge (chain n) p) p from (at p 0) Z).1 (subst (Walk (edge (chain n) p) (at p 0)) e (walk i (omega arith)))
 
     up_to : (i j : ℕ) → i < j → j < n → g (at p i) < g (at p j)
     up_to i zero a b = absurd (omega arith)
@@ -85,16 +85,16 @@ module _ (n : ℕ) where
     apart i j a b e = omega (arith, up_to i j a b, ap g e)
 
   -- as loaded: set i + 1 for atom i
-  loaded-acyclic : cyclic (edge (chain n) (sets n)) (sets n) ≡ false
-  loaded-acyclic = no_cycle (sets n) (tab-length suc n) (λ X. X) (λ k h. omega (arith, set_at n k (omega arith), set_at n (suc k) (omega arith)))
+  loaded_acyclic : cyclic (edge (chain n) (sets n)) (sets n) ≡ false
+  loaded_acyclic = no_cycle (sets n) (tab-length suc n) (λ X. X) (λ k h. omega (arith, set_at n k (omega arith), set_at n (suc k) (omega arith)))
 
 -- atom 0 in set n + 1
 abbrev pub moved : ℕ → List ℕ
 moved n = set (sets n) 0 (n + 1)
 
 module _ (n : ℕ) (some : 0 < n) where
-  moved-long : length (moved n) ≡ n
-  moved-long = length-set (sets n) 0 (n + 1) ∙ tab-length suc n
+  moved_long : length (moved n) ≡ n
+  moved_long = length-set (sets n) 0 (n + 1) ∙ tab-length suc n
 
   moved-first : at (moved n) 0 ≡ n + 1
   moved-first = get_or-set_same (sets n) 0 (n + 1) 0 (omega (arith, tab-length suc n))
@@ -125,18 +125,18 @@ module _ (n : ℕ) (some : 0 < n) where
         first-old (suc (suc (suc k))) (omega arith),
       )
 
-  moved-acyclic : cyclic (edge (chain n) (moved n)) (moved n) ≡ false
-  moved-acyclic = no_cycle n (moved n) moved-long first moved_up
+  moved_acyclic : cyclic (edge (chain n) (moved n)) (moved n) ≡ false
+  moved_acyclic = no_cycle n (moved n) moved_long first moved_up
 
   -- "a move that reaches n - 1": from the moved atom's chunk a walk leads to each other one,
-  pub moved-reaches : (Z : ℕ) → has Z (moved n) ≡ true → (Z ≡ n + 1 → ⊥) → via (edge (chain n) (moved n)) (moved n) (n + 1) Z ≡ true
-  moved-reaches =
+  pub moved_reaches : (Z : ℕ) → has Z (moved n) ≡ true → (Z ≡ n + 1 → ⊥) → via (edge (chain n) (moved n)) (moved n) (n + 1) Z ≡ true
+  moved_reaches =
       subst (λ X. (Z : ℕ) → has Z (moved n) ≡ true → (Z ≡ X → ⊥) → via (edge (chain n) (moved n)) (moved n) X Z ≡ true) moved-first
-      (reaches n (moved n) moved-long first moved_up)
+      (reaches n (moved n) moved_long first moved_up)
 
   -- and no two atoms are in one chunk, so that these are n - 1
   pub moved_apart : (i j : ℕ) → i < j → j < n → at (moved n) i ≡ at (moved n) j → ⊥
-  moved_apart = apart n (moved n) moved-long first moved_up
+  moved_apart = apart n (moved n) moved_long first moved_up
 
 -- the lent sets of one number each are the entry sets
 one_lent : (l : List ℕ) (i : ℕ) → i < length l → value (take 1 (drop i l)) ≡ at l i
@@ -151,9 +151,9 @@ module _ (n : ℕ) where
       let e : i * 1 ≡ i = omega arith in
       ap (λ k. value (take 1 (drop k (sets n)))) e ∙ one_lent (sets n) i (omega (arith, tab-length suc n)) ∙ set_at n i h
 
-  entry-sets-are : entry_sets (chain n) (sets n) ≡ sets n
+  entry_sets_are : entry_sets (chain n) (sets n) ≡ sets n
   unfolding entry_sets
-  entry-sets-are = sym (is_tab (sets n) n _ (tab-length suc n) (λ k h. set_at n k h ∙ sym (lent_at k h)))
+  entry_sets_are = sym (is_tab (sets n) n _ (tab-length suc n) (λ k h. set_at n k h ∙ sym (lent_at k h)))
 
 -- no atom is fixed: "`moves` sets none" (02, iii)
 abbrev pub unmarked : ℕ → List ℕ
@@ -199,48 +199,48 @@ module _ (n : ℕ) (some : 0 < n) (few : n ≤ 512) (size : ℕ) (enough : row3 
   -- "prove that the load is acyclic": no row refuses it
   pub chain-loads : loading (chain n) (unmarked n) (n + 1) (sets n) size ≡ acyclic
   unfolding loading
-  chain-loads = rw (row-none, entry-sets-are n, loaded-acyclic n) refl
+  chain-loads = rw (row-none, entry_sets_are n, loaded_acyclic n) refl
 
-  value-one : value ((n + 1) ∷ []) ≡ n + 1
+  value_one : value ((n + 1) ∷ []) ≡ n + 1
   unfolding joined
-  value-one = omega arith
+  value_one = omega arith
 
   -- "and that the move is accepted": "20 for atom 0 to set n + 1"
   pub chain-moves : is_accepted (move (chain n) (unmarked n) (n + 1) (loaded (entry_sets (chain n) (sets n))) 0 ((n + 1) ∷ [])).answer ≡ true
   unfolding move decide
   chain-moves =
       rw (
-        entry-sets-are n,
-        value-one,
+        entry_sets_are n,
+        value_one,
         lt-leb n 0 some,
         eq-eqb (at (unmarked n) 0) 0 (get_or-replicate {A = ℕ} n 0 0 0 some),
         lt-ltb (n + 1) (2 ^ 16) (omega arith),
         ne_eqb (n + 1) (at (sets n) 0) (λ e. omega (arith, set_at n 0 some)),
-        loaded-acyclic n,
-        moved-acyclic n some,
+        loaded_acyclic n,
+        moved_acyclic n some,
       ) refl
 
   -- "and attains it": at most n - 1 are reached, since as many other sets are occupied
   pub moved-reach : (reported (move (chain n) (unmarked n) (n + 1) (loaded (entry_sets (chain n) (sets n))) 0 ((n + 1) ∷ [])).answer).reached ≡ n - 1
   unfolding move
-  moved-reach = move-reached (chain n) (unmarked n) (n + 1) (loaded (entry_sets (chain n) (sets n))) 0 ((n + 1) ∷ []) ∙ rw (there, yes, value-one) all
+  moved-reach = move-reached (chain n) (unmarked n) (n + 1) (loaded (entry_sets (chain n) (sets n))) 0 ((n + 1) ∷ []) ∙ rw (there, yes, value_one) all
     where
       yes : is_accepted (decide (chain n) (unmarked n) (entry_sets (chain n) (sets n)) 0 ((n + 1) ∷ [])) ≡ true
       yes = chain-moves
 
       there : (move (chain n) (unmarked n) (n + 1) (loaded (entry_sets (chain n) (sets n))) 0 ((n + 1) ∷ [])).after.place ≡ moved n
       there =
-          let e : cond (is_accepted (decide (chain n) (unmarked n) (entry_sets (chain n) (sets n)) 0 ((n + 1) ∷ []))) (set (entry_sets (chain n) (sets n)) 0 (value ((n + 1) ∷ []))) (entry_sets (chain n) (sets n)) ≡ moved n = rw (yes, entry-sets-are n, value-one) refl in
+          let e : cond (is_accepted (decide (chain n) (unmarked n) (entry_sets (chain n) (sets n)) 0 ((n + 1) ∷ []))) (set (entry_sets (chain n) (sets n)) 0 (value ((n + 1) ∷ []))) (entry_sets (chain n) (sets n)) ≡ moved n = rw (yes, entry_sets_are n, value_one) refl in
           place_after (chain n) (unmarked n) (n + 1) (loaded (entry_sets (chain n) (sets n))) 0 ((n + 1) ∷ []) ∙ e
 
       long : length (moved n) ≡ n
-      long = moved-long n some
+      long = moved_long n some
 
       all : reach (chain n) (moved n) (n + 1) ≡ n - 1
       all =
           omega (
             arith,
-            reach-all (chain n) (moved n) (n + 1) (subst (λ X. has X (moved n) ≡ true) (moved-first n some) (has-at (moved n) 0 (omega (arith, long)))) (moved-reaches n some),
+            reach-all (chain n) (moved n) (n + 1) (subst (λ X. has X (moved n) ≡ true) (moved-first n some) (has-at (moved n) 0 (omega (arith, long)))) (moved_reaches n some),
             rising-length (moved n) (λ i j a b. moved_apart n some i j a (omega (arith, long))),
             long,
           )
@@ -253,5 +253,5 @@ pub chain_on_areas : (n : ℕ) → 0 < n → n ≤ 512 → (area : List ℕ) →
 unfolding call call_area area_after ledger new
 chain_on_areas n some few area enough =
     let l : (new (chain n) (unmarked n) (n + 1) (sets n) area).answer ≡ acyclic = chain-loads n some few (length area) enough in
-    let a = next_answer (chain n) (unmarked n) (n + 1) (sets n) area [] (calls.try_move 0 ((n + 1) ∷ [])) (ap is_refused l) in
+    let a = next-answer (chain n) (unmarked n) (n + 1) (sets n) area [] (calls.try_move 0 ((n + 1) ∷ [])) (ap is_refused l) in
     (l, ap is_accepted a ∙ chain-moves n some few (length area) enough, ap (λ x. (reported x).reached) a ∙ moved-reach n some few (length area) enough)

@@ -16,7 +16,7 @@ use Rattle.move_ledger.specs.GraphLaws.{edge-source, edge-target}
 use Rattle.move_ledger.specs.Answer.{Report, zeros, Answer, refused, accepted, rejected, is_accepted, reported}
 use Rattle.move_ledger.specs.Answer as answer
 use Rattle.move_ledger.specs.Ledger.{Ledger, report, decide, move}
-use Rattle.move_ledger.specs.MoveLaws.{decide-accepted, decide-late, place_after, move-keeps}
+use Rattle.move_ledger.specs.MoveLaws.{decide_accepted, decide-late, place_after, move_keeps}
 use Rattle.move_ledger.specs.Loading.{refusal}
 use Rattle.move_ledger.specs.Places.{has_kept}
 use Rattle.move_ledger.specs.Listing.{Rising, rising-rising, has-rising, one_rising}
@@ -25,7 +25,7 @@ use Rattle.move_ledger.specs.Chunks.{sum_kept}
 use Rattle.move_area.specs.Area.{decode}
 use Rattle.move_area.specs.Fixed.{checks_out}
 use Rattle.move_area.specs.Calls as on-area
-use Rattle.demands.specs.Areas.{holding, step_answer, step_after}
+use Rattle.demands.specs.Areas.{holding, step-answer, step_after}
 
 -- sums over one list
 sum_alike : (f g : ℕ → ℕ) (l : List ℕ) → ((x : ℕ) → f x ≡ g x) → sum f l ≡ sum g l
@@ -175,17 +175,17 @@ reports load fixed N l a s = go (is_accepted x) refl
 
     go : (t : Bool) → is_accepted x ≡ t → reported x ≡ cond t (report load l.place (move load fixed N l a s).after.place (value s)) zeros
     go true h =
-        let y = decide-accepted load fixed l.place a s h in
+        let y = decide_accepted load fixed l.place a s h in
         let e : decide load fixed l.place a s ≡ accepted (report load l.place (set l.place a (value s)) (value s)) = decide-late load fixed l.place a s y.passed ∙ rw (y.inside, y.no_cycle) refl in
         ap reported e ∙ ap (λ q. report load l.place q (value s)) (sym (place_after load fixed N l a s ∙ rw h refl))
     go false h = nothing x h
 
 -- "An accepted move then reports how many distinct edges appeared and vanished between the two graphs", and "Rejected moves report zeros": whatever the
 -- answer is, the numbers are of the placements before and after
-pub move_reports : (load : Load) (fixed : List ℕ) (N : ℕ) (l : Ledger) (a : ℕ) (s : List ℕ)
+pub move-reports : (load : Load) (fixed : List ℕ) (N : ℕ) (l : Ledger) (a : ℕ) (s : List ℕ)
     → Told load l.place (move load fixed N l a s).after.place (reported (move load fixed N l a s).answer)
 unfolding move
-move_reports load fixed N l a s = rw (reports load fixed N l a s) (go (is_accepted (decide load fixed l.place a s)) refl)
+move-reports load fixed N l a s = rw (reports load fixed N l a s) (go (is_accepted (decide load fixed l.place a s)) refl)
   where
     go : (t : Bool) → is_accepted (decide load fixed l.place a s) ≡ t
         → Told load l.place (move load fixed N l a s).after.place (cond t (report load l.place (move load fixed N l a s).after.place (value s)) zeros)
@@ -199,9 +199,9 @@ pub move_changes : (load : Load) (fixed : List ℕ) (N : ℕ) (l : Ledger) (a : 
     → let called = move load fixed N l a s in
     length (edges load called.after.place) + (reported called.answer).vanished ≡ length (edges load l.place) + (reported called.answer).appeared
 move_changes load fixed N l a s n =
-    rw ((move_reports load fixed N l a s).appeared, (move_reports load fixed N l a s).vanished)
+    rw ((move-reports load fixed N l a s).appeared, (move-reports load fixed N l a s).vanished)
     (edges_change load l.place (move load fixed N l a s).after.place n
-    (move-keeps load fixed N l a s (λ m. length m.place ≡ load.A) n (λ u. n) (λ u. rw length-set n)))
+    (move_keeps load fixed N l a s (λ m. length m.place ≡ load.A) n (λ u. n) (λ u. rw length-set n)))
 
 -- and so on the areas that the calls are lent
 pub changes_on_areas : (load : Load) (fixed : List ℕ) (N : ℕ) (area : List ℕ) (a : ℕ) (s : List ℕ) → refusal load fixed N (length area) ≡ 0 → checks_out load fixed N area ≡ true
@@ -209,4 +209,4 @@ pub changes_on_areas : (load : Load) (fixed : List ℕ) (N : ℕ) (area : List �
     Told load (decode load N area).ledger.place (decode load N called.area).ledger.place (reported called.answer)
 changes_on_areas load fixed N area a s q c =
     let h = holding load fixed N area q c in
-    rw (step_answer load fixed N area a s h, step_after load fixed N area a s h) (move_reports load fixed N (decode load N area).ledger a s)
+    rw (step-answer load fixed N area a s h, step_after load fixed N area a s h) (move-reports load fixed N (decode load N area).ledger a s)

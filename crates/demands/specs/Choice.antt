@@ -11,7 +11,7 @@ use Rattle.graphs.specs.Lists.{some_none, none_below}
 use Rattle.graphs.specs.Tab.{tab, tab-length, tab-at}
 use Rattle.merge_state.specs.State.{None, misfit}
 use Rattle.merge_state.specs.Table.{refused, any_misfit}
-use Rattle.merge_choice.specs.Choice.{Lent, bits, role, in_list, some-role, imports, wins, first_below, first-target, unreached, leaks, strayed, polluted, guarded, user_target, dynamic_target, chosen, choice, built_in}
+use Rattle.merge_choice.specs.Choice.{Lent, bits, role, in_list, some_role, imports, wins, first_below, first_target, unreached, leaks, strayed, polluted, guarded, user_target, dynamic_target, chosen, choice, built_in}
 use Rattle.merge_choice.specs.Find.{row23, told, find, find_by}
 use Rattle.merge_choice.specs.Classes.{built_in-legal}
 use Rattle.merge_choice.specs.Named.{bits_le}
@@ -23,7 +23,7 @@ Roles = ℕ → ℕ
 
 -- "Among the user entries, or the dynamic ones where there is no user entry": the role that is searched
 unfoldable pub searched : Roles → ℕ → ℕ
-searched r k = cond (some-role r (bits k) 2) 2 1
+searched r k = cond (some_role r (bits k) 2) 2 1
 
 -- "the first whose module all others of these import wins, subject to the Rust's guards on reached entries, leaked side effects, importers and
 -- exports", of k chunks with these roles
@@ -84,31 +84,31 @@ module _ (r : Roles) (k : ℕ) (l : Lent) where
       let q = some_none (λ o. eqb (r o) v && not (imports r (bits k) l.entries l.static x o)) (bits k) none o b in
       ⊎_elim (λ a. inl (eqb-true _ _ a)) (λ a. inr a) (or_cases (eqb (get_or l.entries o 0) (get_or l.entries x 0)) _ (not-false _ (rw (eq-eqb (r o) v e) at q)))
 
-  own-role : (v x : ℕ) → wins r (bits k) l.entries l.static v x ≡ true → r x ≡ v
+  own_role : (v x : ℕ) → wins r (bits k) l.entries l.static v x ≡ true → r x ≡ v
   unfolding wins
-  own-role v x h = eqb-true _ _ (and_left (eqb (r x) v) _ h)
+  own_role v x h = eqb-true _ _ (and_left (eqb (r x) v) _ h)
 
-  common-free : some-role r (bits k) 3 ≡ false → (b : ℕ) → b < bits k → r b ≡ 3 → ⊥
-  unfolding some-role
+  common-free : some_role r (bits k) 3 ≡ false → (b : ℕ) → b < bits k → r b ≡ 3 → ⊥
+  unfolding some_role
   common-free h b i e = eqb-false (r b) 3 (some_none (λ b. eqb (r b) 3) (bits k) h b i) e
 
   small : bits k ≤ None
   small = omega (arith, (bits_le k).0)
 
-  first-role : (v : ℕ) → searched r k ≡ v → some-role r (bits k) 3 ≡ false → (first-target r (bits k) l.entries l.static v ≡ None → ⊥)
-      → (v ≡ 2 → (unreached r (bits k) l.reached (first-target r (bits k) l.entries l.static v) ≡ false)
-      × (leaks r (bits k) l.reached l.effects k (first-target r (bits k) l.entries l.static v) ≡ false)
-      × (strayed l.modules l.dynamic l.candidate (first-target r (bits k) l.entries l.static v) ≡ false))
-      → (v ≡ 1 → polluted r (bits k) l.entries l.exports l.candidate (first-target r (bits k) l.entries l.static v) ≡ false)
-      → Target r k l (first-target r (bits k) l.entries l.static v)
-  unfolding first-target
+  first-role : (v : ℕ) → searched r k ≡ v → some_role r (bits k) 3 ≡ false → (first_target r (bits k) l.entries l.static v ≡ None → ⊥)
+      → (v ≡ 2 → (unreached r (bits k) l.reached (first_target r (bits k) l.entries l.static v) ≡ false)
+      × (leaks r (bits k) l.reached l.effects k (first_target r (bits k) l.entries l.static v) ≡ false)
+      × (strayed l.modules l.dynamic l.candidate (first_target r (bits k) l.entries l.static v) ≡ false))
+      → (v ≡ 1 → polluted r (bits k) l.entries l.exports l.candidate (first_target r (bits k) l.entries l.static v) ≡ false)
+      → Target r k l (first_target r (bits k) l.entries l.static v)
+  unfolding first_target
   first-role v e c h g d =
       let p = wins r (bits k) l.entries l.static v in
       let i = first_in p (bits k) h in
       record {
         below = i.0;
         no_common = common-free c;
-        class = own-role v (first_below p (bits k)) i.1 ∙ sym e;
+        class = own_role v (first_below p (bits k)) i.1 ∙ sym e;
         imported = λ o b q. won v (first_below p (bits k)) o i.1 b (q ∙ e);
         first = λ u b. ap (λ w. wins r (bits k) l.entries l.static w u) e ∙ first_least p (bits k) small h u b;
         reaches = λ q. (g (sym e ∙ q)).0;
@@ -117,38 +117,38 @@ module _ (r : Roles) (k : ℕ) (l : Lent) where
         clean = λ q. d (sym e ∙ q);
       }
 
-  searched-user : some-role r (bits k) 2 ≡ true → searched r k ≡ 2
+  searched_user : some_role r (bits k) 2 ≡ true → searched r k ≡ 2
   unfolding searched
-  searched-user h = rw h
+  searched_user h = rw h
 
-  searched-dynamic : some-role r (bits k) 2 ≡ false → searched r k ≡ 1
+  searched-dynamic : some_role r (bits k) 2 ≡ false → searched r k ≡ 1
   unfolding searched
   searched-dynamic h = rw h
 
-  users : some-role r (bits k) 3 ≡ false → some-role r (bits k) 2 ≡ true
+  users : some_role r (bits k) 3 ≡ false → some_role r (bits k) 2 ≡ true
       → (user_target r k l.entries l.modules l.static l.dynamic l.reached l.effects l.candidate ≡ None → ⊥)
       → Target r k l (user_target r k l.entries l.modules l.static l.dynamic l.reached l.effects l.candidate)
   unfolding user_target
   users c b h =
-      let x = first-target r (bits k) l.entries l.static 2 in
+      let x = first_target r (bits k) l.entries l.static 2 in
       let g = guarded-found (λ t. unreached r (bits k) l.reached t || (leaks r (bits k) l.reached l.effects k t || strayed l.modules l.dynamic l.candidate t)) x h in
       let u = unreached r (bits k) l.reached x in
       let w = leaks r (bits k) l.reached l.effects k x in
-      subst (λ t. Target r k l t) (sym g.0) (first-role 2 (searched-user b) c g.1 (λ z. (or_false_left u _ g.2, or_false_left w _ (or_false_right u _ g.2), or_false_right w _ (or_false_right u _ g.2))) (λ z. absurd (omega arith)))
+      subst (λ t. Target r k l t) (sym g.0) (first-role 2 (searched_user b) c g.1 (λ z. (or_false_left u _ g.2, or_false_left w _ (or_false_right u _ g.2), or_false_right w _ (or_false_right u _ g.2))) (λ z. absurd (omega arith)))
 
-  dynamics : some-role r (bits k) 3 ≡ false → some-role r (bits k) 2 ≡ false
+  dynamics : some_role r (bits k) 3 ≡ false → some_role r (bits k) 2 ≡ false
       → (dynamic_target r k l.entries l.static l.exports l.candidate ≡ None → ⊥) → Target r k l (dynamic_target r k l.entries l.static l.exports l.candidate)
   unfolding dynamic_target
   dynamics c b h =
-      let x = first-target r (bits k) l.entries l.static 1 in
+      let x = first_target r (bits k) l.entries l.static 1 in
       let g = guarded-found (polluted r (bits k) l.entries l.exports l.candidate) x h in
       subst (λ t. Target r k l t) (sym g.0) (first-role 1 (searched-dynamic b) c g.1 (λ z. absurd (omega arith)) (λ z. g.2))
 
   pub found_target : (chosen r k l ≡ None → ⊥) → Target r k l (chosen r k l)
   unfolding chosen
-  found_target h = go (some-role r (bits k) 3) refl (some-role r (bits k) 2) refl h
+  found_target h = go (some_role r (bits k) 3) refl (some_role r (bits k) 2) refl h
     where
-      go : (a : Bool) → some-role r (bits k) 3 ≡ a → (b : Bool) → some-role r (bits k) 2 ≡ b
+      go : (a : Bool) → some_role r (bits k) 3 ≡ a → (b : Bool) → some_role r (bits k) 2 ≡ b
           → (cond a None (cond b (user_target r k l.entries l.modules l.static l.dynamic l.reached l.effects l.candidate) (dynamic_target r k l.entries l.static l.exports l.candidate)) ≡ None → ⊥)
           → Target r k l (cond a None (cond b (user_target r k l.entries l.modules l.static l.dynamic l.reached l.effects l.candidate) (dynamic_target r k l.entries l.static l.exports l.candidate)))
       go true p b q h = absurd (h refl)
@@ -162,7 +162,7 @@ choice-found classes kinds set l h = found_target (role classes kinds set) (leng
 
 searched-named : (r : Roles) (k : ℕ) → searched r k ≡ 0 → ⊥
 unfolding searched
-searched-named r k = go (some-role r (bits k) 2)
+searched-named r k = go (some_role r (bits k) 2)
   where
     go : (t : Bool) → ◌≡◌ {A = ℕ} (cond t 2 1) 0 → ⊥
     go true e = omega arith

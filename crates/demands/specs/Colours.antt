@@ -3,7 +3,7 @@ use Rattle.std.specs.Prelude.{ℕ, ◌<◌, ◌≡◌, ◌↔◌, true}
 use Rattle.graphs.specs.Lists.{has}
 use Rattle.graph_colours.specs.declared.State.TheVariants.{White, Gray, Black}
 use Rattle.graph_colours.specs.Colours.{View, Passes, Run, Starts, Ran}
-use Rattle.graph_colours.specs.Life.{life, passed_gray, black_stays}
+use Rattle.graph_colours.specs.Life.{life, passed-gray, black-stays}
 
 -- what holds of node x between two steps, `now`, of a walk that began at `first`; `later` is any moment from then on. Node x has d x neighbours, the i-th is f x i
 pub record ByTheBook (n : ℕ) (d : ℕ → ℕ) (f : ℕ → ℕ → ℕ) (first now later : View) (x : ℕ) : Type 0 where
@@ -20,8 +20,8 @@ pub by_the_book : {n : ℕ} {d : ℕ → ℕ} {f : ℕ → ℕ → ℕ} {first n
 by_the_book s r q x b = record {
   starts = s.white x b;
   gray = (life s r).gray x b;
-  passed = λ next y p. passed_gray s r p;
-  black = λ h. ((life s r).black x b h, black_stays q x b h);
+  passed = λ next y p. passed-gray s r p;
+  black = λ h. ((life s r).black x b h, black-stays q x b h);
 }
 
 -- of what the contract of `first_walk` shows: each moment of the run is by the book, and at its end every node is black

@@ -3,19 +3,19 @@ use Rattle.std.specs.Prelude.{ℕ, ◌≡◌, refl, ◌↔◌, Bool, true, false
 use Rattle.std.proofs.Common.{sym, ap, ap₂, subst, ◌∙◌, true≢false, length-set}
 use Rattle.graphs.specs.Lists.{has}
 use Rattle.graphs.specs.Walk.{Walk, cyclic}
-use Rattle.graphs.specs.Walks.{acyclic-walk}
+use Rattle.graphs.specs.Walks.{acyclic_walk}
 use Rattle.entry_set.specs.Sets.{value}
 use Rattle.move_ledger.specs.Graph.{Load, mult, edge}
 use Rattle.move_ledger.specs.GraphLaws.{edge-source}
 use Rattle.move_ledger.specs.Answer.{accepted, rejected, is_refused, is_accepted}
 use Rattle.move_ledger.specs.Ledger.{Ledger, Answered, gives, report, decide, move, Call}
-use Rattle.move_ledger.specs.MoveLaws.{decide-exactly, place_after}
+use Rattle.move_ledger.specs.MoveLaws.{decide_exactly, place_after}
 use Rattle.move_ledger.specs.Loading.{refusal}
 use Rattle.move_area.specs.Area.{decode}
 use Rattle.move_area.specs.Fixed.{checks_out}
 use Rattle.move_area.specs.Calls as on-area
 use Rattle.demands.specs.History.{history, history-length}
-use Rattle.demands.specs.Areas.{Fresh, holding, step_answer, step_after, step-fresh}
+use Rattle.demands.specs.Areas.{Fresh, holding, step-answer, step_after, step-fresh}
 
 -- "has no cycle": "A cycle is a closed walk of at least one edge"
 abbrev pub no_cycle : Load → List ℕ → Type 0
@@ -41,7 +41,7 @@ pub moved_exactly_acyclic : (load : Load) (fixed : List ℕ) (N : ℕ) (l : Ledg
 unfolding move
 moved_exactly_acyclic load fixed N l a s n u =
     record {
-      exactly = (λ h. (acyclic-walk (edge load q) q from).0 (accepts.0 h), λ f. accepts.1 ((acyclic-walk (edge load q) q from).1 f));
+      exactly = (λ h. (acyclic_walk (edge load q) q from).0 (accepts.0 h), λ f. accepts.1 ((acyclic_walk (edge load q) q from).1 f));
       moves = λ h. place_after load fixed N l a s ∙ rw h refl;
       rejects = rejects;
       atoms_stay = stay;
@@ -55,7 +55,7 @@ moved_exactly_acyclic load fixed N l a s n u =
     from = edge-source load q (rw length-set n)
 
     by-graph : decide load fixed l.place a s ≡ cond (cyclic (edge load q) q) rejected (accepted (report load l.place q (value s)))
-    by-graph = decide-exactly load fixed l.place a s n u
+    by-graph = decide_exactly load fixed l.place a s n u
 
     accepts : (is_accepted (decide load fixed l.place a s) ≡ true) ↔ (cyclic (edge load q) q ≡ false)
     accepts = rw by-graph (go (cyclic (edge load q) q))
@@ -88,7 +88,7 @@ pub moved_on_areas : (load : Load) (fixed : List ℕ) (N : ℕ) (area : List ℕ
 moved_on_areas load fixed N area a s q c u =
     let l = (decode load N area).ledger in
     let h = holding load fixed N area q c in
-    let e : (on-area.try_move load fixed N area a s).answer ≡ (move load fixed N (decode load N area).ledger a s).answer = step_answer load fixed N area a s h in (
+    let e : (on-area.try_move load fixed N area a s).answer ≡ (move load fixed N (decode load N area).ledger a s).answer = step-answer load fixed N area a s h in (
       subst (Decided load l a s) (sym (ap₂ gives e (step_after load fixed N area a s h)))
           (moved_exactly_acyclic load fixed N l a s h.held.sound.atoms (subst (λ x. is_refused x ≡ false) e u)),
       step-fresh load fixed N area a s h,

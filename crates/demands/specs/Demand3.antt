@@ -7,7 +7,7 @@ use Rattle.entry_set.specs.Sets.{value}
 use Rattle.move_ledger.specs.Graph.{Load, at, edge}
 use Rattle.move_ledger.specs.Answer.{Report, zeros, Answer, accepted, rejected, is_refused, is_accepted, plain}
 use Rattle.move_ledger.specs.Ledger.{Ledger, report, decide, move, ask, Call, try_move, asks, call, loaded, answers}
-use Rattle.move_ledger.specs.MoveLaws.{decide-accepted, decide-late, place_after}
+use Rattle.move_ledger.specs.MoveLaws.{decide_accepted, decide-late, place_after}
 use Rattle.move_ledger.specs.Loading.{refusal, entry_sets}
 use Rattle.move_area.specs.Area.{decode}
 use Rattle.move_area.specs.Fixed.{checks_out}
@@ -15,7 +15,7 @@ use Rattle.move_area.specs.Calls.{first, new}
 use Rattle.move_area.specs.Calls as on-area
 use Rattle.move_area.specs.History.{Holding, call_area, area_answers, area_after, call_step, loading-holds, run}
 use Rattle.demands.specs.History.{history, history-length}
-use Rattle.demands.specs.Areas.{holding, Fresh, holding_fresh, step_answer, after-step}
+use Rattle.demands.specs.Areas.{holding, Fresh, holding_fresh, step-answer, after-step}
 
 -- what a call answers
 abbrev pub reply : Load → List ℕ → ℕ → Ledger → Call → Answer
@@ -30,12 +30,12 @@ same_place load fixed N N' l l' (asks q) e = ap (λ p. ask load p q) e
 -- "For every two such lists from one load, whatever the entry sets at loading, whose ledgers end with each atom in the same entry set, the next
 -- move or question gets the same answer", and 02: "The reservation about 13 disappears where histories are compared",
 -- "Comparing two histories supposes the same marks in both"; N may differ too
-pub same_placement_same_answer : (load : Load) (fixed : List ℕ) (N N' : ℕ) (sets sets' : List ℕ) (calls calls' : List Call) (next : Call)
+pub same_placement_same-answer : (load : Load) (fixed : List ℕ) (N N' : ℕ) (sets sets' : List ℕ) (calls calls' : List Call) (next : Call)
     → let l = history load fixed N sets calls in
     let l' = history load fixed N' sets' calls' in
     ((atom : ℕ) → atom < load.A → at l.place atom ≡ at l'.place atom)
     → reply load fixed N l next ≡ reply load fixed N' l' next
-same_placement_same_answer load fixed N N' sets sets' calls calls' next h =
+same_placement_same-answer load fixed N N' sets sets' calls calls' next h =
     let l = history load fixed N sets calls in
     let l' = history load fixed N' sets' calls' in
     let k = history-length load fixed N sets calls in
@@ -52,8 +52,8 @@ second_answer : (load : Load) (fixed place : List ℕ) (a b : ℕ) (s t : List �
     → let both = set (set place a (value s)) b (value t) in
     plain (decide load fixed (set place a (value s)) b t) ≡ cond (cyclic (edge load both) both) rejected (accepted zeros)
 second_answer load fixed place a b s t d g h =
-    let x = decide-accepted load fixed place a s g in
-    let y = (decide-accepted load fixed place b t h).passed in
+    let x = decide_accepted load fixed place a s g in
+    let y = (decide_accepted load fixed place b t h).passed in
     let same : eqb (value t) (at (set place a (value s)) b) ≡ false = ap (eqb (value t)) (get_or-set_other place a b (value s) 0 d) ∙ y.at12 in
     let both = set (set place a (value s)) b (value t) in
     ap plain (decide-late load fixed (set place a (value s)) b t (record { at10 = y.at10; at24 = y.at24; at11 = y.at11; at12 = same }))
@@ -89,9 +89,9 @@ history-fresh load fixed N sets area calls h =
     subst (λ l. Fresh load fixed N l (area_after load fixed N (new load fixed N sets area).area calls)) r.ends (holding_fresh r.holds)
 
 -- the answer to the next call after a list
-pub next_answer : (load : Load) (fixed : List ℕ) (N : ℕ) (sets area : List ℕ) (calls : List Call) (next : Call) → is_refused (new load fixed N sets area).answer ≡ false
+pub next-answer : (load : Load) (fixed : List ℕ) (N : ℕ) (sets area : List ℕ) (calls : List Call) (next : Call) → is_refused (new load fixed N sets area).answer ≡ false
     → (call_area load fixed N (area_after load fixed N (new load fixed N sets area).area calls) next).answer ≡ reply load fixed N (history load fixed N sets calls) next
-next_answer load fixed N sets area calls next h =
+next-answer load fixed N sets area calls next h =
     let r = run load fixed N (new load fixed N sets area).area (first load N sets) calls (loading-holds load fixed N sets area h) in
     (call_step load fixed N (area_after load fixed N (new load fixed N sets area).area calls) r.last next r.holds).answers ∙ ap (λ (l : Ledger). reply load fixed N l next) r.ends
 
@@ -110,7 +110,7 @@ either_order_on_areas load fixed N area a b s t q c d g h =
     w = holding load fixed N area q c
 
     first : (a : ℕ) (s : List ℕ) → is_accepted (on-area.try_move load fixed N area a s).answer ≡ true → is_accepted (move load fixed N (decode load N area).ledger a s).answer ≡ true
-    first a s g = subst (λ x. is_accepted x ≡ true) (step_answer load fixed N area a s w) g
+    first a s g = subst (λ x. is_accepted x ≡ true) (step-answer load fixed N area a s w) g
 
     second : (a b : ℕ) (s t : List ℕ) → (on-area.try_move load fixed N (on-area.try_move load fixed N area a s).area b t).answer ≡ (move load fixed N (move load fixed N (decode load N area).ledger a s).after b t).answer
     second a b s t = after-step load fixed N area a s b t w
@@ -123,5 +123,5 @@ pub same_placement_on_areas : (load : Load) (fixed : List ℕ) (N N' : ℕ) (set
     ((atom : ℕ) → atom < load.A → at (history load fixed N sets calls).place atom ≡ at (history load fixed N' sets' calls').place atom)
     → x ≡ y
 same_placement_on_areas load fixed N N' sets sets' area area' calls calls' next u v h =
-    next_answer load fixed N sets area calls next u ∙ same_placement_same_answer load fixed N N' sets sets' calls calls' next h
-    ∙ sym (next_answer load fixed N' sets' area' calls' next v)
+    next-answer load fixed N sets area calls next u ∙ same_placement_same-answer load fixed N N' sets sets' calls calls' next h
+    ∙ sym (next-answer load fixed N' sets' area' calls' next v)

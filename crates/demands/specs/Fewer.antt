@@ -4,18 +4,18 @@ use Rattle.std.proofs.Common.{arith, sym, ap, subst, ◌∙◌, true≢false, le
 use Rattle.std.proofs.lemmas.Bool.{not-true}
 use Rattle.graphs.specs.Bools.{and_left, and_right, fails}
 use Rattle.graphs.specs.Walk.{Walk, one, more, cyclic}
-use Rattle.graphs.specs.Walks.{acyclic-walk}
+use Rattle.graphs.specs.Walks.{acyclic_walk}
 use Rattle.entry_set.specs.Sets.{value, legal}
 use Rattle.move_ledger.specs.Graph.{Load, at, owner, lies, edge}
-use Rattle.move_ledger.specs.GraphLaws.{Why, by_entry, by_facade, edge-why, why-edge, entry-lies, lies-entry, lies-atom, lies-set, lies_in, occupied-by, occupy, edge-source, outside-stays}
+use Rattle.move_ledger.specs.GraphLaws.{Why, by_entry, by_facade, edge_why, why_edge, entry-lies, lies-entry, lies_atom, lies-set, lies_in, occupied-by, occupy, edge-source, outside-stays}
 use Rattle.move_ledger.specs.Answer.{is_accepted}
 use Rattle.move_ledger.specs.Ledger.{step1, decide, move}
-use Rattle.move_ledger.specs.MoveLaws.{decide-accepted, decide-late}
+use Rattle.move_ledger.specs.MoveLaws.{decide_accepted, decide-late}
 use Rattle.move_ledger.specs.Loading.{refusal}
 use Rattle.move_area.specs.Area.{decode}
 use Rattle.move_area.specs.Fixed.{checks_out}
 use Rattle.move_area.specs.Calls as on-area
-use Rattle.demands.specs.Areas.{holding, step_answer}
+use Rattle.demands.specs.Areas.{holding, step-answer}
 
 -- "leaving out some dependency entries": each entry of `few` is one of `all`, of the same atom and on the same. "A, E, N, hosts and marks are the
 -- same on both sides": N is lent beside a load and the marks too
@@ -27,10 +27,10 @@ pub record Fewer (few all : Load) : Type 0 where
 
 module _ {few all : Load} (f : Fewer few all) (p : List ℕ) where
   lies-all : (X i : ℕ) → lies few p i X ≡ true → lies all p i X ≡ true
-  lies-all X i h = lies_in all p X i (subst (λ n. i < n) f.atoms (lies-atom few p X i h)) (lies-set few p X i h)
+  lies-all X i h = lies_in all p X i (subst (λ n. i < n) f.atoms (lies_atom few p X i h)) (lies-set few p X i h)
 
   edge-all : (X Y : ℕ) → edge few p X Y ≡ true → edge all p X Y ≡ true
-  edge-all X Y h = let r = edge-why few p X Y h in why-edge all p X Y r.0 (go r.1)
+  edge-all X Y h = let r = edge_why few p X Y h in why_edge all p X Y r.0 (go r.1)
     where
       go : Why few p X Y → Why all p X Y
       go (by_entry k l t) =
@@ -48,21 +48,21 @@ module _ {few all : Load} (f : Fewer few all) (p : List ℕ) where
             there = subst (λ h. lies all p (at h e) Y ≡ true) f.hosts (lies-all Y _ t.there);
           })
 
-  walk-all : {X Y : ℕ} → Walk (edge few p) X Y → Walk (edge all p) X Y
-  walk-all (one h) = one (edge-all _ _ h)
-  walk-all (more h w) = more (edge-all _ _ h) (walk-all w)
+  walk_all : {X Y : ℕ} → Walk (edge few p) X Y → Walk (edge all p) X Y
+  walk_all (one h) = one (edge-all _ _ h)
+  walk_all (more h w) = more (edge-all _ _ h) (walk_all w)
 
-  acyclic-fewer : length p ≡ all.A → cyclic (edge all p) p ≡ false → cyclic (edge few p) p ≡ false
-  acyclic-fewer n h =
-      (acyclic-walk (edge few p) p (edge-source few p (n ∙ sym f.atoms))).1 (λ X w. (acyclic-walk (edge all p) p (edge-source all p n)).0 h X (walk-all w))
+  acyclic_fewer : length p ≡ all.A → cyclic (edge all p) p ≡ false → cyclic (edge few p) p ≡ false
+  acyclic_fewer n h =
+      (acyclic_walk (edge few p) p (edge-source few p (n ∙ sym f.atoms))).1 (λ X w. (acyclic_walk (edge all p) p (edge-source all p n)).0 h X (walk_all w))
 
 -- "at one placement of one load, leaving out some dependency entries never turns an accepted move into a rejected one": it stays accepted
 pub accepted_stays : (few all : Load) (fixed place : List ℕ) (a : ℕ) (s : List ℕ) → Fewer few all → length place ≡ all.A
     → is_accepted (decide all fixed place a s) ≡ true → is_accepted (decide few fixed place a s) ≡ true
 accepted_stays few all fixed place a s f n h =
-    let x = decide-accepted all fixed place a s h in
+    let x = decide_accepted all fixed place a s h in
     let moved : List ℕ = set place a (value s) in
-    let c : cyclic (edge few moved) moved ≡ false = acyclic-fewer f moved (length-set place a (value s) ∙ n) x.no_cycle in
+    let c : cyclic (edge few moved) moved ≡ false = acyclic_fewer f moved (length-set place a (value s) ∙ n) x.no_cycle in
     let i : step1 few place a ≡ false = fails (step1 few place a) (λ h. true≢false (sym (outside-stays few place a (value s) (n ∙ sym f.atoms) (and_left (cyclic (edge few place) place) _ h) (not-true _ (and_right (cyclic (edge few place) place) _ h))) ∙ c)) in
     ap is_accepted
     (decide-late few fixed place a s (record {
@@ -87,5 +87,5 @@ accepted_stays_on_areas few all fixed N N' area area' a s f q c q' c' same h =
     let l' : List ℕ = (decode all N' area').ledger.place in
     let n : length l ≡ all.A = w.held.sound.atoms ∙ f.atoms in
     let e : l ≡ l' = ext_get_or 0 l l' (n ∙ sym w'.held.sound.atoms) (λ i b. same i (omega arith)) in
-    ap is_accepted (step_answer few fixed N area a s w)
-    ∙ accepted_stays few all fixed l a s f n (ap (λ p. is_accepted (decide all fixed p a s)) e ∙ sym (ap is_accepted (step_answer all fixed N' area' a s w')) ∙ h)
+    ap is_accepted (step-answer few fixed N area a s w)
+    ∙ accepted_stays few all fixed l a s f n (ap (λ p. is_accepted (decide all fixed p a s)) e ∙ sym (ap is_accepted (step-answer all fixed N' area' a s w')) ∙ h)

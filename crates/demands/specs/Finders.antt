@@ -7,7 +7,7 @@ use mathlib.Core.List.{List}
 use Rattle.graphs.specs.Count.{ind}
 use Rattle.graphs.specs.Lists.{has}
 use Rattle.graphs.specs.Walk.{Walk, cyclic}
-use Rattle.graphs.specs.Walks.{cyclic-walk, acyclic-walk}
+use Rattle.graphs.specs.Walks.{cyclic_walk, acyclic_walk}
 use Rattle.move_ledger.specs.Graph.{Load, edge}
 use Rattle.move_ledger.specs.GraphLaws.{edge-source}
 use Rattle.move_ledger.specs.Answer.{Answer, refused, acyclic, accepted, rejected, number, none, is_refused}
@@ -15,11 +15,11 @@ use Rattle.move_ledger.specs.Answer as answer
 use Rattle.move_ledger.specs.Ledger.{has_cycle, ask}
 use Rattle.move_ledger.specs.Loading.{refusal, loading, loading_row, entry_sets}
 use Rattle.move_area.specs.Area.{State, bodies, encode, decode}
-use Rattle.move_area.specs.BodyLaws.{read-acyclic}
+use Rattle.move_area.specs.BodyLaws.{read_acyclic}
 use Rattle.move_area.specs.Held.{bodies-sized}
 use Rattle.move_area.specs.Fixed.{checks_out}
 use Rattle.move_area.specs.Calls.{new, asked}
-use Rattle.move_area.specs.History.{Holding, holding-decode, holding-checked, loading-holds}
+use Rattle.move_area.specs.History.{Holding, holding_decode, holding_checked, loading-holds}
 use Rattle.demands.specs.Areas.{holding}
 use Rattle.demands.specs.Demand2.{no_cycle}
 
@@ -66,8 +66,8 @@ judged : (load : Load) (place : List ℕ) → length place ≡ load.A → {first
 judged load place long e f =
     let b = cyclic (edge load place) place in
     let from : (X Y : ℕ) → edge load place X Y ≡ true → has X place ≡ true = edge-source load place long in
-    let w = cyclic-walk (edge load place) place from in
-    let v = acyclic-walk (edge load place) place from in
+    let w = cyclic_walk (edge load place) place from in
+    let v = acyclic_walk (edge load place) place from in
     record {
       same = e ∙ sym f;
       cyclic_exactly = (λ x. w.0 ((says-cyclic b).0 (sym f ∙ x)), λ y. f ∙ (says-cyclic b).1 (w.1 y));
@@ -77,13 +77,13 @@ judged load place long e f =
 module _ {load : Load} {fixed : List ℕ} {N : ℕ} {area : List ℕ} {st : State} (h : Holding load fixed N area st) where
   answered : asked load fixed N area has_cycle ≡ cond (cyclic (edge load st.ledger.place) st.ledger.place) answer.cyclic acyclic
   unfolding asked ask
-  answered = holding-checked h _ ∙ ap (λ (u : State). ask load u.ledger.place has_cycle) (holding-decode h)
+  answered = holding_checked h _ ∙ ap (λ (u : State). ask load u.ledger.place has_cycle) (holding_decode h)
 
   kept : kept_verdict N area ≡ cond (cyclic (edge load st.ledger.place) st.ledger.place) answer.cyclic acyclic
   unfolding bodies encode
   kept =
       ap (λ (u : List ℕ). kept_verdict N u) (sym h.whole)
-      ∙ ap (λ k. cond (eqb k 0) answer.cyclic acyclic) (read-acyclic N load.A (bodies load N st) (bodies-sized h.held) area h.room)
+      ∙ ap (λ k. cond (eqb k 0) answer.cyclic acyclic) (read_acyclic N load.A (bodies load N st) (bodies-sized h.held) area h.room)
       ∙ flag-verdict (cyclic (edge load st.ledger.place) st.ledger.place)
 
 told : (load : Load) (fixed : List ℕ) (N : ℕ) (sets area : List ℕ) → is_refused (new load fixed N sets area).answer ≡ false

@@ -10,8 +10,8 @@ use Rattle.merge_area.specs.Layout.{cell, head, side, into}
 use Rattle.merge_area.specs.Read.{mode_in}
 use Rattle.merge_area.specs.Writes.{union_cell, merge_area}
 use Rattle.merge_laws.specs.Can.{CanMergeArea}
-use Rattle.merge_reads.specs.Fields.{yes-ind, mode-same}
-use Rattle.merge_reads.specs.Cells.{area-length, area-target, area-source, area-other, area-side, area-rest, area-into, area-unmarked}
+use Rattle.merge_reads.specs.Fields.{yes-ind, mode_same}
+use Rattle.merge_reads.specs.Cells.{area_length, area_target, area_source, area_other, area_side, area_rest, area_into, area_unmarked}
 
 or_swap : (a b c u : Bool) → ((((a || b) && u) || c) && u) ≡ ((((a || c) && u) || b) && u)
 or_swap a b c false = and-false ((a || b) && false || c) ∙ sym (and-false ((a || c) && false || b))
@@ -54,18 +54,18 @@ module _ (z : Sizes) (a : List ℕ) (t s u v : ℕ) (c : CanSwap z a t s u v) wh
   next : CanMergeArea z (merge_area z a t s) u v
   next = record {
     within = c.two.within;
-    long = omega (arith, area-length z a t s c.one, c.one.long);
+    long = omega (arith, area_length z a t s c.one, c.one.long);
     target = c.two.target;
     source = c.two.source;
     differ = c.two.differ;
   }
 
 module _ (z : Sizes) (a : List ℕ) (t s u v : ℕ) (c : CanSwap z a t s u v) where
-  abbrev one-first : List ℕ
-  one-first = merge_area z (merge_area z a t s) u v
+  abbrev one_first : List ℕ
+  one_first = merge_area z (merge_area z a t s) u v
 
-  abbrev two-first : List ℕ
-  two-first = merge_area z (merge_area z a u v) t s
+  abbrev two_first : List ℕ
+  two_first = merge_area z (merge_area z a u v) t s
 
   n₁ : CanMergeArea z (merge_area z a t s) u v
   n₁ = next z a t s u v c
@@ -73,80 +73,80 @@ module _ (z : Sizes) (a : List ℕ) (t s u v : ℕ) (c : CanSwap z a t s u v) wh
   n₂ : CanMergeArea z (merge_area z a u v) t s
   n₂ = next z a u v t s (turn_round c)
 
-  source_row : (y : ℕ) → y < z.chunks → cell one-first (s * z.chunks + y) ≡ cell two-first (s * z.chunks + y)
+  source_row : (y : ℕ) → y < z.chunks → cell one_first (s * z.chunks + y) ≡ cell two_first (s * z.chunks + y)
   source_row y b =
-      area-other z (merge_area z a t s) u v n₁ s y c.one.source b c.free c.apart ∙ area-source z a t s c.one y b ∙ sym (area-source z (merge_area z a u v) t s n₂ y b)
+      area_other z (merge_area z a t s) u v n₁ s y c.one.source b c.free c.apart ∙ area_source z a t s c.one y b ∙ sym (area_source z (merge_area z a u v) t s n₂ y b)
 
-  target_row : (y : ℕ) → y < z.chunks → cell one-first (t * z.chunks + y) ≡ cell two-first (t * z.chunks + y)
+  target_row : (y : ℕ) → y < z.chunks → cell one_first (t * z.chunks + y) ≡ cell two_first (t * z.chunks + y)
   target_row y b = elim (ℕ_discrete t u) [
     | yes q ↦
-        let e₁ = area-target z (merge_area z a t s) u v n₁ y b in
-        let e₂ = area-target z a t s c.one y b in
-        let e₃ = area-other z a t s c.one v y c.two.source b c.alone (λ k. c.apart (sym k)) in
-        let e₄ = area-target z (merge_area z a u v) t s n₂ y b in
-        let e₅ = area-target z a u v c.two y b in
-        let e₆ = area-other z a u v c.two s y c.one.source b c.free c.apart in
+        let e₁ = area_target z (merge_area z a t s) u v n₁ y b in
+        let e₂ = area_target z a t s c.one y b in
+        let e₃ = area_other z a t s c.one v y c.two.source b c.alone (λ k. c.apart (sym k)) in
+        let e₄ = area_target z (merge_area z a u v) t s n₂ y b in
+        let e₅ = area_target z a u v c.two y b in
+        let e₆ = area_other z a u v c.two s y c.one.source b c.free c.apart in
         cc (union-swap (cell a (t * z.chunks + y)) (cell a (s * z.chunks + y)) (cell a (v * z.chunks + y)) y t)
     | no q ↦
-        let e₁ = area-other z (merge_area z a t s) u v n₁ t y c.one.target b q (λ k. c.alone (sym k)) in
-        let e₂ = area-target z a t s c.one y b in
-        let e₃ = area-target z (merge_area z a u v) t s n₂ y b in
-        let e₄ = area-other z a u v c.two t y c.one.target b q (λ k. c.alone (sym k)) in
-        let e₅ = area-other z a u v c.two s y c.one.source b c.free c.apart in
+        let e₁ = area_other z (merge_area z a t s) u v n₁ t y c.one.target b q (λ k. c.alone (sym k)) in
+        let e₂ = area_target z a t s c.one y b in
+        let e₃ = area_target z (merge_area z a u v) t s n₂ y b in
+        let e₄ = area_other z a u v c.two t y c.one.target b q (λ k. c.alone (sym k)) in
+        let e₅ = area_other z a u v c.two s y c.one.source b c.free c.apart in
         cc
   ]
 
-  target-side : cell one-first (side z t) ≡ cell two-first (side z t)
+  target-side : cell one_first (side z t) ≡ cell two_first (side z t)
   target-side = elim (ℕ_discrete t u) [
     | yes q ↦
-        let e₁ = area-side z (merge_area z a t s) u v n₁ in
-        let e₂ = area-side z a t s c.one in
-        let e₃ = area-rest z a t s c.one (side z v) (omega arith) (omega (arith, c.alone)) (omega (arith, c.two.source)) in
-        let e₄ = area-side z (merge_area z a u v) t s n₂ in
-        let e₅ = area-side z a u v c.two in
-        let e₆ = area-rest z a u v c.two (side z s) (omega arith) (omega (arith, c.free)) (omega (arith, c.one.source)) in
+        let e₁ = area_side z (merge_area z a t s) u v n₁ in
+        let e₂ = area_side z a t s c.one in
+        let e₃ = area_rest z a t s c.one (side z v) (omega arith) (omega (arith, c.alone)) (omega (arith, c.two.source)) in
+        let e₄ = area_side z (merge_area z a u v) t s n₂ in
+        let e₅ = area_side z a u v c.two in
+        let e₆ = area_rest z a u v c.two (side z s) (omega arith) (omega (arith, c.free)) (omega (arith, c.one.source)) in
         cc (side_swap (cell a (side z t)) (cell a (side z s)) (cell a (side z v)))
     | no q ↦
-        let e₁ = area-rest z (merge_area z a t s) u v n₁ (side z t) (omega arith) (omega arith) (omega (arith, c.one.target)) in
-        let e₂ = area-side z a t s c.one in
-        let e₃ = area-side z (merge_area z a u v) t s n₂ in
-        let e₄ = area-rest z a u v c.two (side z t) (omega arith) (omega arith) (omega (arith, c.one.target)) in
-        let e₅ = area-rest z a u v c.two (side z s) (omega arith) (omega (arith, c.free)) (omega (arith, c.one.source)) in
+        let e₁ = area_rest z (merge_area z a t s) u v n₁ (side z t) (omega arith) (omega arith) (omega (arith, c.one.target)) in
+        let e₂ = area_side z a t s c.one in
+        let e₃ = area_side z (merge_area z a u v) t s n₂ in
+        let e₄ = area_rest z a u v c.two (side z t) (omega arith) (omega arith) (omega (arith, c.one.target)) in
+        let e₅ = area_rest z a u v c.two (side z s) (omega arith) (omega (arith, c.free)) (omega (arith, c.one.source)) in
         cc
   ]
 
-  other_row : (x y : ℕ) → x < z.chunks → y < z.chunks → (x ≡ t → ⊥) → (x ≡ s → ⊥) → (x ≡ u → ⊥) → (x ≡ v → ⊥) → cell one-first (x * z.chunks + y) ≡ cell two-first (x * z.chunks + y)
+  other_row : (x y : ℕ) → x < z.chunks → y < z.chunks → (x ≡ t → ⊥) → (x ≡ s → ⊥) → (x ≡ u → ⊥) → (x ≡ v → ⊥) → cell one_first (x * z.chunks + y) ≡ cell two_first (x * z.chunks + y)
   other_row x y b d p q m n =
-      area-other z (merge_area z a t s) u v n₁ x y b d m n ∙ area-other z a t s c.one x y b d p q
-      ∙ sym (area-other z (merge_area z a u v) t s n₂ x y b d p q ∙ area-other z a u v c.two x y b d m n)
+      area_other z (merge_area z a t s) u v n₁ x y b d m n ∙ area_other z a t s c.one x y b d p q
+      ∙ sym (area_other z (merge_area z a u v) t s n₂ x y b d p q ∙ area_other z a u v c.two x y b d m n)
 
   -- each source's own merge
-  source-into : cell one-first (into z s) ≡ cell two-first (into z s)
+  source-into : cell one_first (into z s) ≡ cell two_first (into z s)
   source-into = go (mode_in z a) refl
     where
-      e₁ : cell one-first (into z s) ≡ cell (merge_area z a t s) (into z s)
-      e₁ = area-rest z (merge_area z a t s) u v n₁ (into z s) (omega arith) (omega (arith, c.two.target)) (omega (arith, c.apart))
+      e₁ : cell one_first (into z s) ≡ cell (merge_area z a t s) (into z s)
+      e₁ = area_rest z (merge_area z a t s) u v n₁ (into z s) (omega arith) (omega (arith, c.two.target)) (omega (arith, c.apart))
 
       same-mode : mode_in z (merge_area z a u v) ≡ mode_in z a
-      same-mode = mode-same z a (merge_area z a u v) (area-rest z a u v c.two (head z 5) (omega arith) (omega arith) (omega arith))
+      same-mode = mode_same z a (merge_area z a u v) (area_rest z a u v c.two (head z 5) (omega arith) (omega arith) (omega arith))
 
-      go : (m : Bool) → mode_in z a ≡ m → cell one-first (into z s) ≡ cell two-first (into z s)
-      go true m = e₁ ∙ area-into z a t s c.one m ∙ sym (area-into z (merge_area z a u v) t s n₂ (same-mode ∙ m))
+      go : (m : Bool) → mode_in z a ≡ m → cell one_first (into z s) ≡ cell two_first (into z s)
+      go true m = e₁ ∙ area_into z a t s c.one m ∙ sym (area_into z (merge_area z a u v) t s n₂ (same-mode ∙ m))
       go false m =
-          e₁ ∙ area-unmarked z a t s c.one m
-          ∙ sym (area-unmarked z (merge_area z a u v) t s n₂ (same-mode ∙ m) ∙ area-rest z a u v c.two (into z s) (omega arith) (omega (arith, c.two.target)) (omega (arith, c.apart)))
+          e₁ ∙ area_unmarked z a t s c.one m
+          ∙ sym (area_unmarked z (merge_area z a u v) t s n₂ (same-mode ∙ m) ∙ area_rest z a u v c.two (into z s) (omega arith) (omega (arith, c.two.target)) (omega (arith, c.apart)))
 
-  other_place : (i : ℕ) → z.chunks * z.chunks ≤ i → (i ≡ side z t → ⊥) → (i ≡ side z u → ⊥) → (i ≡ into z s → ⊥) → (i ≡ into z v → ⊥) → cell one-first i ≡ cell two-first i
+  other_place : (i : ℕ) → z.chunks * z.chunks ≤ i → (i ≡ side z t → ⊥) → (i ≡ side z u → ⊥) → (i ≡ into z s → ⊥) → (i ≡ into z v → ⊥) → cell one_first i ≡ cell two_first i
   other_place i h m n p q =
-      area-rest z (merge_area z a t s) u v n₁ i h n q ∙ area-rest z a t s c.one i h m p
-      ∙ sym (area-rest z (merge_area z a u v) t s n₂ i h m p ∙ area-rest z a u v c.two i h n q)
+      area_rest z (merge_area z a t s) u v n₁ i h n q ∙ area_rest z a t s c.one i h m p
+      ∙ sym (area_rest z (merge_area z a u v) t s n₂ i h m p ∙ area_rest z a u v c.two i h n q)
 
-  same_length : length one-first ≡ length two-first
+  same_length : length one_first ≡ length two_first
   same_length =
-      area-length z (merge_area z a t s) u v n₁ ∙ area-length z a t s c.one ∙ sym (area-length z (merge_area z a u v) t s n₂ ∙ area-length z a u v c.two)
+      area_length z (merge_area z a t s) u v n₁ ∙ area_length z a t s c.one ∙ sym (area_length z (merge_area z a u v) t s n₂ ∙ area_length z a u v c.two)
 
 module _ (z : Sizes) (a : List ℕ) (t s u v : ℕ) (c : CanSwap z a t s u v) where
-  in_row : (x y : ℕ) → x < z.chunks → y < z.chunks → cell (one-first z a t s u v c) (x * z.chunks + y) ≡ cell (two-first z a t s u v c) (x * z.chunks + y)
+  in_row : (x y : ℕ) → x < z.chunks → y < z.chunks → cell (one_first z a t s u v c) (x * z.chunks + y) ≡ cell (two_first z a t s u v c) (x * z.chunks + y)
   in_row x y b d = elim (ℕ_discrete x s) [
     | yes q ↦ rw q (source_row z a t s u v c y d)
     | no m ↦ elim (ℕ_discrete x v) [
@@ -158,7 +158,7 @@ module _ (z : Sizes) (a : List ℕ) (t s u v : ℕ) (c : CanSwap z a t s u v) wh
     ]
   ]
 
-  beyond : (i : ℕ) → z.chunks * z.chunks ≤ i → cell (one-first z a t s u v c) i ≡ cell (two-first z a t s u v c) i
+  beyond : (i : ℕ) → z.chunks * z.chunks ≤ i → cell (one_first z a t s u v c) i ≡ cell (two_first z a t s u v c) i
   beyond i h = elim (ℕ_discrete i (side z t)) [
     | yes q ↦ rw q (target-side z a t s u v c)
     | no m ↦ elim (ℕ_discrete i (side z u)) [
@@ -171,8 +171,8 @@ module _ (z : Sizes) (a : List ℕ) (t s u v : ℕ) (c : CanSwap z a t s u v) wh
   ]
 
   -- the two merges leave the same area in either order
-  pub area-swap : merge_area z (merge_area z a t s) u v ≡ merge_area z (merge_area z a u v) t s
-  area-swap = ext_get_or 0 _ _ (same_length z a t s u v c) (λ i r. elim (dec_lt i (z.chunks * z.chunks)) [
+  pub area_swap : merge_area z (merge_area z a t s) u v ≡ merge_area z (merge_area z a u v) t s
+  area_swap = ext_get_or 0 _ _ (same_length z a t s u v c) (λ i r. elim (dec_lt i (z.chunks * z.chunks)) [
     | yes b ↦
         let pos : 0 < z.chunks = omega (arith, c.one.target) in
         rw (← div-add-mod' i z.chunks) (in_row (i / z.chunks) (i % z.chunks) ((div-lt_iff_lt-mul pos).1 b) (mod-lt i pos))

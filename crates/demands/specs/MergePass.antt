@@ -26,10 +26,10 @@ use Rattle.merge_area.specs.Writes.{pass_area, write}
 use Rattle.merge_area.specs.Calls.{refusal, step, ends}
 use Rattle.merge_laws.specs.Rows.{turned-free, turned_refused, Stood, free}
 use Rattle.merge_laws.specs.Ordering.{ordered}
-use Rattle.merge_reads.specs.Pass.{pass-holds}
-use Rattle.demands.specs.MergeRefused.{free_step, stuck-step}
+use Rattle.merge_reads.specs.Pass.{pass_holds}
+use Rattle.demands.specs.MergeRefused.{free_step, stuck_step}
 use Rattle.demands.specs.MergeKept.{write-holds}
-use Rattle.demands.specs.MergeCounted.{Loopless, loopless, opened-loopless, merge-loopless, merge-closes, passed-loopless}
+use Rattle.demands.specs.MergeCounted.{Loopless, loopless, opened_loopless, merge_loopless, merge-closes, passed_loopless}
 
 -- the dependencies that count close a loop
 unfoldable pub counted_loop : Sizes → List ℕ → Bool
@@ -50,9 +50,9 @@ pass_whole z a props bars kinds numbers = go (refusal z a (pass props bars kinds
 
 -- an area whose graph is in order, as its graph says
 module _ (z : Sizes) (a : List ℕ) (o : Ordered z (read z a)) where
-  free-give : Loopless (read z a) → counted_loop z a ≡ false
+  free_give : Loopless (read z a) → counted_loop z a ≡ false
   unfolding counted_loop
-  free-give h = (loopless o).1 h
+  free_give h = (loopless o).1 h
 
   free-take : counted_loop z a ≡ false → Loopless (read z a)
   unfolding counted_loop
@@ -60,7 +60,7 @@ module _ (z : Sizes) (a : List ℕ) (o : Ordered z (read z a)) where
 
 -- the area holds graph g, in order and loopless
 held-free : (z : Sizes) (a : List ℕ) (g : Graph) → read z a ≡ g → Ordered z g → Loopless g → counted_loop z a ≡ false
-held-free z a g e o h = free-give z a (subst (Ordered z) (sym e) o) (subst Loopless (sym e) h)
+held-free z a g e o h = free_give z a (subst (Ordered z) (sym e) o) (subst Loopless (sym e) h)
 
 -- a pass that no row refuses
 record Passable (z : Sizes) (a props : List ℕ) : Type 0 where
@@ -89,8 +89,8 @@ pass_stays_acyclic z a props bars kinds numbers m h k l = elim (ℕ_discrete (re
       let c = passable z a props bars kinds numbers q in
       let o = ordered z a c.stood in
       ap (λ (r : Answer × List ℕ). counted_loop z r.1) (turned-free (refusal z a (pass props bars kinds numbers)) a _ q)
-      ∙ held-free z _ _ (pass-holds z a c.stood c.room props bars c.fits c.unmerged k l).graph
-      (passed-kept o c.room props bars c.fits c.unmerged k l).ordered (passed-loopless o m c.room props bars c.fits c.unmerged (free-take z a o h) k l)
+      ∙ held-free z _ _ (pass_holds z a c.stood c.room props bars c.fits c.unmerged k l).graph
+      (passed-kept o c.room props bars c.fits c.unmerged k l).ordered (passed_loopless o m c.room props bars c.fits c.unmerged (free-take z a o h) k l)
 ]
 
 -- an answer that warns
@@ -164,46 +164,46 @@ mergeable z g t s h =
 
 module _ (z : Sizes) (a : List ℕ) (m : mode_in z a ≡ true) where
   -- an unrefused call's graph
-  graph-stays : (c : Call) → refusal z a c ≡ 0 → heeding z a c ≡ true → Loopless (read z a) → Loopless (acted z (read z a) c).1
+  graph_stays : (c : Call) → refusal z a c ≡ 0 → heeding z a c ≡ true → Loopless (read z a) → Loopless (acted z (read z a) c).1
   unfolding acted heeding assigned_to appended registered
-  graph-stays (init_module_assignment k set effs) q h none = go (eqb (chunk_of (value set) (sets-in z a)) None)
+  graph_stays (init_module_assignment k set effs) q h none = go (eqb (chunk_of (value set) (sets-in z a)) None)
     where
       o : Ordered z (read z a)
       o = ordered z a (free z a (init_module_assignment k set effs) refl q).stood
 
       go : (b : Bool) → Loopless (cond b (appended effs (opened (read z a) (value set)) (cell a (head z 1)) k) (appended effs (read z a) (chunk_of (value set) (sets-in z a)) k))
-      go true = opened-loopless o (value set) none
+      go true = opened_loopless o (value set) none
       go false = none
-  graph-stays (add_module_to_chunk k x effs) q h none = none
-  graph-stays (register_chunk_graph_index k x) q h none = none
-  graph-stays (to_temp_idx k) q h none = none
-  graph-stays (calc_chunk_dependencies starts deps) q h none = absurd (true≢false (sym h))
-  graph-stays (would_create_circular_dependency s t) q h none = none
-  graph-stays (is_reachable x y) q h none = none
-  graph-stays (merge_chunk_dependencies t s) q h none =
+  graph_stays (add_module_to_chunk k x effs) q h none = none
+  graph_stays (register_chunk_graph_index k x) q h none = none
+  graph_stays (to_temp_idx k) q h none = none
+  graph_stays (calc_chunk_dependencies starts deps) q h none = absurd (true≢false (sym h))
+  graph_stays (would_create_circular_dependency s t) q h none = none
+  graph_stays (is_reachable x y) q h none = none
+  graph_stays (merge_chunk_dependencies t s) q h none =
       let f = free z a (merge_chunk_dependencies t s) refl q in
       let c = mergeable z (read z a) t s f.later in
-      merge-loopless (ordered z a f.stood) t s m c.target c.source c.apart c.free_target c.free_source (sym (question z a t s q) ∙ not-true _ h) none
-  graph-stays (pass props bars kinds numbers) q h none =
+      merge_loopless (ordered z a f.stood) t s m c.target c.source c.apart c.free_target c.free_source (sym (question z a t s q) ∙ not-true _ h) none
+  graph_stays (pass props bars kinds numbers) q h none =
       let c = passable z a props bars kinds numbers q in
-      passed-loopless (ordered z a c.stood) m c.room props bars c.fits c.unmerged none (cell a (head z 1)) (omega arith)
+      passed_loopless (ordered z a c.stood) m c.room props bars c.fits c.unmerged none (cell a (head z 1)) (omega arith)
 
   -- a call, refused or not
-  pub call-stays-acyclic : (c : Call) → heeding z a c ≡ true → counted_loop z a ≡ false → counted_loop z (step z a c).1 ≡ false
-  call-stays-acyclic c h n = elim (ℕ_discrete (refusal z a c) 0) [
-    | no q ↦ ap (counted_loop z) (stuck-step z a c q) ∙ n
+  pub call-stays_acyclic : (c : Call) → heeding z a c ≡ true → counted_loop z a ≡ false → counted_loop z (step z a c).1 ≡ false
+  call-stays_acyclic c h n = elim (ℕ_discrete (refusal z a c) 0) [
+    | no q ↦ ap (counted_loop z) (stuck_step z a c q) ∙ n
     | yes q ↦
         let f = free z a c refl q in
         let o = ordered z a f.stood in
         ap (λ (r : Answer × List ℕ). counted_loop z r.1) (free_step z a c q)
-        ∙ held-free z _ _ (write-holds z a c q).graph (acted-kept z (read z a) c o f.later) (graph-stays c q h (free-take z a o n))
+        ∙ held-free z _ _ (write-holds z a c q).graph (acted-kept z (read z a) c o f.later) (graph_stays c q h (free-take z a o n))
   ]
 
   -- of an acyclic area, a merge that the warning speaks against closes a loop, and no other does
-  pub merge-closes-exactly : (t s : ℕ) → refusal z a (merge_chunk_dependencies t s) ≡ 0 → counted_loop z a ≡ false
+  pub merge-closes_exactly : (t s : ℕ) → refusal z a (merge_chunk_dependencies t s) ≡ 0 → counted_loop z a ≡ false
       → counted_loop z (step z a (merge_chunk_dependencies t s)).1 ≡ warned (step z a (would_create_circular_dependency s t)).0
   unfolding acted heeding
-  merge-closes-exactly t s q n = go (warned (step z a (would_create_circular_dependency s t)).0) refl (counted_loop z (step z a (merge_chunk_dependencies t s)).1) refl
+  merge-closes_exactly t s q n = go (warned (step z a (would_create_circular_dependency s t)).0) refl (counted_loop z (step z a (merge_chunk_dependencies t s)).1) refl
     where
       after : List ℕ
       after = (step z a (merge_chunk_dependencies t s)).1
@@ -223,35 +223,35 @@ module _ (z : Sizes) (a : List ℕ) (m : mode_in z a ≡ true) where
       go : (w : Bool) → warned (step z a (would_create_circular_dependency s t)).0 ≡ w → (b : Bool) → counted_loop z after ≡ b → b ≡ w
       go true e true k = refl
       go false e false k = refl
-      go false e true k = absurd (true≢false (sym k ∙ call-stays-acyclic (merge_chunk_dependencies t s) (ap not e) n))
+      go false e true k = absurd (true≢false (sym k ∙ call-stays_acyclic (merge_chunk_dependencies t s) (ap not e) n))
       go true e false k =
           absurd (subst Loopless held (free-take z after kept k) t
           (merge-closes (ordered z a stood) t s m c.target c.source c.apart c.free_target c.free_source (sym (question z a t s q) ∙ e)))
 
 -- no call changes the mode
 module _ (z : Sizes) (a : List ℕ) where
-  graph-mode : (c : Call) → refusal z a c ≡ 0 → (acted z (read z a) c).1.mode ≡ mode_in z a
+  graph_mode : (c : Call) → refusal z a c ≡ 0 → (acted z (read z a) c).1.mode ≡ mode_in z a
   unfolding acted assigned_to appended opened registered calculated merged
-  graph-mode (init_module_assignment k set effs) q = go (eqb (chunk_of (value set) (sets-in z a)) None)
+  graph_mode (init_module_assignment k set effs) q = go (eqb (chunk_of (value set) (sets-in z a)) None)
     where
       go : (b : Bool) → (cond b (appended effs (opened (read z a) (value set)) (cell a (head z 1)) k) (appended effs (read z a) (chunk_of (value set) (sets-in z a)) k)).mode ≡ mode_in z a
       go true = refl
       go false = refl
-  graph-mode (add_module_to_chunk k x effs) q = refl
-  graph-mode (register_chunk_graph_index k x) q = refl
-  graph-mode (to_temp_idx k) q = refl
-  graph-mode (calc_chunk_dependencies starts deps) q = refl
-  graph-mode (would_create_circular_dependency s t) q = refl
-  graph-mode (is_reachable x y) q = refl
-  graph-mode (merge_chunk_dependencies t s) q = refl
-  graph-mode (pass props bars kinds numbers) q =
+  graph_mode (add_module_to_chunk k x effs) q = refl
+  graph_mode (register_chunk_graph_index k x) q = refl
+  graph_mode (to_temp_idx k) q = refl
+  graph_mode (calc_chunk_dependencies starts deps) q = refl
+  graph_mode (would_create_circular_dependency s t) q = refl
+  graph_mode (is_reachable x y) q = refl
+  graph_mode (merge_chunk_dependencies t s) q = refl
+  graph_mode (pass props bars kinds numbers) q =
       let c = passable z a props bars kinds numbers q in
       (passed-kept (ordered z a c.stood) c.room props bars c.fits c.unmerged (cell a (head z 1)) (omega arith)).mode
 
-  pub step-mode : (c : Call) → mode_in z (step z a c).1 ≡ mode_in z a
-  step-mode c = elim (ℕ_discrete (refusal z a c) 0) [
-    | no q ↦ ap (mode_in z) (stuck-step z a c q)
-    | yes q ↦ ap (λ (r : Answer × List ℕ). mode_in z r.1) (free_step z a c q) ∙ ap (λ (g : Graph). g.mode) (write-holds z a c q).graph ∙ graph-mode c q
+  pub step_mode : (c : Call) → mode_in z (step z a c).1 ≡ mode_in z a
+  step_mode c = elim (ℕ_discrete (refusal z a c) 0) [
+    | no q ↦ ap (mode_in z) (stuck_step z a c q)
+    | yes q ↦ ap (λ (r : Answer × List ℕ). mode_in z r.1) (free_step z a c q) ∙ ap (λ (g : Graph). g.mode) (write-holds z a c q).graph ∙ graph_mode c q
   ]
 
 -- over whole lists of calls, refused ones included: passes, unwarned merges, questions, registering, modules and chunks added
@@ -259,7 +259,7 @@ pub calls_stay_acyclic : (z : Sizes) (a : List ℕ) (calls : List Call) → mode
 unfolding ends all_heeding
 calls_stay_acyclic z a [] m h n = n
 calls_stay_acyclic z a (c ∷ l) m h n =
-    calls_stay_acyclic z (step z a c).1 l (step-mode z a c ∙ m) (and_right (heeding z a c) _ h) (call-stays-acyclic z a m c (and_left (heeding z a c) _ h) n)
+    calls_stay_acyclic z (step z a c).1 l (step_mode z a c ∙ m) (and_right (heeding z a c) _ h) (call-stays_acyclic z a m c (and_left (heeding z a c) _ h) n)
 
 -- `calc_chunk_dependencies` isn't among them: two modules that depend on each other, each in a chunk of its own
 abbrev two_modules : Graph

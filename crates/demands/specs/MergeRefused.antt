@@ -53,29 +53,29 @@ module _ (z : Sizes) (a : List ℕ) (c : Call) where
   zero_row zero r h = refl
   zero_row (suc n) r h = absurd (true≢false h)
 
-  pub unrefused-row : is_refused (step z a c).0 ≡ false → refusal z a c ≡ 0
+  pub unrefused_row : is_refused (step z a c).0 ≡ false → refusal z a c ≡ 0
   unfolding step
-  unrefused-row h = zero_row (refusal z a c) _ h
+  unrefused_row h = zero_row (refusal z a c) _ h
 
   -- what it answers and leaves then
   pub free_step : refusal z a c ≡ 0 → step z a c ≡ ((acted z (read z a) c).0, write z a c)
   unfolding step
   free_step h = turned-free (refusal z a c) a _ h
 
-  pub stuck-step : (refusal z a c ≡ 0 → ⊥) → (step z a c).1 ≡ a
+  pub stuck_step : (refusal z a c ≡ 0 → ⊥) → (step z a c).1 ≡ a
   unfolding step
-  stuck-step h = ap (λ (r : Answer × List ℕ). r.1) (turned_refused (refusal z a c) a _ h)
+  stuck_step h = ap (λ (r : Answer × List ℕ). r.1) (turned_refused (refusal z a c) a _ h)
 
   -- "A refusal changes no lent memory": the area
-  pub refused-merge-call : is_refused (step z a c).0 ≡ true → (step z a c).1 ≡ a
+  pub refused_merge-call : is_refused (step z a c).0 ≡ true → (step z a c).1 ≡ a
   unfolding step
-  refused-merge-call h = kept a (refusal z a c) _ (acts z (read z a) c) h
+  refused_merge-call h = kept a (refusal z a c) _ (acts z (read z a) c) h
 
 -- the same of a loading
 module _ (z : Sizes) (n : Lent) (a : List ℕ) where
-  pub refused-merge-loading : is_refused (load_step z n a).0 ≡ true → (load_step z n a).1 ≡ a
+  pub refused_merge-loading : is_refused (load_step z n a).0 ≡ true → (load_step z n a).1 ≡ a
   unfolding load_step is_refused
-  refused-merge-loading h = kept a (load_refusal z n a) (done, loaded_area z n a) refl h
+  refused_merge-loading h = kept a (load_refusal z n a) (done, loaded_area z n a) refl h
 
 -- and the two lists that the pass writes. Every other list is lent for reading only
 pub refused_lists : (answer : Answer) (l : List ℕ × List ℕ) → is_refused answer ≡ true → lists_after answer l ≡ l

@@ -18,22 +18,22 @@ use Rattle.merge_area.specs.Calls.{refusal, step, ends, answers}
 use Rattle.merge_laws.specs.Can.{CanMergeArea}
 use Rattle.merge_laws.specs.Rows.{free}
 use Rattle.merge_laws.specs.May.{may-merge}
-use Rattle.demands.specs.MergeRefused.{free_step, stuck-step}
+use Rattle.demands.specs.MergeRefused.{free_step, stuck_step}
 use Rattle.demands.specs.MergeKept.{write-holds, write-consistent}
-use Rattle.merge_reads.specs.Cells.{area-length, area-rest}
-use Rattle.demands.specs.MergeEither.{area-swap}
+use Rattle.merge_reads.specs.Cells.{area_length, area_rest}
+use Rattle.demands.specs.MergeEither.{area_swap}
 
 abbrev merge : ℕ → ℕ → Call
 merge target source = merge_chunk_dependencies target source
 
 -- a merge that no row refuses
 module _ (z : Sizes) (a : List ℕ) (t s : ℕ) (h : refusal z a (merge t s) ≡ 0) where
-  can-merge : CanMergeArea z a t s
-  can-merge = may-merge z a t s refl h
+  can_merge : CanMergeArea z a t s
+  can_merge = may-merge z a t s refl h
 
-  merged-area : (step z a (merge t s)).1 ≡ merge_area z a t s
+  merged_area : (step z a (merge t s)).1 ≡ merge_area z a t s
   unfolding write
-  merged-area = ap (λ r. r.1) (free_step z a (merge t s) h)
+  merged_area = ap (λ r. r.1) (free_step z a (merge t s) h)
 
   -- another chunk's merge stays
   kept-into : (x : ℕ) → (x ≡ s → ⊥) → into_in z (merge_area z a t s) x ≡ into_in z a x
@@ -48,7 +48,7 @@ module _ (z : Sizes) (a : List ℕ) (t s : ℕ) (h : refusal z a (merge t s) ≡
   merged-row : (u v : ℕ) → (u ≡ s → ⊥) → (v ≡ s → ⊥) → refusal z (merge_area z a t s) (merge u v) ≡ refusal z a (merge u v)
   unfolding refusal later short write
   merged-row u v p q =
-      rw (area-length z a t s can-merge, after, (free z a (merge t s) refl h).stood.consistent, area-rest z a t s can-merge (head z 1) (omega arith) (omega arith) (omega arith), kept-into u p, kept-into v q)
+      rw (area_length z a t s can_merge, after, (free z a (merge t s) refl h).stood.consistent, area_rest z a t s can_merge (head z 1) (omega arith) (omega arith) (omega arith), kept-into u p, kept-into v q)
     where
       after : inconsistent z (merge_area z a t s) ≡ false
       after = write-consistent z a (merge t s) h
@@ -57,8 +57,8 @@ module _ (z : Sizes) (a : List ℕ) (t s u v : ℕ) (target : u ≡ s → ⊥) (
   -- whether a merge is refused isn't changed by another whose source it doesn't name
   same_row : refusal z (step z a (merge t s)).1 (merge u v) ≡ refusal z a (merge u v)
   same_row = elim (ℕ_discrete (refusal z a (merge t s)) 0) [
-    | yes q ↦ rw (merged-area z a t s q) (merged-row z a t s q u v target source)
-    | no q ↦ ap (λ b. refusal z b (merge u v)) (stuck-step z a (merge t s) q)
+    | yes q ↦ rw (merged_area z a t s q) (merged-row z a t s q u v target source)
+    | no q ↦ ap (λ b. refusal z b (merge u v)) (stuck_step z a (merge t s) q)
   ]
 
   told : (q : ℕ) (b c d e : List ℕ) → (turned q b (done, d)).0 ≡ (turned q c (done, e)).0
@@ -72,11 +72,11 @@ module _ (z : Sizes) (a : List ℕ) (t s u v : ℕ) (target : u ≡ s → ⊥) (
   same_answer = rw same_row (told (refusal z a (merge u v)) _ a _ (write z a (merge u v)))
 
 module _ (z : Sizes) (a : List ℕ) (t s u v : ℕ) (apart : s ≡ v → ⊥) (free : s ≡ u → ⊥) (alone : v ≡ t → ⊥) where
-  abbrev one-row : refusal z (step z a (merge t s)).1 (merge u v) ≡ refusal z a (merge u v)
-  one-row = same_row z a t s u v (λ k. free (sym k)) (λ k. apart (sym k))
+  abbrev one_row : refusal z (step z a (merge t s)).1 (merge u v) ≡ refusal z a (merge u v)
+  one_row = same_row z a t s u v (λ k. free (sym k)) (λ k. apart (sym k))
 
-  abbrev two-row : refusal z (step z a (merge u v)).1 (merge t s) ≡ refusal z a (merge t s)
-  two-row = same_row z a u v t s (λ k. alone (sym k)) apart
+  abbrev two_row : refusal z (step z a (merge u v)).1 (merge t s) ≡ refusal z a (merge t s)
+  two_row = same_row z a u v t s (λ k. alone (sym k)) apart
 
   -- both merges, in either order
   same_area : (step z (step z a (merge t s)).1 (merge u v)).1 ≡ (step z (step z a (merge u v)).1 (merge t s)).1
@@ -84,19 +84,19 @@ module _ (z : Sizes) (a : List ℕ) (t s u v : ℕ) (apart : s ≡ v → ⊥) (f
     | yes p ↦ elim (ℕ_discrete (refusal z a (merge u v)) 0) [
       | yes q ↦ both p q
       | no q ↦
-          stuck-step z (step z a (merge t s)).1 (merge u v) (λ k. q (sym (one-row) ∙ k))
-          ∙ sym (ap (λ b. (step z b (merge t s)).1) (stuck-step z a (merge u v) q))
+          stuck_step z (step z a (merge t s)).1 (merge u v) (λ k. q (sym (one_row) ∙ k))
+          ∙ sym (ap (λ b. (step z b (merge t s)).1) (stuck_step z a (merge u v) q))
     ]
     | no p ↦
-        ap (λ b. (step z b (merge u v)).1) (stuck-step z a (merge t s) p)
-        ∙ sym (stuck-step z (step z a (merge u v)).1 (merge t s) (λ k. p (sym (two-row) ∙ k)))
+        ap (λ b. (step z b (merge u v)).1) (stuck_step z a (merge t s) p)
+        ∙ sym (stuck_step z (step z a (merge u v)).1 (merge t s) (λ k. p (sym (two_row) ∙ k)))
   ]
     where
       both : refusal z a (merge t s) ≡ 0 → refusal z a (merge u v) ≡ 0 → (step z (step z a (merge t s)).1 (merge u v)).1 ≡ (step z (step z a (merge u v)).1 (merge t s)).1
       both p q =
-          merged-area z (step z a (merge t s)).1 u v (one-row ∙ q) ∙ ap (λ b. merge_area z b u v) (merged-area z a t s p)
-          ∙ area-swap z a t s u v (record { one = can-merge z a t s p; two = can-merge z a u v q; apart = apart; free = free; alone = alone })
-          ∙ sym (merged-area z (step z a (merge u v)).1 t s (two-row ∙ p) ∙ ap (λ b. merge_area z b t s) (merged-area z a u v q))
+          merged_area z (step z a (merge t s)).1 u v (one_row ∙ q) ∙ ap (λ b. merge_area z b u v) (merged_area z a t s p)
+          ∙ area_swap z a t s u v (record { one = can_merge z a t s p; two = can_merge z a u v q; apart = apart; free = free; alone = alone })
+          ∙ sym (merged_area z (step z a (merge u v)).1 t s (two_row ∙ p) ∙ ap (λ b. merge_area z b t s) (merged_area z a u v q))
 
 -- a list of calls in two parts
 pub ends_append : (z : Sizes) (a : List ℕ) (l m : List Call) → ends z a (l ++ m) ≡ ends z (ends z a l) m

@@ -11,7 +11,7 @@ use Rattle.move_area.specs.Area.{State, decode}
 use Rattle.move_area.specs.Bodies.{atom_at}
 use Rattle.move_area.specs.Fixed.{checks_out}
 use Rattle.move_area.specs.Calls.{checked, first, new}
-use Rattle.move_area.specs.History.{holding-decode, holding-checks, area_after, loading-holds, run}
+use Rattle.move_area.specs.History.{holding_decode, holding_checks, area_after, loading-holds, run}
 use Rattle.move_rank.specs.Rank.{Rank, before, equal, after, rank, turned}
 use Rattle.move_rank.specs.RankLaws.{rank_turned, rank_equal, rank_trans}
 use Rattle.move_rank.specs.Ranking.{told, ranking}
@@ -71,8 +71,8 @@ module _ (load : Load) where
       go equal e = inl (equal_not_after (rank load p q) e)
       go after e = inr (before_not_after (rank load q p) (rank_turned load p q ∙ ap turned e))
 
-  pub total-order : TotalOrder load
-  total-order = record {
+  pub total_order : TotalOrder load
+  total_order = record {
     reflexive = λ p. equal_not_after (rank load p p) ((rank_equal load p p).1 refl);
     antisymmetric = one_way;
     transitive = onward;
@@ -105,20 +105,20 @@ passed p x = rw (p.legal, p.checks) refl
 
 module _ {load : Load} {fixed : List ℕ} {N : ℕ} {one other : List ℕ} (p : Passes load fixed N one) (q : Passes load fixed N other) where
   -- two areas that pass are ranked by their placements
-  pub areas-ranked : ranking load fixed N one other ≡ told (rank load (place_in load N one) (place_in load N other))
+  pub areas_ranked : ranking load fixed N one other ≡ told (rank load (place_in load N one) (place_in load N other))
   unfolding ranking
-  areas-ranked = passed p _ ∙ passed q _
+  areas_ranked = passed p _ ∙ passed q _
 
   -- and are equal exactly when every atom has the same set in both; registered sets, counter and marks don't count
-  pub areas-equal : (ranking load fixed N one other ≡ number 1) ↔ ((i : ℕ) → i < load.A → at (place_in load N one) i ≡ at (place_in load N other) i)
-  areas-equal =
+  pub areas_equal : (ranking load fixed N one other ≡ number 1) ↔ ((i : ℕ) → i < load.A → at (place_in load N one) i ≡ at (place_in load N other) i)
+  areas_equal =
       let e = equal_exactly load (place_in load N one) (place_in load N other) (place_long load N one) (place_long load N other) in
-      (λ h. e.0 (told_equal _ (sym areas-ranked ∙ h)), λ h. areas-ranked ∙ ap told (e.1 h))
+      (λ h. e.0 (told_equal _ (sym areas_ranked ∙ h)), λ h. areas_ranked ∙ ap told (e.1 h))
 
 -- lent the other way round, the answer is turned
 pub areas-turned : {load : Load} {fixed : List ℕ} {N : ℕ} {one other : List ℕ} → Passes load fixed N one → Passes load fixed N other
     → ranking load fixed N other one ≡ told (turned (rank load (place_in load N one) (place_in load N other)))
-areas-turned p q = areas-ranked q p ∙ ap told (rank_turned _ _ _)
+areas-turned p q = areas_ranked q p ∙ ap told (rank_turned _ _ _)
 
 -- the areas of two histories of one load are never refused: their ledgers' placements are ranked
 pub histories_ranked : (load : Load) (fixed : List ℕ) (N : ℕ) (sets area sets' area' : List ℕ) (calls calls' : List Call)
@@ -128,7 +128,7 @@ pub histories_ranked : (load : Load) (fixed : List ℕ) (N : ℕ) (sets area set
 histories_ranked load fixed N sets area sets' area' calls calls' u v =
     let r = run load fixed N (new load fixed N sets area).area (first load N sets) calls (loading-holds load fixed N sets area u) in
     let s = run load fixed N (new load fixed N sets' area').area (first load N sets') calls' (loading-holds load fixed N sets' area' v) in
-    areas-ranked (record { legal = r.holds.legal; checks = holding-checks r.holds }) (record { legal = s.holds.legal; checks = holding-checks s.holds })
+    areas_ranked (record { legal = r.holds.legal; checks = holding_checks r.holds }) (record { legal = s.holds.legal; checks = holding_checks s.holds })
     ∙ ap₂ (λ (x y : List ℕ). told (rank load x y))
-    (ap (λ (z : State). z.ledger.place) (holding-decode r.holds) ∙ ap (λ (l : Ledger). l.place) r.ends)
-    (ap (λ (z : State). z.ledger.place) (holding-decode s.holds) ∙ ap (λ (l : Ledger). l.place) s.ends)
+    (ap (λ (z : State). z.ledger.place) (holding_decode r.holds) ∙ ap (λ (l : Ledger). l.place) r.ends)
+    (ap (λ (z : State). z.ledger.place) (holding_decode s.holds) ∙ ap (λ (l : Ledger). l.place) s.ends)

@@ -9,13 +9,13 @@ use Rattle.move_ledger.specs.Answer.{Answer, refused, acyclic, accepted, rejecte
 use Rattle.move_ledger.specs.Answer as answer
 use Rattle.move_ledger.specs.Ledger.{Ledger, smallest_empty, free_place, step1, stays, report, decide, move, Question, atom_set, atom_count, multiplicity, edge_count, chunk_count, edge_at, has_cycle, kth, ask, Call, try_move, asks}
 use Rattle.move_ledger.specs.Loading.{row1, row2, row3, row4, row5, row6, first_row, marks_fit, refusal, entry_sets, sets_fit, row7, row8, loading_row, loading}
-use Rattle.move_ledger.specs.Evict.{Smallest, smallest, some-empty, Free, place-free}
+use Rattle.move_ledger.specs.Evict.{Smallest, smallest, some_empty, Free, place-free}
 use Rattle.move_ledger.specs.Sound.{Sound}
 use Rattle.move_area.specs.Area.{decode}
 use Rattle.move_area.specs.Fixed.{checks_out}
 use Rattle.move_area.specs.Calls.{first, new, checked, asked}
 use Rattle.move_area.specs.Calls as on-area
-use Rattle.move_area.specs.History.{call_area, holding-wide, loading-holds, run}
+use Rattle.move_area.specs.History.{call_area, holding_wide, loading-holds, run}
 use Rattle.demands.specs.History.{history}
 
 -- "When N sets are registered and another is needed, the smallest empty one, as a number, gives up its place"
@@ -30,14 +30,14 @@ pub room_always : (load : Load) (fixed : List ℕ) (N : ℕ) (sets area : List �
     → Room load N (history load fixed N sets calls)
 room_always load fixed N sets area calls h =
     let r = run load fixed N (new load fixed N sets area).area (first load N sets) calls (loading-holds load fixed N sets area h) in
-    subst (Room load N) r.ends (go r.last.ledger r.holds.held.sound (holding-wide r.holds))
+    subst (Room load N) r.ends (go r.last.ledger r.holds.held.sound (holding_wide r.holds))
   where
     go : (l : Ledger) → Sound load N l → load.A < N → Room load N l
     go l v more =
         record {
           free = place-free load N l.place l.registered v.distinct v.room more;
           taken = λ e.
-              let y = some-empty l.registered v.distinct load l.place (omega arith) in
+              let y = some_empty l.registered v.distinct load l.place (omega arith) in
               smallest load l.place l.registered (at l.registered y.0) (has-at l.registered y.0 y.1) y.2;
         }
 

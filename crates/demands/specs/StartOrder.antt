@@ -18,7 +18,7 @@ use Rattle.move_ledger.specs.Listing.{has-rising}
 use Rattle.move_ledger.specs.Places.{Apart, index-has}
 use Rattle.move_order.specs.Order.{holds, wanted, start_order, names}
 use Rattle.move_order.specs.Names.{index_low, map_at}
-use Rattle.move_order.specs.Listing.{few, only-wanted, listed-once, listed-behind}
+use Rattle.move_order.specs.Listing.{few, only-wanted, listed_once, listed_behind}
 use Rattle.move_order.specs.Ready.{all_listed}
 use Rattle.move_order.specs.Wanted.{rising_most, wanted-inside, wanted-next, wanted-all}
 
@@ -30,54 +30,54 @@ module _ (load : Load) (place : List ℕ) (b : ℕ) (long : length place ≡ loa
   source X Y h = has-rising X place ∙ edge-source load place long X Y h
 
   -- "the chunks to fetch": all of them are listed, where the graph has no cycle
-  pub all-fetched : cyclic (edge load place) place ≡ false → (X : ℕ) → wanted load place b X ≡ true → has X (start_order load place b) ≡ true
+  pub all_fetched : cyclic (edge load place) place ≡ false → (X : ℕ) → wanted load place b X ≡ true → has X (start_order load place b) ≡ true
   unfolding start_order
-  all-fetched free X h =
+  all_fetched free X h =
       all_listed (edge load place) (rising place) source (cyclic-lists (edge load place) (rising place) place source (edge-source load place long) ∙ free)
       (wanted load place b) inside (wanted-next load place b long)
       (length place) []
       (omega (arith, count_le (λ j. wanted load place b (at (rising place) j) && not (has (at (rising place) j) [])) (length (rising place)), rising_most place)) X h
 
   -- and nothing else
-  pub only-fetched : (X : ℕ) → has X (start_order load place b) ≡ true → wanted load place b X ≡ true
+  pub only_fetched : (X : ℕ) → has X (start_order load place b) ≡ true → wanted load place b X ≡ true
   unfolding start_order has any
-  only-fetched = only-wanted (edge load place) (wanted load place b) (rising place) (length place) [] (λ x h. absurd (true≢false (sym h)))
+  only_fetched = only-wanted (edge load place) (wanted load place b) (rising place) (length place) [] (λ x h. absurd (true≢false (sym h)))
 
   -- "Each is listed once"
-  pub fetched-once : Apart (start_order load place b)
+  pub fetched_once : Apart (start_order load place b)
   unfolding start_order
-  fetched-once = listed-once (edge load place) (wanted load place b) (rising place) (length place) [] (λ i j a c. absurd (omega arith))
+  fetched_once = listed_once (edge load place) (wanted load place b) (rising place) (length place) [] (λ i j a c. absurd (omega arith))
 
   -- "whose edges, facade ones too, all lead to listed chunks": each stands behind all that its edges lead to
-  pub fetched-behind : (i : ℕ) → i < length (start_order load place b) → (Y : ℕ) → edge load place (at (start_order load place b) i) Y ≡ true
+  pub fetched_behind : (i : ℕ) → i < length (start_order load place b) → (Y : ℕ) → edge load place (at (start_order load place b) i) Y ≡ true
       → (j : ℕ) × (j < i) × (at (start_order load place b) j ≡ Y)
   unfolding start_order
-  fetched-behind i h Y q =
-      listed-behind (edge load place) (wanted load place b) (rising place) (length place) [] (λ i c. absurd (omega arith)) i h Y
+  fetched_behind i h Y q =
+      listed_behind (edge load place) (wanted load place b) (rising place) (length place) [] (λ i c. absurd (omega arith)) i h Y
       (has-rising Y place ∙ edge-target load place long _ Y q) q
 
   -- so, following the list, no chunk is fetched before one that it needs, however far away
-  pub needs-first : (i : ℕ) → i < length (start_order load place b) → (Y : ℕ) → Walk (edge load place) (at (start_order load place b) i) Y
+  pub needs_first : (i : ℕ) → i < length (start_order load place b) → (Y : ℕ) → Walk (edge load place) (at (start_order load place b) i) Y
       → (j : ℕ) × (j < i) × (at (start_order load place b) j ≡ Y)
-  needs-first i h Y w = go i h w refl
+  needs_first i h Y w = go i h w refl
     where
       go : (i : ℕ) → i < length (start_order load place b) → {X : ℕ} → Walk (edge load place) X Y → at (start_order load place b) i ≡ X
           → (j : ℕ) × (j < i) × (at (start_order load place b) j ≡ Y)
-      go i h (one q) e = fetched-behind i h Y (ap (λ Z. edge load place Z Y) e ∙ q)
+      go i h (one q) e = fetched_behind i h Y (ap (λ Z. edge load place Z Y) e ∙ q)
       go i h (more {y} q v) e =
-          let r = fetched-behind i h y (ap (λ Z. edge load place Z y) e ∙ q) in
+          let r = fetched_behind i h y (ap (λ Z. edge load place Z y) e ∙ q) in
           let s = go r.0 (omega (arith, r.1)) v r.2 in
           (s.0, omega (arith, s.1, r.1), s.2)
 
   -- no more than there are atoms, the numbers that are lent
-  pub at-most-atoms : length (start_order load place b) ≤ load.A
+  pub at_most_atoms : length (start_order load place b) ≤ load.A
   unfolding start_order
-  at-most-atoms = omega (arith, few (edge load place) (wanted load place b) (rising place) (length place) [])
+  at_most_atoms = omega (arith, few (edge load place) (wanted load place b) (rising place) (length place) [])
 
   -- "A bit that no chunk holds gives an empty list"
   pub none-holds : ((X : ℕ) → has X place ≡ true → holds b X ≡ false) → start_order load place b ≡ []
   unfolding has any
-  none-holds f = go (start_order load place b) (λ X h. wanted-all load place b long (λ X. ⊥) (λ X m q. true≢false (sym q ∙ f X m)) (λ X Y z q. z) X (only-fetched X h))
+  none-holds f = go (start_order load place b) (λ X h. wanted-all load place b long (λ X. ⊥) (λ X m q. true≢false (sym q ∙ f X m)) (λ X Y z q. z) X (only_fetched X h))
     where
       go : (l : List ℕ) → ((X : ℕ) → has X l ≡ true → ⊥) → l ≡ []
       go [] g = refl
@@ -93,10 +93,10 @@ module _ (load : Load) (place : List ℕ) (b : ℕ) (long : length place ≡ loa
   unfolding names
   as_many = length-map (start_order load place b) (λ X. index X place)
 
-  pub lowest-atom : (i : ℕ) → i < length (start_order load place b) → Named i (at (names load place b) i)
+  pub lowest_atom : (i : ℕ) → i < length (start_order load place b) → Named i (at (names load place b) i)
   unfolding names
-  lowest-atom i h =
+  lowest_atom i h =
       let X : ℕ = at (start_order load place b) i in
-      let r = index-has X place (wanted-inside load place b X (only-fetched X (has-at (start_order load place b) i h))) in
+      let r = index-has X place (wanted-inside load place b X (only_fetched X (has-at (start_order load place b) i h))) in
       rw (map_at (λ X. index X place) (start_order load place b) i h)
       (record { atom = omega (arith, r.0); lies = r.1; low = λ a c. index_low X place a c })

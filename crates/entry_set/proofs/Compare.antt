@@ -19,8 +19,8 @@ use Rattle.entry_set.specs.Sets.{value, numbers, number}
 use Rattle.entry_set.specs.SetLaws.{small, range_step}
 
 module _ (b : ℕ) {x y : ℕ} (X Y : ℕ) (hx : x < 2 ^ b) (hy : y < 2 ^ b) where
-  equal-step : eqb (x + 2 ^ b * X) (y + 2 ^ b * Y) ≡ eqb x y && eqb X Y
-  equal-step = go (eqb x y) refl (eqb X Y) refl
+  equal_step : eqb (x + 2 ^ b * X) (y + 2 ^ b * Y) ≡ eqb x y && eqb X Y
+  equal_step = go (eqb x y) refl (eqb X Y) refl
     where
       first : x + 2 ^ b * X ≡ y + 2 ^ b * Y → x ≡ y
       first e = sym (low_part b x X hx) ∙ ap (λ (n : ℕ). n % 2 ^ b) e ∙ low_part b y Y hy
@@ -62,9 +62,9 @@ last d = omega arith
 
 -- two sets, number by number; the Bools are what the tests gave
 module _ (a b : EntrySet) (ha : (i : ℕ) → get_or (numbers a) i 0 < 2 ^ 64) (hb : (i : ℕ) → get_or (numbers b) i 0 < 2 ^ 64) where
-  pub equal-four : {p q r s : Bool} → eqb a.0 b.0 ≡ p → eqb a.1 b.1 ≡ q → eqb a.2 b.2 ≡ r → eqb a.3 b.3 ≡ s → eqb (number a) (number b) ≡ p && (q && (r && s))
+  pub equal_four : {p q r s : Bool} → eqb a.0 b.0 ≡ p → eqb a.1 b.1 ≡ q → eqb a.2 b.2 ≡ r → eqb a.3 b.3 ≡ s → eqb (number a) (number b) ≡ p && (q && (r && s))
   unfolding joined
-  equal-four p q r s = rw (last a.3, last b.3, equal-step 64 _ _ (ha 0) (hb 0), equal-step 64 _ _ (ha 1) (hb 1), equal-step 64 _ _ (ha 2) (hb 2), p, q, r, s)
+  equal_four p q r s = rw (last a.3, last b.3, equal_step 64 _ _ (ha 0) (hb 0), equal_step 64 _ _ (ha 1) (hb 1), equal_step 64 _ _ (ha 2) (hb 2), p, q, r, s)
 
 -- four numbers in range: each of them, the limit falling
 pub range_four : {a b c : ℕ} (d e : ℕ) → a < 2 ^ 64 → b < 2 ^ 64 → c < 2 ^ 64

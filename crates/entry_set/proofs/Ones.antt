@@ -55,12 +55,12 @@ pub ones_cons : (b x y : ℕ) → x < 2 ^ b → ones (x + 2 ^ b * y) ≡ ones x 
 ones_cons b x y h = ap ones (turned b x y) ∙ omega (arith, ones_cat b y x h)
 
 module _ (b : ℕ) where
-  part-ones : (l : List ℕ) → ((i : ℕ) → get_or l i 0 < 2 ^ b) → (p : ℕ) → ones (get_or l p 0) ≤ ones (joined b l)
+  part_ones : (l : List ℕ) → ((i : ℕ) → get_or l i 0 < 2 ^ b) → (p : ℕ) → ones (get_or l p 0) ≤ ones (joined b l)
   unfolding joined
-  part-ones [] small zero = omega arith
-  part-ones [] small (suc p) = omega arith
-  part-ones (x ∷ xs) small zero = omega (arith, ones_cons b x (joined b xs) (small 0))
-  part-ones (x ∷ xs) small (suc p) = omega (arith, ones_cons b x (joined b xs) (small 0), part-ones xs (λ i. small (suc i)) p)
+  part_ones [] small zero = omega arith
+  part_ones [] small (suc p) = omega arith
+  part_ones (x ∷ xs) small zero = omega (arith, ones_cons b x (joined b xs) (small 0))
+  part_ones (x ∷ xs) small (suc p) = omega (arith, ones_cons b x (joined b xs) (small 0), part_ones xs (λ i. small (suc i)) p)
 
   -- where the list has one bit and number p isn't 0, the bit is there
   lone : (l : List ℕ) → ((i : ℕ) → get_or l i 0 < 2 ^ b) → ones (joined b l) ≡ 1 → (p : ℕ) → (get_or l p 0 ≡ 0 → ⊥) → (ones (get_or l p 0) ≡ 1) × (joined b l ≡ 2 ^ (b * p) * get_or l p 0)
@@ -75,7 +75,7 @@ module _ (b : ℕ) where
   lone (x ∷ xs) small one (suc p) some =
       let all = ones_cons b x (joined b xs) (small 0) in
       let there : ones (get_or xs p 0) ≡ 0 → ⊥ = λ e. some (none b (get_or xs p 0) (small (suc p)) e) in
-      let more = part-ones xs (λ i. small (suc i)) p in
+      let more = part_ones xs (λ i. small (suc i)) p in
       let first : x ≡ 0 = none b x (small 0) (omega (arith, one, all, there, more)) in
       let r = lone xs (λ i. small (suc i)) (omega (arith, one, all, there, more)) p some in
       (r.0, rw (first, r.1) (omega (arith, ap (λ (n : ℕ). n * get_or xs p 0) (wider b p ∙ mul_comm (2 ^ (b * p)) (2 ^ b)), mul_assoc (2 ^ b) (2 ^ (b * p)) (get_or xs p 0))))

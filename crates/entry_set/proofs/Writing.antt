@@ -21,8 +21,8 @@ pub writing_none : (l : List ℕ) (at stride X : ℕ) → Writing l l at stride 
 writing_none l at stride X = record { turns = omega arith; place = omega arith; same_length = refl; left = refl }
 
 module _ {l₀ l : List ℕ} {at stride X j p : ℕ} (w : Writing l₀ l at stride X j p) where
-  pub writing-room : j < 8 → at + 7 * stride < length l₀ → p < length l
-  writing-room h room = omega (arith, w.place, w.same_length, mul-le-mul_right {m = j} {n = 7} stride (omega arith))
+  pub writing_room : j < 8 → at + 7 * stride < length l₀ → p < length l
+  writing_room h room = omega (arith, w.place, w.same_length, mul-le-mul_right {m = j} {n = 7} stride (omega arith))
 
   pub writing_more : {x : ℕ} → j < 8 → x ≡ get_or (parts 32 8 X) j 0 → Writing l₀ (set l p x) at stride X (j + 1) (p + stride)
   unfolding set_strided
@@ -34,8 +34,8 @@ module _ {l₀ l : List ℕ} {at stride X j p : ℕ} (w : Writing l₀ l at stri
         left = rw (add-one j, e) (rw (drop-cons (parts 32 8 X) j 0 (omega (arith, length-parts 32 8 X))) at w.left);
       }
 
-  pub writing-done : 8 ≤ j → l ≡ set_lanes l₀ at stride X
+  pub writing_done : 8 ≤ j → l ≡ set_lanes l₀ at stride X
   unfolding set_strided
-  writing-done h =
+  writing_done h =
       let end : drop j (parts 32 8 X) ≡ [] = drop_of_length-le (parts 32 8 X) {i = j} (omega (arith, length-parts 32 8 X)) in
       rw end at w.left

@@ -11,9 +11,9 @@ use lib.Seq.{get_or-set_same, get_or-set_other}
 use borrow.Author.Count.{below_more}
 use Rattle.graphs.specs.Lists.{below}
 use Rattle.graphs.specs.Walk.{Walk, one, more, cyclic}
-use Rattle.graphs.specs.Walks.{join, sources-below, cyclic-walk}
+use Rattle.graphs.specs.Walks.{join, sources-below, cyclic_walk}
 use Rattle.graphs.specs.Total.{whites, whites_push}
-use Rattle.graph_neighbours.specs.Lists.{deg, nb, edge, Graph, listed, listed_to}
+use Rattle.graph_neighbours.specs.Lists.{deg, nb, edge, Graph, listed, listed-to}
 use Rattle.graph_book_walk.proofs.Falling.{falling, falls_open, falls_edges, grown_whites, deg_le}
 use Rattle.graph_book_walk.specs.Book.{at, Clean, Grown, CanOpen, Opened, CanGo, Gone}
 
@@ -31,7 +31,7 @@ grown_trans {n} {a} {b} {c} p q = record {
 
 -- a closed walk in the graph
 pub closes : {g l : List ℕ} {n : ℕ} → Graph g l n → (x : ℕ) → Walk (edge g l n) x x → cyclic (edge g l n) (below n) ≡ true
-closes {g} {l} {n} v x w = (cyclic-walk (edge g l n) (below n) (sources-below (listed v).from)).1 (x, w)
+closes {g} {l} {n} v x w = (cyclic_walk (edge g l n) (below n) (sources-below (listed v).from)).1 (x, w)
 
 -- from a black node a walk leads to black nodes only
 stays : {g l : List ℕ} {n : ℕ} {c : ℕ → ℕ} → Graph g l n → Clean (edge g l n) n c → {x y : ℕ} → Walk (edge g l n) x y → 2 ≤ c x → 2 ≤ c y
@@ -49,20 +49,20 @@ module _ {g l : List ℕ} {n : ℕ} {colour : List ℕ} {x : ℕ} (v : CanOpen g
   gray-x : at gray x ≡ 1
   gray-x = get_or-set_same colour x 1 0 (omega (arith, v.long, v.node))
 
-  gray-y : (y : ℕ) → (y ≡ x → ⊥) → at gray y ≡ at colour y
-  gray-y y h = get_or-set_other colour x y 1 0 h
+  gray_y : (y : ℕ) → (y ≡ x → ⊥) → at gray y ≡ at colour y
+  gray_y y h = get_or-set_other colour x y 1 0 h
 
-  pub open-whites : whites n (at gray) + 1 ≡ whites n (at colour)
-  open-whites = whites_push n (at colour) (at gray) x v.node v.white gray-x (λ y b h. gray-y y h)
+  pub open_whites : whites n (at gray) + 1 ≡ whites n (at colour)
+  open_whites = whites_push n (at colour) (at gray) x v.node v.white gray-x (λ y b h. gray_y y h)
 
   black-before : (y : ℕ) → 2 ≤ at gray y → 2 ≤ at colour y
-  black-before y h = elim (ℕ_discrete y x) [ yes q ↦ absurd (omega (arith, ap (at gray) q, gray-x)) | no q ↦ omega (arith, gray-y y q) ]
+  black-before y h = elim (ℕ_discrete y x) [ yes q ↦ absurd (omega (arith, ap (at gray) q, gray-x)) | no q ↦ omega (arith, gray_y y q) ]
 
   black-after : (y : ℕ) → 2 ≤ at colour y → 2 ≤ at gray y
-  black-after y h = elim (ℕ_discrete y x) [ yes q ↦ absurd (omega (arith, ap (at colour) q, v.white)) | no q ↦ omega (arith, gray-y y q) ]
+  black-after y h = elim (ℕ_discrete y x) [ yes q ↦ absurd (omega (arith, ap (at colour) q, v.white)) | no q ↦ omega (arith, gray_y y q) ]
 
-  pub open-go : CanGo g l n gray x
-  open-go = record {
+  pub open_go : CanGo g l n gray x
+  open_go = record {
     graph = v.graph;
     long = rw length-set v.long;
     node = v.node;
@@ -71,11 +71,11 @@ module _ {g l : List ℕ} {n : ℕ} {colour : List ℕ} {x : ℕ} (v : CanOpen g
       out = λ a b h k t. black-after b (v.clean.out a b h (black-before a k) t);
       none = λ a h k w. v.clean.none a h (black-before a k) w;
     };
-    path = λ y b h. elim (ℕ_discrete y x) [ yes q ↦ inl q | no q ↦ inr (v.path y b (sym (gray-y y q) ∙ h)) ];
+    path = λ y b h. elim (ℕ_discrete y x) [ yes q ↦ inl q | no q ↦ inr (v.path y b (sym (gray_y y q) ∙ h)) ];
   }
 
-  pub open-less : falling (whites (length gray) (at gray)) (length l) (deg g x) < falling (whites (length colour) (at colour)) (length l) 0
-  open-less = rw (length-set, v.long) (falls_open (whites n (at colour)) (whites n (at gray)) (length l) (deg g x) open-whites (deg_le v.graph x v.node))
+  pub open_less : falling (whites (length gray) (at gray)) (length l) (deg g x) < falling (whites (length colour) (at colour)) (length l) 0
+  open_less = rw (length-set, v.long) (falls_open (whites n (at colour)) (whites n (at gray)) (length l) (deg g x) open_whites (deg_le v.graph x v.node))
 
   -- its edges are gone through
   module _ {colour' : List ℕ} {met : Bool} (long : length colour' ≡ n) (k : Gone g l n gray x colour' met) where
@@ -85,11 +85,11 @@ module _ {g l : List ℕ} {n : ℕ} {colour : List ℕ} {x : ℕ} (v : CanOpen g
     black-x : at black x ≡ 2
     black-x = get_or-set_same colour' x 2 0 (omega (arith, v.node))
 
-    black-y : (y : ℕ) → (y ≡ x → ⊥) → at black y ≡ at colour' y
-    black-y y h = get_or-set_other colour' x y 2 0 h
+    black_y : (y : ℕ) → (y ≡ x → ⊥) → at black y ≡ at colour' y
+    black_y y h = get_or-set_other colour' x y 2 0 h
 
     still : (y : ℕ) → 2 ≤ at colour' y → 2 ≤ at black y
-    still y h = elim (ℕ_discrete y x) [ yes q ↦ omega (arith, ap (at black) q, black-x) | no q ↦ omega (arith, black-y y q) ]
+    still y h = elim (ℕ_discrete y x) [ yes q ↦ omega (arith, ap (at black) q, black-x) | no q ↦ omega (arith, black_y y q) ]
 
     module _ (h : met ≡ false) where
       -- while its edges were gone through, x was gray
@@ -104,35 +104,35 @@ module _ {g l : List ℕ} {n : ℕ} {colour : List ℕ} {x : ℕ} (v : CanOpen g
       no_return (one {x} {y} t) q = omega (arith, next-black y t, ap (at colour') q, was-gray)
       no_return (more {x} {y} {z} t w) q = omega (arith, stays v.graph (k.clean h) w (next-black y t), ap (at colour') q, was-gray)
 
-      open-out : (a b : ℕ) → a < n → 2 ≤ at black a → e a b ≡ true → 2 ≤ at black b
-      open-out a b i j t = elim (ℕ_discrete a x) [
+      open_out : (a b : ℕ) → a < n → 2 ≤ at black a → e a b ≡ true → 2 ≤ at black b
+      open_out a b i j t = elim (ℕ_discrete a x) [
         | yes q ↦ still b (next-black b (rw q at t))
-        | no q ↦ still b ((k.clean h).out a b i (omega (arith, black-y a q)) t)
+        | no q ↦ still b ((k.clean h).out a b i (omega (arith, black_y a q)) t)
       ]
 
       open_none : (a : ℕ) → a < n → 2 ≤ at black a → Walk e a a → ⊥
       open_none a i j w = elim (ℕ_discrete a x) [
         | yes q ↦ no_return (rw q at w) refl
-        | no q ↦ (k.clean h).none a i (omega (arith, black-y a q)) w
+        | no q ↦ (k.clean h).none a i (omega (arith, black_y a q)) w
       ]
 
-      open-known : (a : ℕ) → a < n → (at colour a ≡ 0 → ⊥) → at black a ≡ at colour a
-      open-known a i j =
+      open_known : (a : ℕ) → a < n → (at colour a ≡ 0 → ⊥) → at black a ≡ at colour a
+      open_known a i j =
           let q : a ≡ x → ⊥ = λ z. j (ap (at colour) z ∙ v.white) in
-          black-y a q ∙ (k.grown h).known a i (λ z. j (sym (gray-y a q) ∙ z)) ∙ gray-y a q
+          black_y a q ∙ (k.grown h).known a i (λ z. j (sym (gray_y a q) ∙ z)) ∙ gray_y a q
 
-      open-fresh : (a : ℕ) → a < n → at colour a ≡ 0 → at black a ≡ 1 → ⊥
-      open-fresh a i j z = elim (ℕ_discrete a x) [
+      open_fresh : (a : ℕ) → a < n → at colour a ≡ 0 → at black a ≡ 1 → ⊥
+      open_fresh a i j z = elim (ℕ_discrete a x) [
         | yes q ↦ omega (arith, ap (at black) q, black-x)
-        | no q ↦ (k.grown h).fresh a i (gray-y a q ∙ j) (sym (black-y a q) ∙ z)
+        | no q ↦ (k.grown h).fresh a i (gray_y a q ∙ j) (sym (black_y a q) ∙ z)
       ]
 
     pub open_done : Opened g l n colour x black met
     open_done = record {
       closes = k.closes;
       black = λ h. omega (arith, black-x);
-      clean = λ h. record { out = open-out h; none = open_none h };
-      grown = λ h. record { known = open-known h; fresh = open-fresh h };
+      clean = λ h. record { out = open_out h; none = open_none h };
+      grown = λ h. record { known = open_known h; fresh = open_fresh h };
     }
 
 -- the first i edges of x are gone through, and no gray node was met
@@ -154,28 +154,28 @@ module _ {g l : List ℕ} {n : ℕ} {colour : List ℕ} {x i : ℕ} {colour' : L
 
   -- y is the next neighbour
   module _ (b : i < deg g x) {y : ℕ} (is : y ≡ nb g l x i) where
-    pub next-node : y < n
-    next-node = rw is (v.can.graph.ends x i v.can.node b)
+    pub next_node : y < n
+    next_node = rw is (v.can.graph.ends x i v.can.node b)
 
     edge-next : edge g l n x y ≡ true
     edge-next = rw is ((listed v.can.graph).step x i v.can.node b)
 
     -- every gray node has a walk to it
-    path-next : (z : ℕ) → z < n → at colour' z ≡ 1 → Walk (edge g l n) z y
-    path-next z h k = ⊎_elim (λ (q : z ≡ x). rw q (one edge-next)) (λ w. join w (one edge-next)) (v.can.path z h (old z h k))
+    path_next : (z : ℕ) → z < n → at colour' z ≡ 1 → Walk (edge g l n) z y
+    path_next z h k = ⊎_elim (λ (q : z ≡ x). rw q (one edge-next)) (λ w. join w (one edge-next)) (v.can.path z h (old z h k))
 
     -- it is gray
-    pub going-gray : at colour' y ≡ 1 → Gone g l n colour x colour' true
-    going-gray h = record {
-      closes = λ q. closes v.can.graph y (path-next y next-node h);
+    pub going_gray : at colour' y ≡ 1 → Gone g l n colour x colour' true
+    going_gray h = record {
+      closes = λ q. closes v.can.graph y (path_next y next_node h);
       all = λ q. absurd (true≢false q);
       clean = λ q. absurd (true≢false q);
       grown = λ q. absurd (true≢false q);
     }
 
     -- it is black
-    pub going-black : (at colour' y ≡ 0 → ⊥) → (at colour' y ≡ 1 → ⊥) → Going g l n colour x (i + 1) colour'
-    going-black h k = record {
+    pub going_black : (at colour' y ≡ 0 → ⊥) → (at colour' y ≡ 1 → ⊥) → Going g l n colour x (i + 1) colour'
+    going_black h k = record {
       can = v.can;
       long = v.long;
       within = omega arith;
@@ -189,11 +189,11 @@ module _ {g l : List ℕ} {n : ℕ} {colour : List ℕ} {x i : ℕ} {colour' : L
 
     -- it is white
     module _ (h : at colour' y ≡ 0) where
-      pub going-can : CanOpen g l n colour' y
-      going-can = record { graph = v.can.graph; long = v.long; node = next-node; white = h; clean = v.clean; path = path-next }
+      pub going_can : CanOpen g l n colour' y
+      going_can = record { graph = v.can.graph; long = v.long; node = next_node; white = h; clean = v.clean; path = path_next }
 
-      pub going-met : {colour'' : List ℕ} {met : Bool} → met ≡ true → Opened g l n colour' y colour'' met → Gone g l n colour x colour'' true
-      going-met q k = record { closes = λ r. k.closes q; all = λ q. absurd (true≢false q); clean = λ q. absurd (true≢false q); grown = λ q. absurd (true≢false q) }
+      pub going_met : {colour'' : List ℕ} {met : Bool} → met ≡ true → Opened g l n colour' y colour'' met → Gone g l n colour x colour'' true
+      going_met q k = record { closes = λ r. k.closes q; all = λ q. absurd (true≢false q); clean = λ q. absurd (true≢false q); grown = λ q. absurd (true≢false q) }
 
       pub going_more : {colour'' : List ℕ} {met : Bool} → met ≡ false → length colour'' ≡ length colour' → Opened g l n colour' y colour'' met → Going g l n colour x (i + 1) colour''
       going_more {colour''} f q k = record {

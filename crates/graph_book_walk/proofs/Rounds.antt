@@ -9,7 +9,7 @@ use borrow.Author.Count.{below_more}
 use Rattle.graphs.specs.Bools.{fails}
 use Rattle.graphs.specs.Lists.{below}
 use Rattle.graphs.specs.Walk.{Walk, cyclic}
-use Rattle.graphs.specs.Walks.{sources-below, cyclic-walk, walk_from}
+use Rattle.graphs.specs.Walks.{sources-below, cyclic_walk, walk_from}
 use Rattle.graph_neighbours.specs.Lists.{edge, Graph, listed}
 use Rattle.graph_book_walk.specs.Book.{at, Clean, Grown, CanOpen, Opened}
 
@@ -42,8 +42,8 @@ round_first v q z = record {
 
 module _ {g l : List ℕ} {n x : ℕ} {colour : List ℕ} (v : Round g l n x colour) where
   module _ (b : x < n) where
-    pub round-skip : (at colour x ≡ 0 → ⊥) → Round g l n (x + 1) colour
-    round-skip h = record {
+    pub round_skip : (at colour x ≡ 0 → ⊥) → Round g l n (x + 1) colour
+    round_skip h = record {
       graph = v.graph;
       long = v.long;
       within = omega arith;
@@ -52,11 +52,11 @@ module _ {g l : List ℕ} {n x : ℕ} {colour : List ℕ} (v : Round g l n x col
       past = below_more (λ y. 2 ≤ at colour y) x v.past (let k = v.calm x b in omega arith);
     }
 
-    pub round-can : at colour x ≡ 0 → CanOpen g l n colour x
-    round-can h = record { graph = v.graph; long = v.long; node = b; white = h; clean = v.clean; path = λ y k t. absurd (v.calm y k t) }
+    pub round_can : at colour x ≡ 0 → CanOpen g l n colour x
+    round_can h = record { graph = v.graph; long = v.long; node = b; white = h; clean = v.clean; path = λ y k t. absurd (v.calm y k t) }
 
-    pub round-more : {colour' : List ℕ} {met : Bool} → met ≡ false → length colour' ≡ length colour → Opened g l n colour x colour' met → Round g l n (x + 1) colour'
-    round-more {colour'} f q k =
+    pub round_more : {colour' : List ℕ} {met : Bool} → met ≡ false → length colour' ≡ length colour → Opened g l n colour x colour' met → Round g l n (x + 1) colour'
+    round_more {colour'} f q k =
         let w = k.grown f in
         record {
           graph = v.graph;
@@ -72,9 +72,9 @@ module _ {g l : List ℕ} {n x : ℕ} {colour : List ℕ} (v : Round g l n x col
               (k.black f);
         }
 
-  pub round-done : n ≤ x → cyclic (edge g l n) (below n) ≡ false
-  round-done h = fails _ (λ t.
+  pub round_done : n ≤ x → cyclic (edge g l n) (below n) ≡ false
+  round_done h = fails _ (λ t.
       let f = (listed v.graph).from in
-      let r = (cyclic-walk (edge g l n) (below n) (sources-below f)).0 t in
+      let r = (cyclic_walk (edge g l n) (below n) (sources-below f)).0 t in
       let b = walk_from f r.1 in
       v.clean.none r.0 b (v.past r.0 (omega arith)) r.1)

@@ -63,8 +63,8 @@ kept-first {n} {d} {v} s = record {
 }
 
 module _ {n : ℕ} {d : ℕ → ℕ} {v w : View} (k : Kept n d v) where
-  kept-opens : {f : ℕ → ℕ → ℕ} (y : ℕ) → Opens n d f v w y → Kept n d w
-  kept-opens y o = record {
+  kept_opens : {f : ℕ → ℕ → ℕ} (y : ℕ) → Opens n d f v w y → Kept n d w
+  kept_opens y o = record {
     life = record {
       white = λ x b h. elim (ℕ_discrete x y) [
         | yes q ↦ absurd (omega (arith, ap code (sym turned ∙ ap w.state (sym q) ∙ h)))
@@ -139,7 +139,7 @@ module _ {n : ℕ} {d : ℕ → ℕ} {v w : View} (k : Kept n d v) where
       turned = o.turns.this ∙ ap next_state ((k.life.gray x (k.inside x node)).1 node)
 
 kept_step : {n : ℕ} {d : ℕ → ℕ} {f : ℕ → ℕ → ℕ} {v w : View} → Kept n d v → Step n d f v w → Kept n d w
-kept_step k (opens y o) = kept-opens k y o
+kept_step k (opens y o) = kept_opens k y o
 kept_step k (passes x y o) = kept-passes k x y o
 kept_step k (closes x o) = kept-closes k x o
 
@@ -152,8 +152,8 @@ pub life : {n : ℕ} {d : ℕ → ℕ} {f : ℕ → ℕ → ℕ} {u v : View} �
 life s r = (kept_run (kept-first s) r).life
 
 -- while an edge of x is gone through, before the step and after it, x is gray
-pub passed_gray : {n : ℕ} {d : ℕ → ℕ} {f : ℕ → ℕ → ℕ} {u v w : View} {x y : ℕ} → Starts n u → Run n d f u v → Passes n d f v w x y → (v.state x ≡ Gray) × (w.state x ≡ Gray)
-passed_gray {v} {x} s r o =
+pub passed-gray : {n : ℕ} {d : ℕ → ℕ} {f : ℕ → ℕ → ℕ} {u v w : View} {x y : ℕ} → Starts n u → Run n d f u v → Passes n d f v w x y → (v.state x ≡ Gray) × (w.state x ≡ Gray)
+passed-gray {v} {x} s r o =
     let k = kept_run (kept-first s) r in
     let h : has x v.path ≡ true = rw o.next.top (has_here x o.next.rest) in
     let b = k.inside x h in
@@ -166,24 +166,24 @@ opened-first {y} s r o = o.cursors y o.node ∙ (life s r).white y o.node o.whit
 
 -- what every next state keeps
 module _ (P : State → Type 0) (t : (s : State) → P s → P (next_state s)) {n : ℕ} {x : ℕ} (b : x < n) where
-  keeps-turn : (v w : View) (y : ℕ) → Turns n y v.state w.state → P (v.state x) → P (w.state x)
-  keeps-turn v w y o h = elim (ℕ_discrete x y) [
+  keeps_turn : (v w : View) (y : ℕ) → Turns n y v.state w.state → P (v.state x) → P (w.state x)
+  keeps_turn v w y o h = elim (ℕ_discrete x y) [
     | yes q ↦ subst P (sym (ap w.state q ∙ o.this ∙ ap (λ z. next_state (v.state z)) (sym q))) (t (v.state x) h)
     | no q ↦ subst P (sym (o.others x b q)) h
   ]
 
-  keeps-step : {d : ℕ → ℕ} {f : ℕ → ℕ → ℕ} {v w : View} → Step n d f v w → P (v.state x) → P (w.state x)
-  keeps-step {v} {w} (opens y o) h = keeps-turn v w y o.turns h
-  keeps-step (passes y z o) h = subst P (sym (o.states x b)) h
-  keeps-step {v} {w} (closes y o) h = keeps-turn v w y o.turns h
+  keeps_step : {d : ℕ → ℕ} {f : ℕ → ℕ → ℕ} {v w : View} → Step n d f v w → P (v.state x) → P (w.state x)
+  keeps_step {v} {w} (opens y o) h = keeps_turn v w y o.turns h
+  keeps_step (passes y z o) h = subst P (sym (o.states x b)) h
+  keeps_step {v} {w} (closes y o) h = keeps_turn v w y o.turns h
 
   keeps : {d : ℕ → ℕ} {f : ℕ → ℕ → ℕ} {v w : View} → Run n d f v w → P (v.state x) → P (w.state x)
   keeps none h = h
-  keeps (more r s) h = keeps-step s (keeps r h)
+  keeps (more r s) h = keeps_step s (keeps r h)
 
 -- "then black to the end": from any moment on
-pub black_stays : {n : ℕ} {d : ℕ → ℕ} {f : ℕ → ℕ → ℕ} {v w : View} → Run n d f v w → (x : ℕ) → x < n → v.state x ≡ Black → w.state x ≡ Black
-black_stays r x b h = keeps (λ s. s ≡ Black) (λ s q. ap next_state q) b r h
+pub black-stays : {n : ℕ} {d : ℕ → ℕ} {f : ℕ → ℕ → ℕ} {v w : View} → Run n d f v w → (x : ℕ) → x < n → v.state x ≡ Black → w.state x ≡ Black
+black-stays r x b h = keeps (λ s. s ≡ Black) (λ s q. ap next_state q) b r h
 
 -- and a node that was discovered is white no more
 pub never_white : {n : ℕ} {d : ℕ → ℕ} {f : ℕ → ℕ → ℕ} {v w : View} → Run n d f v w → (x : ℕ) → x < n → (v.state x ≡ White → ⊥) → w.state x ≡ White → ⊥

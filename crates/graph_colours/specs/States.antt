@@ -11,10 +11,10 @@ code White = 0
 code Gray = 1
 code Black = 2
 
-pub state_black : (c : ℕ) → 2 ≤ c → colour_of c ≡ Black
-state_black zero h = absurd (omega arith)
-state_black (suc zero) h = absurd (omega arith)
-state_black (suc (suc k)) h = refl
+pub state-black : (c : ℕ) → 2 ≤ c → colour_of c ≡ Black
+state-black zero h = absurd (omega arith)
+state-black (suc zero) h = absurd (omega arith)
+state-black (suc (suc k)) h = refl
 
 pub state_known : (c : ℕ) → (c ≡ 0 → ⊥) → colour_of c ≡ White → ⊥
 state_known zero h q = h refl

@@ -15,8 +15,8 @@ use Rattle.graphs.specs.Count.{ind}
 use Rattle.graphs.specs.Lists.{has, below}
 use Rattle.graphs.specs.Tab.{is_tab}
 use Rattle.graphs.specs.Walk.{Walk, one, more, via, only}
-use Rattle.graphs.specs.Walks.{sources-below, join, sound, complete, walk_from, only-walk}
-use Rattle.graph_neighbours.specs.Lists.{edge, Listed, listed, listed_to}
+use Rattle.graphs.specs.Walks.{sources-below, join, sound, complete, walk_from, only_walk}
+use Rattle.graph_neighbours.specs.Lists.{edge, Listed, listed, listed-to}
 use Rattle.graph_depth_first.specs.Order.{Ordered}
 use Rattle.graph_depth_first.specs.Steps.{at}
 use Rattle.graph_components.specs.Components.{turn, twinned, Split, CanWalkBack}
@@ -27,14 +27,14 @@ module _ {e : ℕ → ℕ → Bool} {n : ℕ} {d : ℕ → ℕ} {f : ℕ → ℕ
   -- an edge within a component closes a walk
   closes : (x y : ℕ) → x < n → e x y ≡ true → c x ≡ c y → Walk e x x
   unfolding twinned
-  closes x y b h q = ⊎_elim (λ k. subst (λ (v : ℕ). Walk e x v) (sym (eqb-true x y k)) (one h)) (λ k. join (one h) (sound e (below n) y x (and_right (via e (below n) x y) _ k))) (or_cases (eqb x y) _ (s.parted x y b (listed_to G x y h) q))
+  closes x y b h q = ⊎_elim (λ k. subst (λ (v : ℕ). Walk e x v) (sym (eqb-true x y k)) (one h)) (λ k. join (one h) (sound e (below n) y x (and_right (via e (below n) x y) _ k))) (or_cases (eqb x y) _ (s.parted x y b (listed-to G x y h) q))
 
   -- and a closed walk has such an edge first
   starts : (x z : ℕ) → x < n → Walk e x z → z ≡ x → (y : ℕ) × (e x y ≡ true) × (c x ≡ c y)
   unfolding twinned
   starts _ _ b (one {x} {y} h) q = (y, h, ap c (sym q))
   starts _ _ b (more {x} {y} h p) q =
-      (y, h, s.joined x y b (listed_to G x y h) (or_right (eqb x y) _ (and_both (via e (below n) x y) _ (complete e (below n) (sources-below G.from) x y (one h)) (complete e (below n) (sources-below G.from) y x (rw q at p)))))
+      (y, h, s.joined x y b (listed-to G x y h) (or_right (eqb x y) _ (and_both (via e (below n) x y) _ (complete e (below n) (sources-below G.from) x y (one h)) (complete e (below n) (sources-below G.from) y x (rw q at p)))))
 
   -- two nodes of one label, one of which is on a closed walk, reach each other
   both : (x y : ℕ) → x < n → y < n → c x ≡ c y → Walk e x x → Walk e x y × Walk e y x
@@ -61,12 +61,12 @@ module _ {g q : List ℕ} {n : ℕ} {w : List ℕ} {found : ℕ} (can : CanMeet 
     -- the only component has x's label
     module _ (h : only e (below n) x ≡ true) where
       self : Walk e x x
-      self = ((only-walk e (below n) low x).0 h).0
+      self = ((only_walk e (below n) low x).0 h).0
 
       mates : (y : ℕ) → y < n → Walk e y y → at w x ≡ at w y
       unfolding twinned
       mates y l p =
-          let r = ((only-walk e (below n) low x).0 h).1 y p in
+          let r = ((only_walk e (below n) low x).0 h).1 y p in
           can.split.joined x y b l (or_right (eqb x y) _ (and_both (via e (below n) x y) _ (complete e (below n) low x y r.0) (complete e (below n) low y x r.1)))
 
       is_found : at w x ≡ found
@@ -82,14 +82,14 @@ module _ {g q : List ℕ} {n : ℕ} {w : List ℕ} {found : ℕ} (can : CanMeet 
         ]
       ]
 
-    is-only : at w x ≡ found → only e (below n) x ≡ true
-    is-only h =
+    is_only : at w x ≡ found → only e (below n) x ≡ true
+    is_only h =
         let lo = can.split.some x b in
         let hi = can.split.most x b in
         let r = v.one (λ z. lo (h ∙ z)) (λ z. omega arith) in
         let i = of_inner found r.0 in
         let p : Walk e x x = let k = both (listed can.graph) can.split i.0 x i.1 b (i.3 ∙ sym h) i.2 in join k.1 k.0 in
-        (only-walk e (below n) low x).1
+        (only_walk e (below n) low x).1
         (p, λ y m. let l = walk_from (listed can.graph).from m in both (listed can.graph) can.split x y b l (h ∙ sym (r.1 _ (to_inner y l m))) p)
 
     only-found : eqb (at w x) found ≡ only e (below n) x
@@ -97,7 +97,7 @@ module _ {g q : List ℕ} {n : ℕ} {w : List ℕ} {found : ℕ} (can : CanMeet 
       where
         go : (t : Bool) → only e (below n) x ≡ t → eqb (at w x) found ≡ t
         go true k = eq-eqb (at w x) found (is_found k)
-        go false k = ne_eqb (at w x) found (λ z. true≢false (sym (is-only z) ∙ k))
+        go false k = ne_eqb (at w x) found (λ z. true≢false (sym (is_only z) ∙ k))
 
   pub only-done : {flags flags' : List ℕ} → Flagged w n found flags n flags' → flags' ≡ flagged e n flags
   unfolding flagged
@@ -121,8 +121,8 @@ flag-more {w} {n} {found} {l₀} {x} {l} {l'} v b h q = record {
 
 -- from one walk to the next
 module _ {g l h q : List ℕ} {n : ℕ} {order label stack flags : List ℕ} (can : CanFlagOnly g l h q n order label stack flags) where
-  pub back-can : CanWalkBack h q n order label stack
-  back-can = record {
+  pub back_can : CanWalkBack h q n order label stack
+  back_can = record {
     graph = can.turned;
     places = can.places;
     cells = can.cells;
@@ -131,8 +131,8 @@ module _ {g l h q : List ℕ} {n : ℕ} {order label stack flags : List ℕ} (ca
     ordered = subst (λ (f : ℕ → ℕ → Bool). Ordered f n (at order)) can.same can.ordered;
   }
 
-  pub meet-can : {label' : List ℕ} → Split (turn (edge h q n)) n (at label') → length label' ≡ length label → CanMeet g l n label'
-  meet-can {label'} s a = record {
+  pub meet_can : {label' : List ℕ} → Split (turn (edge h q n)) n (at label') → length label' ≡ length label → CanMeet g l n label'
+  meet_can {label'} s a = record {
     graph = can.graph;
     split = subst (λ (f : ℕ → ℕ → Bool). Split f n (at label')) (sym can.same) s;
     long = omega (arith, can.cells);

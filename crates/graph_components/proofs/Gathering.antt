@@ -13,10 +13,10 @@ use Rattle.graphs.specs.Bools.{or_cases, or_left, or_right, and_left, and_right,
 use Rattle.graphs.specs.Lists.{has, below}
 use Rattle.graphs.specs.Walk.{Walk, one, more, via}
 use Rattle.graphs.specs.Walks.{sources-below, join, sound, complete}
-use Rattle.graph_neighbours.specs.Lists.{deg, nb, edge, listed, listed_to}
+use Rattle.graph_neighbours.specs.Lists.{deg, nb, edge, listed, listed-to}
 use Rattle.graph_walks.specs.Spread.{met, stk, every, Spread, Ready, Kept, Looked, CanLook, CanSpread, HandsOn, Done}
 use Rattle.graph_walks.proofs.Moves as moves
-use Rattle.graph_walks.proofs.Layer.{met-yes, yes-met, kept_trans, ready-first, look-can, push-ready, push_kept, seed-state, at_y}
+use Rattle.graph_walks.proofs.Layer.{met-yes, yes-met, kept_trans, ready-first, look_can, push_ready, push_kept, seed_state, at_y}
 use Rattle.graph_walks.proofs.Ends.{offers_list}
 use Rattle.graph_depth_first.specs.Order.{WalkIn, here, step}
 use Rattle.graph_depth_first.specs.Steps.{at}
@@ -40,37 +40,37 @@ module _ {g q : List ℕ} {n : ℕ} {label stack : List ℕ} {root l : ℕ} (can
   e = edge g q n
 
   -- an edge to a node with no label, and what root reaches by such edges
-  abbrev free-edge : ℕ → ℕ → Bool
-  free-edge x y = e x y && not (labelled label y)
+  abbrev free_edge : ℕ → ℕ → Bool
+  free_edge x y = e x y && not (labelled label y)
 
   abbrev goal : ℕ → Bool
-  goal x = eqb x root || via free-edge (below n) root x
+  goal x = eqb x root || via free_edge (below n) root x
 
   abbrev Free : ℕ → Type 0
   Free x = (x < n) × (get_or label x 0 ≡ 0)
 
-  low : (x y : ℕ) → free-edge x y ≡ true → has x (below n) ≡ true
+  low : (x y : ℕ) → free_edge x y ≡ true → has x (below n) ≡ true
   low = sources-below (λ x y h. (listed can.graph).from x y (and_left (e x y) _ h))
 
   hands : HandsOn e (labelled label) goal
-  hands x y w k u = or_right (eqb y root) _ (complete free-edge (below n) low root y (far (or_cases (eqb x root) _ w)))
+  hands x y w k u = or_right (eqb y root) _ (complete free_edge (below n) low root y (far (or_cases (eqb x root) _ w)))
     where
-      last : free-edge x y ≡ true
+      last : free_edge x y ≡ true
       last = and_both (e x y) _ k (ap not u)
 
-      far : (eqb x root ≡ true) ⊎ (via free-edge (below n) root x ≡ true) → Walk free-edge root y
-      far (inl a) = one (subst (λ z. free-edge z y ≡ true) (eqb-true x root a) last)
-      far (inr a) = join (sound free-edge (below n) root x a) (one last)
+      far : (eqb x root ≡ true) ⊎ (via free_edge (below n) root x ≡ true) → Walk free_edge root y
+      far (inl a) = one (subst (λ z. free_edge z y ≡ true) (eqb-true x root a) last)
+      far (inr a) = join (sound free_edge (below n) root x a) (one last)
 
   -- against the edges
-  back : {x y : ℕ} → WalkIn (turn e) Free x root → Walk free-edge x y → WalkIn (turn e) Free y root
-  back w (one {x} {y} k) = step (listed_to (listed can.graph) x y (and_left (e x y) _ k), unlabelled label y (not-true _ (and_right (e x y) _ k))) (and_left (e x y) _ k) w
-  back w (more {x} {y} k p) = back (step (listed_to (listed can.graph) x y (and_left (e x y) _ k), unlabelled label y (not-true _ (and_right (e x y) _ k))) (and_left (e x y) _ k) w) p
+  back : {x y : ℕ} → WalkIn (turn e) Free x root → Walk free_edge x y → WalkIn (turn e) Free y root
+  back w (one {x} {y} k) = step (listed-to (listed can.graph) x y (and_left (e x y) _ k), unlabelled label y (not-true _ (and_right (e x y) _ k))) (and_left (e x y) _ k) w
+  back w (more {x} {y} k p) = back (step (listed-to (listed can.graph) x y (and_left (e x y) _ k), unlabelled label y (not-true _ (and_right (e x y) _ k))) (and_left (e x y) _ k) w) p
 
-  goal-walk : (x : ℕ) → goal x ≡ true → WalkIn (turn e) Free x root
-  goal-walk x h = ⊎_elim
+  goal_walk : (x : ℕ) → goal x ≡ true → WalkIn (turn e) Free x root
+  goal_walk x h = ⊎_elim
       (λ a. subst (λ z. WalkIn (turn e) Free z root) (sym (eqb-true x root a)) (here (can.node, can.new)))
-      (λ a. back (here (can.node, can.new)) (sound free-edge (below n) root x a))
+      (λ a. back (here (can.node, can.new)) (sound free_edge (below n) root x a))
       (or_cases (eqb x root) _ h)
 
   ready : Ready n l label stack 0
@@ -79,8 +79,8 @@ module _ {g q : List ℕ} {n : ℕ} {label stack : List ℕ} {root l : ℕ} (can
   new : get_or label root 0 < l
   new = omega (arith, can.new, can.some)
 
-  pub gather-can : CanLook label stack l 0 root
-  gather-can = look-can ready can.node
+  pub gather_can : CanLook label stack l 0 root
+  gather_can = look_can ready can.node
 
   first : Spread n (deg g) (nb g q) every (labelled label) goal (met l label) (stk stack) 0 n 0
   first = moves.first
@@ -88,17 +88,17 @@ module _ {g q : List ℕ} {n : ℕ} {label stack : List ℕ} {root l : ℕ} (can
       (λ x b h. ap not (ne_eqb _ _ (λ (z : get_or label x 0 ≡ 0). let k = yes-met l label x h in omega (arith, can.some))))
 
   module _ {label₁ stack₁ : List ℕ} {sp : ℕ} (w : Looked label stack l 0 root label₁ stack₁ sp) where
-    pub spread-can : CanSpread g q n l label₁ stack₁ sp
-    spread-can = let k = w.new new in record { graph = can.graph; ready = rw (k.0, k.1, k.2) (push-ready ready can.node new) }
+    pub spread_can : CanSpread g q n l label₁ stack₁ sp
+    spread_can = let k = w.new new in record { graph = can.graph; ready = rw (k.0, k.1, k.2) (push_ready ready can.node new) }
 
     seeded : Spread n (deg g) (nb g q) every (labelled label) goal (met l label₁) (stk stack₁) sp n 0
-    seeded = let k = w.new new in rw (k.0, k.1, k.2) (seed-state ready can.node new (offers_list can.graph).ends first (or_left (eqb root root) _ (eq-eqb root root refl)))
+    seeded = let k = w.new new in rw (k.0, k.1, k.2) (seed_state ready can.node new (offers_list can.graph).ends first (or_left (eqb root root) _ (eq-eqb root root refl)))
 
     kept : Kept n l label label₁
     kept = let k = w.new new in rw k.0 (push_kept ready can.node new)
 
-    root-met : get_or label₁ root 0 ≡ l
-    root-met = let k = w.new new in rw k.0 (at_y ready can.node new)
+    root_met : get_or label₁ root 0 ≡ l
+    root_met = let k = w.new new in rw k.0 (at_y ready can.node new)
 
     module _ {label₂ stack₂ : List ℕ} (v : Done e n (deg g) (nb g q) every l label₁ stack₁ sp label₂ stack₂ 0) where
       end : Spread n (deg g) (nb g q) every (labelled label) goal (met l label₂) (stk stack₂) 0 n 0
@@ -112,7 +112,7 @@ module _ {g q : List ℕ} {n : ℕ} {label stack : List ℕ} {root l : ℕ} (can
       got x z h = all-kept.new x (omega (arith, can.some)) h
 
       all : {x y : ℕ} → WalkIn (turn e) Free x y → y ≡ root → (x < n) × (get_or label x 0 ≡ 0) × (get_or label₂ x 0 ≡ l)
-      all (here {x} p) k = (p.0, p.1, got x p.1 (rw k (omega (arith, root-met, v.kept.stay root (omega (arith, root-met))))))
+      all (here {x} p) k = (p.0, p.1, got x p.1 (rw k (omega (arith, root_met, v.kept.stay root (omega (arith, root_met))))))
       all (step {x} {y} p h w) k =
           let r = all w k in
           let m = moves.step-out (offers_list can.graph) end y x r.0 (met-yes l label₂ y (omega (arith, r.2))) (no_label label y r.1) h in
@@ -121,11 +121,11 @@ module _ {g q : List ℕ} {n : ℕ} {label stack : List ℕ} {root l : ℕ} (can
       into : (x : ℕ) → x < n → at label x ≡ 0 → (at label₂ x ≡ 0 → ⊥) → (at label₂ x ≡ l) × WalkIn (turn e) Free x root
       into x b z h = elim (dec_lt (get_or label₂ x 0) l) [
         | yes k ↦ absurd (h (all-kept.low x k ∙ z))
-        | no k ↦ (got x z (omega arith), goal-walk x (end.from x b (met-yes l label₂ x (omega arith)) (no_label label x z)))
+        | no k ↦ (got x z (omega arith), goal_walk x (end.from x b (met-yes l label₂ x (omega arith)) (no_label label x z)))
       ]
 
-      pub gather-done : Gathered (turn e) n root l (at label) (at label₂)
-      gather-done = record {
+      pub gather_done : Gathered (turn e) n root l (at label) (at label₂)
+      gather_done = record {
         old = λ x b h. all-kept.stay x (let k = can.fresh x b h in omega arith);
         into = into;
         all = λ x b w. (all w refl).2;

@@ -12,7 +12,7 @@ use Rattle.graphs.specs.Bools.{or_cases, or_left, or_right, and_left, and_right,
 use Rattle.graphs.specs.Lists.{below}
 use Rattle.graphs.specs.Walk.{via}
 use Rattle.graphs.specs.Walks.{Sources, sources-below, sound, complete}
-use Rattle.graph_neighbours.specs.Lists.{edge, listed, listed_to}
+use Rattle.graph_neighbours.specs.Lists.{edge, listed, listed-to}
 use Rattle.graph_depth_first.specs.Order.{Reach}
 use Rattle.graph_depth_first.specs.Steps.{at}
 use Rattle.graph_components.specs.Components.{turn, twinned, CanGather, Gathered, Parted, Parting, Split, CanWalkBack}
@@ -33,11 +33,11 @@ pub part_node : {g q : List ℕ} {n : ℕ} {order label stack : List ℕ} (k i :
 part_node k i v b = (v.state.order.node i (omega (arith, v.state.most))).0
 
 module _ {g q : List ℕ} {n : ℕ} {order label stack : List ℕ} (k : ℕ) (v : Parting g q n order label stack (k + 1)) where
-  pub part-skip : (at label (at order k) ≡ 0 → ⊥) → Parting g q n order label stack k
-  part-skip h = record { graph = v.graph; places = v.places; cells = v.cells; room = v.room; small = v.small; state = parts.part-skip k v.state h }
+  pub part_skip : (at label (at order k) ≡ 0 → ⊥) → Parting g q n order label stack k
+  part_skip h = record { graph = v.graph; places = v.places; cells = v.cells; room = v.room; small = v.small; state = parts.part_skip k v.state h }
 
-  pub part-can : at order k < n → at label (at order k) ≡ 0 → CanGather g q n label stack (at order k) (k + 1)
-  part-can h new = record { graph = v.graph; cells = v.cells; room = v.room; node = h; some = omega arith; new = new; fresh = v.state.fresh }
+  pub part_can : at order k < n → at label (at order k) ≡ 0 → CanGather g q n label stack (at order k) (k + 1)
+  part_can h new = record { graph = v.graph; cells = v.cells; room = v.room; node = h; some = omega arith; new = new; fresh = v.state.fresh }
 
   pub part-new : at label (at order k) ≡ 0 → {label' stack' : List ℕ} → Gathered (turn (edge g q n)) n (at order k) (k + 1) (at label) (at label')
       → length label' ≡ length label → length stack' ≡ length stack → Parting g q n order label' stack' k
@@ -79,4 +79,4 @@ module _ {e : ℕ → ℕ → Bool} {n : ℕ} {o c : ℕ → ℕ} (from : Source
   split_done = record { some = labelled; most = v.top; joined = joined; parted = parted }
 
 pub split_of : {g q : List ℕ} {n : ℕ} {order label stack : List ℕ} → Parting g q n order label stack 0 → Split (turn (edge g q n)) n (at label)
-split_of v = split_done (λ x y h. listed_to (listed v.graph) y x h) v.state
+split_of v = split_done (λ x y h. listed-to (listed v.graph) y x h) v.state

@@ -62,8 +62,8 @@ met-step {n} {P} {Q} {found} a b v low high keep new back = go (ℕ_discrete a b
 
 -- from one place to the next
 module _ {g q : List ℕ} {n : ℕ} {c : ℕ → ℕ} {x j : ℕ} (xn : x < n) (jd : j < deg g x) where
-  pub inner-keep : (l : ℕ) → Inner g q n c x j l → Inner g q n c x (j + 1) l
-  inner-keep l v = record {
+  pub inner_keep : (l : ℕ) → Inner g q n c x j l → Inner g q n c x (j + 1) l
+  inner_keep l v = record {
     node = v.node;
     place = v.place;
     within = v.within;
@@ -73,8 +73,8 @@ module _ {g q : List ℕ} {n : ℕ} {c : ℕ → ℕ} {x j : ℕ} (xn : x < n) (
     before = ⊎_elim (λ h. inl h) (λ h. inr (h.0, omega (arith, h.1))) v.before;
   }
 
-  pub inner-new : {y : ℕ} → y ≡ nb g q x j → c x ≡ c y → Inner g q n c x (j + 1) (c x)
-  inner-new is h = record { node = x; place = j; within = xn; there = jd; before = inr (refl, omega arith); same = h ∙ ap c is; label = refl }
+  pub inner_new : {y : ℕ} → y ≡ nb g q x j → c x ≡ c y → Inner g q n c x (j + 1) (c x)
+  inner_new is h = record { node = x; place = j; within = xn; there = jd; before = inr (refl, omega arith); same = h ∙ ap c is; label = refl }
 
   pub inner_back : {y : ℕ} → y ≡ nb g q x j → (l : ℕ) → Inner g q n c x (j + 1) l → Inner g q n c x j l ⊎ ((c x ≡ c y) × (l ≡ c x))
   inner_back {y} is l v = ⊎_elim
@@ -94,7 +94,7 @@ met-map f b v = record {
 
 pub met-turn : {g q : List ℕ} {n : ℕ} {w : List ℕ} {x j found y : ℕ} → CanMeet g q n w → x < n → j < deg g x → y ≡ nb g q x j → Met n (Inner g q n (at w) x j) found → Met n (Inner g q n (at w) x (j + 1)) (meet_of found (at w x) (at w y) (n + 1))
 met-turn {g} {q} {n} {w} {x} {j} {found} {y} can xn jd is v =
-    met-step (at w x) (at w y) v (let h = can.split.some x xn in omega arith) (can.split.most x xn) (inner-keep xn jd) (inner-new xn jd is) (inner_back xn jd is)
+    met-step (at w x) (at w y) v (let h = can.split.some x xn in omega arith) (can.split.most x xn) (inner_keep xn jd) (inner_new xn jd is) (inner_back xn jd is)
 
 pub met_next : {g q : List ℕ} {n : ℕ} {c : ℕ → ℕ} {x found : ℕ} → Met n (Inner g q n c x (deg g x)) found → Met n (Inner g q n c (x + 1) 0) found
 met_next {g} {q} {n} {c} {x} v = met-map

@@ -36,21 +36,21 @@ module _ {e : ℕ → ℕ → Bool} {n : ℕ} {o c : ℕ → ℕ} (k : ℕ) (v :
   abbrev r : ℕ
   r = o k
 
-  in-n : k < n
-  in-n = omega (arith, v.most)
+  in_n : k < n
+  in_n = omega (arith, v.most)
 
   pub r-n : r < n
-  r-n = (ord.node k in-n).0
+  r-n = (ord.node k in_n).0
 
   r-place : ord.place r ≡ k
-  r-place = (ord.node k in-n).1
+  r-place = (ord.node k in_n).1
 
   last : (x : ℕ) → x < n → ord.place x ≡ k → x ≡ r
   last x b q = sym (ord.holds x b) ∙ ap o q
 
   -- r has a label already
-  pub part-skip : (c r ≡ 0 → ⊥) → Parted e n o c k
-  part-skip h =
+  pub part_skip : (c r ≡ 0 → ⊥) → Parted e n o c k
+  part_skip h =
       record {
         order = ord;
         most = omega (arith, v.most);

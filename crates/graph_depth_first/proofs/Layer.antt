@@ -10,13 +10,13 @@ use lib.ListN.{get_or, length, set, length-set}
 use lib.Seq.{get_or-set_same, get_or-set_other}
 use Rattle.graphs.specs.Lists.{below}
 use Rattle.graphs.specs.Walk.{cyclic}
-use Rattle.graphs.specs.Walks.{sources-below, cyclic-walk}
+use Rattle.graphs.specs.Walks.{sources-below, cyclic_walk}
 use Rattle.graph_neighbours.specs.Lists.{deg, nb, edge, listed}
 use Rattle.graph_depth_first.specs.Search.{Falls, size}
 use Rattle.graph_depth_first.specs.Steps.{at, CanDiscover, Discovered, Finished, CanVisit, Visited, Ready, Top, Kept, Stepped}
 use Rattle.graph_depth_first.proofs.Whites.{room_for}
 use Rattle.graph_colours.specs.Colours.{view, held, Next, Step, opens, passes, closes}
-use Rattle.graph_depth_first.proofs.Views.{next-top, view-opens, view-passes, view-closes}
+use Rattle.graph_depth_first.proofs.Views.{next_top, view_opens, view-passes, view-closes}
 use Rattle.graph_depth_first.proofs.Moves as moves
 use Rattle.graph_depth_first.proofs.Falling as falling
 
@@ -44,11 +44,11 @@ module _ {g l : List ℕ} {n : ℕ} {colour cursor stack low order : List ℕ} {
 
   -- a white node is discovered
   module _ (j : ℕ) (jn : j < n) (new : at colour j ≡ 0) where
-    pub push-fits : sp + fin < n
-    push-fits = room_for n (at colour) sp fin j r.state.count jn new
+    pub push_fits : sp + fin < n
+    push_fits = room_for n (at colour) sp fin j r.state.count jn new
 
-    pub discover-can : CanDiscover colour stack low sp j fin
-    discover-can = record { cell = omega (arith, r.colours); white = new; room = omega (arith, r.places, push-fits); mark = omega (arith, r.lows); few = omega (arith, push-fits, r.small) }
+    pub discover_can : CanDiscover colour stack low sp j fin
+    discover_can = record { cell = omega (arith, r.colours); white = new; room = omega (arith, r.places, push_fits); mark = omega (arith, r.lows); few = omega (arith, push_fits, r.small) }
 
     module _ (after : (p : ℕ) → p + 1 ≡ sp → e (at stack p) j ≡ true) (from : (held (at stack) sp ≡ []) ⊎ ((x : ℕ) × Next (deg g) (nb g l) (view colour cursor stack sp) x j)) where
       abbrev colour' : List ℕ
@@ -67,7 +67,7 @@ module _ {g l : List ℕ} {n : ℕ} {colour cursor stack low order : List ℕ} {
       co x b h = other colour j 1 x h
 
       sj : at stack' sp ≡ j
-      sj = same stack sp j (omega (arith, r.places, push-fits))
+      sj = same stack sp j (omega (arith, r.places, push_fits))
 
       so : (p : ℕ) → p < n → (p ≡ sp → ⊥) → at stack' p ≡ at stack p
       so p b h = other stack sp j p h
@@ -78,8 +78,8 @@ module _ {g l : List ℕ} {n : ℕ} {colour cursor stack low order : List ℕ} {
       ao : (x : ℕ) → x < n → (x ≡ j → ⊥) → at low' x ≡ at low x
       ao x b h = other low j fin x h
 
-      push-new : Ready g l n colour' cursor stack' low' order (sp + 1) fin met
-      push-new = record {
+      push_new : Ready g l n colour' cursor stack' low' order (sp + 1) fin met
+      push_new = record {
         graph = r.graph;
         colours = rw length-set r.colours;
         cursors = r.cursors;
@@ -88,31 +88,31 @@ module _ {g l : List ℕ} {n : ℕ} {colour cursor stack low order : List ℕ} {
         orders = r.orders;
         small = r.small;
         state = moves.push r.state (listed r.graph) (at colour') (at stack') (at low') j jn new after cj co sj so aj ao;
-        falls = λ h. falling.falls-push r.state (listed r.graph) (r.falls h) (at colour') j new cj co;
+        falls = λ h. falling.falls_push r.state (listed r.graph) (r.falls h) (at colour') j new cj co;
         closes = r.closes;
       }
 
-      known-new : Kept n colour colour'
-      known-new = record { known = λ x b h z. elim (ℕ_discrete x j) [ yes k ↦ omega (arith, cj, ap (at colour') k) | no k ↦ h (sym (co x b k) ∙ z) ] }
+      known_new : Kept n colour colour'
+      known_new = record { known = λ x b h z. elim (ℕ_discrete x j) [ yes k ↦ omega (arith, cj, ap (at colour') k) | no k ↦ h (sym (co x b k) ∙ z) ] }
 
       less-new : size n (deg g) (at colour') (at cursor) (sp + 1) < size n (deg g) (at colour) (at cursor) sp
-      less-new = moves.push-size r.state (listed r.graph) (at colour') (at stack') (at low') j jn new after cj co sj so aj ao
+      less-new = moves.push_size r.state (listed r.graph) (at colour') (at stack') (at low') j jn new after cj co sj so aj ao
 
       module _ {colour'' stack'' low'' : List ℕ} (w : Discovered colour stack low sp j fin colour'' stack'' low'') where
-        pub push-ready : Ready g l n colour'' cursor stack'' low'' order (sp + 1) fin met
-        push-ready = rw (w.turned, w.pushed, w.noted) push-new
+        pub push_ready : Ready g l n colour'' cursor stack'' low'' order (sp + 1) fin met
+        push_ready = rw (w.turned, w.pushed, w.noted) push_new
 
         pub push_kept : Kept n colour colour''
-        push_kept = rw w.turned known-new
+        push_kept = rw w.turned known_new
 
-        pub push-known : at colour'' j ≡ 0 → ⊥
-        push-known z = omega (arith, ap (λ (k : List ℕ). at k j) w.turned, cj)
+        pub push_known : at colour'' j ≡ 0 → ⊥
+        push_known z = omega (arith, ap (λ (k : List ℕ). at k j) w.turned, cj)
 
-        pub push-moved : Step n (deg g) (nb g l) (view colour cursor stack sp) (view colour'' cursor stack'' (sp + 1))
-        push-moved = rw (w.turned, w.pushed) (opens j (view-opens n (deg g) (nb g l) colour cursor stack sp r.colours j jn (omega (arith, r.places, push-fits)) new from))
+        pub push_moved : Step n (deg g) (nb g l) (view colour cursor stack sp) (view colour'' cursor stack'' (sp + 1))
+        push_moved = rw (w.turned, w.pushed) (opens j (view_opens n (deg g) (nb g l) colour cursor stack sp r.colours j jn (omega (arith, r.places, push_fits)) new from))
 
         pub push_step : Stepped g l n colour cursor stack sp colour'' cursor stack'' low'' order (sp + 1) fin met
-        push_step = record { kept = push_kept; ready = push-ready; moved = push-moved; less = rw w.turned less-new }
+        push_step = record { kept = push_kept; ready = push_ready; moved = push_moved; less = rw w.turned less-new }
 
   -- the node t on top of the stack, and j, the place of its next neighbour
   module _ (k : Top g n colour cursor stack sp fin) where
@@ -142,8 +142,8 @@ module _ {g l : List ℕ} {n : ℕ} {colour cursor stack low order : List ℕ} {
       oo : (i : ℕ) → i < n → (i ≡ fin → ⊥) → at order' i ≡ at order i
       oo i b h = other order fin t i h
 
-      pop-new : Stepped g l n colour cursor stack sp black cursor stack low order' (sp - 1) (fin + 1) met
-      pop-new = record {
+      pop_new : Stepped g l n colour cursor stack sp black cursor stack low order' (sp - 1) (fin + 1) met
+      pop_new = record {
         kept = record { known = λ x b h z. elim (ℕ_discrete x t) [ yes i ↦ omega (arith, ct, ap (at black) i) | no i ↦ h (sym (co₁ x b i) ∙ z) ] };
         ready = record {
           graph = r.graph;
@@ -154,20 +154,20 @@ module _ {g l : List ℕ} {n : ℕ} {colour cursor stack low order : List ℕ} {
           orders = rw length-set r.orders;
           small = r.small;
           state = moves.pop r.state (listed r.graph) (at black) (at order') k.some all ct co₁ of oo;
-          falls = λ h. falling.falls-pop r.state (listed r.graph) (r.falls h) (at black) k.some all ct co₁;
+          falls = λ h. falling.falls_pop r.state (listed r.graph) (r.falls h) (at black) k.some all ct co₁;
           closes = r.closes;
         };
         moved = closes t (view-closes n (deg g) (nb g l) colour cursor stack sp r.colours t fin k.node refl k.some k.gray all);
-        less = moves.pop-size r.state (listed r.graph) (at black) (at order') k.some all ct co₁ of oo;
+        less = moves.pop_size r.state (listed r.graph) (at black) (at order') k.some all ct co₁ of oo;
       }
 
       pub pop_step : {colour'' order'' : List ℕ} → Finished colour order t fin colour'' order'' → Stepped g l n colour cursor stack sp colour'' cursor stack low order'' (sp - 1) (fin + 1) met
-      pop_step w = rw (w.turned, w.listed) pop-new
+      pop_step w = rw (w.turned, w.listed) pop_new
 
     -- t's next neighbour
     module _ (room : j ≡ deg g t → ⊥) where
-      pub next-in : j < deg g t
-      next-in = omega (arith, k.reach)
+      pub next_in : j < deg g t
+      next_in = omega (arith, k.reach)
 
       abbrev cursor' : List ℕ
       cursor' = set cursor t (j + 1)
@@ -179,24 +179,24 @@ module _ {g l : List ℕ} {n : ℕ} {colour cursor stack low order : List ℕ} {
       uo x b h = other cursor t (j + 1) x h
 
       module _ {y : ℕ} (is : y ≡ nb g l t j) where
-        pub next-node : y < n
-        next-node = rw is (r.graph.ends t j k.node next-in)
+        pub next_node : y < n
+        next_node = rw is (r.graph.ends t j k.node next_in)
 
-        to-y : e t y ≡ true
-        to-y = rw is ((listed r.graph).step t j k.node next-in)
+        to_y : e t y ≡ true
+        to_y = rw is ((listed r.graph).step t j k.node next_in)
 
-        pub visit-can : CanVisit colour cursor stack low sp fin t y
-        visit-can = record {
-          cell = omega (arith, next-node, r.colours);
+        pub visit_can : CanVisit colour cursor stack low sp fin t y
+        visit_can = record {
+          cell = omega (arith, next_node, r.colours);
           next = omega (arith, k.node, r.cursors);
           short = k.short;
-          room = λ h. omega (arith, push-fits y next-node h, r.places);
-          mark = omega (arith, next-node, r.lows);
+          room = λ h. omega (arith, push_fits y next_node h, r.places);
+          mark = omega (arith, next_node, r.lows);
           few = omega (arith, k.full, r.small);
         }
 
         next : Next (deg g) (nb g l) (view colour cursor stack sp) t y
-        next = next-top n (deg g) (nb g l) colour cursor stack sp r.colours t y refl k.some next-in (sym is)
+        next = next_top n (deg g) (nb g l) colour cursor stack sp r.colours t y refl k.some next_in (sym is)
 
         -- it is passed by
         passed : (at colour y ≡ 0 → ⊥) → {met' : Bool} → (met' ≡ false → Falls e n (nb g l) (at colour) (at cursor')) → (met' ≡ true → cyclic e (below n) ≡ true)
@@ -211,25 +211,25 @@ module _ {g l : List ℕ} {n : ℕ} {colour cursor stack low order : List ℕ} {
             lows = r.lows;
             orders = r.orders;
             small = r.small;
-            state = moves.next r.state (listed r.graph) (at cursor') t k.node next-in (rw is at known) ut uo;
+            state = moves.next r.state (listed r.graph) (at cursor') t k.node next_in (rw is at known) ut uo;
             falls = falls;
             closes = shut;
           };
           moved = passes t y (view-passes n (deg g) (nb g l) colour cursor stack sp r.colours t y k.node r.cursors next known);
-          less = moves.next-size r.state (listed r.graph) (at cursor') t k.node next-in (rw is at known) ut uo;
+          less = moves.next-size r.state (listed r.graph) (at cursor') t k.node next_in (rw is at known) ut uo;
         }
 
         cycle : at colour y ≡ 1 → cyclic e (below n) ≡ true
-        cycle h = (cyclic-walk e (below n) (sources-below (listed r.graph).from)).1 (t, falling.closed r.state (listed r.graph) y k.some next-node to-y h)
+        cycle h = (cyclic_walk e (below n) (sources-below (listed r.graph).from)).1 (t, falling.closed r.state (listed r.graph) y k.some next_node to_y h)
 
-        pub visit-step : {colour'' cursor'' stack'' low'' : List ℕ} {sp'' fin'' : ℕ} {met'' : Bool} → Visited colour cursor stack low sp fin t y met colour'' cursor'' stack'' low'' sp'' fin'' met''
+        pub visit_step : {colour'' cursor'' stack'' low'' : List ℕ} {sp'' fin'' : ℕ} {met'' : Bool} → Visited colour cursor stack low sp fin t y met colour'' cursor'' stack'' low'' sp'' fin'' met''
             → Stepped g l n colour cursor stack sp colour'' cursor'' stack'' low'' order sp'' fin'' met''
-        visit-step {colour''} {cursor''} {stack''} {low''} {sp''} {fin''} {met''} w = go (ℕ_discrete (at colour y) 0) (ℕ_discrete (at colour y) 1)
+        visit_step {colour''} {cursor''} {stack''} {low''} {sp''} {fin''} {met''} w = go (ℕ_discrete (at colour y) 0) (ℕ_discrete (at colour y) 1)
           where
             go : Dec (at colour y ≡ 0) → Dec (at colour y ≡ 1) → Stepped g l n colour cursor stack sp colour'' cursor'' stack'' low'' order sp'' fin'' met''
             go (yes h) b =
                 let q = w.white h in
-                rw (q.1, q.2, q.3, w.same) (push_step y next-node h (λ p i. let z : p ≡ sp - 1 = omega arith in rw z to-y) (inr (t, next)) q.0)
+                rw (q.1, q.2, q.3, w.same) (push_step y next_node h (λ p i. let z : p ≡ sp - 1 = omega arith in rw z to_y) (inr (t, next)) q.0)
             go (no h) (yes b) =
                 let q = w.gray b in
                 rw (q.0, q.1, q.2, q.3, q.4, q.5, w.same) (passed h (λ z. absurd (true≢false z)) (λ z. cycle b))
@@ -237,4 +237,4 @@ module _ {g l : List ℕ} {n : ℕ} {colour cursor stack low order : List ℕ} {
                 let q = w.black (omega arith) in
                 let done : 2 ≤ at colour (nb g l t j) = rw is at (let z : 2 ≤ at colour y = omega arith in z) in
                 rw (q.0, q.1, q.2, q.3, q.4, q.5, w.same)
-                (passed h (λ z. falling.falls-next r.state (listed r.graph) (r.falls z) (at cursor') t done ut uo) r.closes)
+                (passed h (λ z. falling.falls_next r.state (listed r.graph) (r.falls z) (at cursor') t done ut uo) r.closes)

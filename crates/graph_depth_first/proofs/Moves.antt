@@ -8,7 +8,7 @@ use mathlib.Core.Logic.{inl, inr}
 use mathlib.Core.Bool.{Bool, true}
 use Rattle.graphs.specs.Walk.{Walk, one}
 use Rattle.graphs.specs.Walks.{join}
-use Rattle.graph_neighbours.specs.Lists.{Listed, listed_to}
+use Rattle.graph_neighbours.specs.Lists.{Listed, listed-to}
 use Rattle.graph_depth_first.specs.Order.{Reach, WalkIn, here, step, Ordered}
 use Rattle.graph_depth_first.specs.Search.{Search, togo, size}
 use Rattle.graphs.specs.Total.{is0, whites, total_change}
@@ -52,13 +52,13 @@ module _ {e : ℕ → ℕ → Bool} {n : ℕ} {d : ℕ → ℕ} {f : ℕ → ℕ
 
   module _ (G : Listed e n d f) where
     ends : (x y : ℕ) → e x y ≡ true → y < n
-    ends = listed_to G
+    ends = listed-to G
 
     -- a white node is discovered
     module _ (c' s' a' : ℕ → ℕ) (j : ℕ) (jn : j < n) (new : c j ≡ 0) (after : (p : ℕ) → p + 1 ≡ sp → e (s p) j ≡ true)
         (cj : c' j ≡ 1) (co : But n j c c') (sj : s' sp ≡ j) (so : But n sp s s') (aj : a' j ≡ fin) (ao : But n j a a') where
-      pub push-whites : whites n c' + 1 ≡ whites n c
-      push-whites = omega (arith, whites_but n c c' j jn co, ap is0 new, ap is0 cj)
+      pub push_whites : whites n c' + 1 ≡ whites n c
+      push_whites = omega (arith, whites_but n c c' j jn co, ap is0 new, ap is0 cj)
 
       other : (p : ℕ) → p < sp → s p ≡ j → ⊥
       other p b r = omega (arith, ap c r, v.gray p b)
@@ -70,49 +70,49 @@ module _ {e : ℕ → ℕ → Bool} {n : ℕ} {d : ℕ → ℕ} {f : ℕ → ℕ
       old y b h = let q : y ≡ j → ⊥ = λ r. omega (arith, ap c' r) in (co y b q, ao y b q)
 
       same_s : (p : ℕ) → p < sp → s' p ≡ s p
-      same_s p b = so p (omega (arith, push-whites, v.count)) (omega arith)
+      same_s p b = so p (omega (arith, push_whites, v.count)) (omega arith)
 
-      same-a : (p : ℕ) → p < sp → a' (s' p) ≡ a (s p)
-      same-a p b = rw (same_s p b) (ao (s p) (v.node p b) (other p b))
+      same_a : (p : ℕ) → p < sp → a' (s' p) ≡ a (s p)
+      same_a p b = rw (same_s p b) (ao (s p) (v.node p b) (other p b))
 
-      push-rising : (p q : ℕ) → p < q → q < sp + 1 → a' (s' p) ≤ a' (s' q)
-      push-rising p q l b = elim (ℕ_discrete q sp) [
-        | yes r ↦ omega (arith, same-a p (omega arith), ap (λ k. a' (s' k)) r, ap a' sj, aj, v.begun (s p) (v.node p (omega arith)) (λ z. omega (arith, v.gray p (omega arith))))
-        | no r ↦ omega (arith, same-a p (omega arith), same-a q (omega arith), v.rising p q l (omega arith))
+      push_rising : (p q : ℕ) → p < q → q < sp + 1 → a' (s' p) ≤ a' (s' q)
+      push_rising p q l b = elim (ℕ_discrete q sp) [
+        | yes r ↦ omega (arith, same_a p (omega arith), ap (λ k. a' (s' k)) r, ap a' sj, aj, v.begun (s p) (v.node p (omega arith)) (λ z. omega (arith, v.gray p (omega arith))))
+        | no r ↦ omega (arith, same_a p (omega arith), same_a q (omega arith), v.rising p q l (omega arith))
       ]
 
-      push-out : (x y : ℕ) → x < n → 2 ≤ c' x → e x y ≡ true → (c' y ≡ 0 → ⊥) × (a' y + 2 ≤ c' x)
-      push-out x y b h t =
+      push_out : (x y : ℕ) → x < n → 2 ≤ c' x → e x y ≡ true → (c' y ≡ 0 → ⊥) × (a' y + 2 ≤ c' x)
+      push_out x y b h t =
           let k = old x b h in
           let r = v.out x y b (omega arith) t in
           let q = met y r.0 in
           (λ z. r.0 (sym (co y (ends x y t) q) ∙ z), omega (arith, ao y (ends x y t) q))
 
-      push-over : (p y : ℕ) → p < sp + 1 → y < n → 2 ≤ c' y → a' (s' p) + 2 ≤ c' y → Walk e (s' p) y × (a' (s' p) ≤ a' y)
-      push-over p y b l h t =
+      push_over : (p y : ℕ) → p < sp + 1 → y < n → 2 ≤ c' y → a' (s' p) + 2 ≤ c' y → Walk e (s' p) y × (a' (s' p) ≤ a' y)
+      push_over p y b l h t =
           let k = old y l h in
           elim (ℕ_discrete p sp) [
             | yes q ↦ absurd (omega (arith, ap (λ i. a' (s' i)) q, ap a' sj, aj, v.below y l (omega arith)))
             | no q ↦
-                let z = same-a p (omega arith) in
+                let z = same_a p (omega arith) in
                 let r = v.over p y (omega arith) l (omega arith) (omega arith) in
                 (rw (same_s p (omega arith)) r.0, omega arith)
           ]
 
-      push-nest : (r y : ℕ) → r < n → y < n → 2 ≤ c' r → 2 ≤ c' y → a' r + 2 ≤ c' y → c' y ≤ c' r → Reach e r y × (a' r ≤ a' y)
-      push-nest r y b l h g t i =
+      push_nest : (r y : ℕ) → r < n → y < n → 2 ≤ c' r → 2 ≤ c' y → a' r + 2 ≤ c' y → c' y ≤ c' r → Reach e r y × (a' r ≤ a' y)
+      push_nest r y b l h g t i =
           let k = old r b h in
           let d = old y l g in
           let z = v.nest r y b l (omega arith) (omega arith) (omega arith) (omega arith) in
           (z.0, omega arith)
 
-      push-got : (k : ℕ) → k < fin → (o k < n) × (c' (o k) ≡ k + 2)
-      push-got k b = let r = v.got k b in (r.0, co (o k) r.0 (λ z. omega (arith, ap c z)) ∙ r.1)
+      push_got : (k : ℕ) → k < fin → (o k < n) × (c' (o k) ≡ k + 2)
+      push_got k b = let r = v.got k b in (r.0, co (o k) r.0 (λ z. omega (arith, ap c z)) ∙ r.1)
 
       pub push : Search e n d f c' u s' a' o (sp + 1) fin
       push =
           record {
-            count = omega (arith, push-whites, v.count);
+            count = omega (arith, push_whites, v.count);
             node = λ p b. elim (ℕ_discrete p sp) [ yes q ↦ rw (q, sj) jn | no q ↦ rw (same_s p (omega arith)) (v.node p (omega arith)) ];
             gray = λ p b. elim (ℕ_discrete p sp) [
               | yes q ↦ rw (q, sj) cj
@@ -130,7 +130,7 @@ module _ {e : ℕ → ℕ → Bool} {n : ℕ} {d : ℕ → ℕ} {f : ℕ → ℕ
               | yes r ↦ other p (omega arith) (sym (same_s p (omega arith)) ∙ h ∙ ap s' r ∙ sj)
               | no r ↦ v.apart p q l (omega arith) (sym (same_s p (omega arith)) ∙ h ∙ same_s q (omega arith))
             ];
-            rising = push-rising;
+            rising = push_rising;
             reach = v.reach;
             seen = λ x i b h z. v.seen x i b h (sym (co (f x i) (G.ends x i b (omega (arith, v.reach x b))) (λ r. omega (arith, ap c' r))) ∙ z);
             begun = λ x b h. elim (ℕ_discrete x j) [
@@ -139,16 +139,16 @@ module _ {e : ℕ → ℕ → Bool} {n : ℕ} {d : ℕ → ℕ} {f : ℕ → ℕ
             ];
             below = λ x b h. let k = old x b h in omega (arith, v.below x b (omega arith));
             own = λ x b h. let k = old x b h in omega (arith, v.own x b (omega arith));
-            out = push-out;
-            over = push-over;
-            nest = push-nest;
+            out = push_out;
+            over = push_over;
+            nest = push_nest;
             put = λ x b h. let k = old x b h in rw k.0 (v.put x b (omega arith));
-            got = push-got;
+            got = push_got;
           }
 
-      pub push-size : size n d c' u (sp + 1) < size n d c u sp
+      pub push_size : size n d c' u (sp + 1) < size n d c u sp
       unfolding size
-      push-size = omega (arith, push-whites)
+      push_size = omega (arith, push_whites)
 
     -- the node on top of the stack finishes
     module _ (c' o' : ℕ → ℕ) (some : 0 < sp) (all : u (s (sp - 1)) ≡ d (s (sp - 1))) (ct : c' (s (sp - 1)) ≡ fin + 2) (co : But n (s (sp - 1)) c c')
@@ -159,30 +159,30 @@ module _ {e : ℕ → ℕ → Bool} {n : ℕ} {d : ℕ → ℕ} {f : ℕ → ℕ
       top : c t ≡ 1
       top = v.gray (sp - 1) (omega arith)
 
-      top-n : t < n
-      top-n = v.node (sp - 1) (omega arith)
+      top_n : t < n
+      top_n = v.node (sp - 1) (omega arith)
 
-      pub pop-whites : whites n c' ≡ whites n c
-      pop-whites = omega (arith, whites_but n c c' t top-n co, ap is0 top, ap is0 ct, not0 (fin + 2) (omega arith))
+      pub pop_whites : whites n c' ≡ whites n c
+      pop_whites = omega (arith, whites_but n c c' t top_n co, ap is0 top, ap is0 ct, not0 (fin + 2) (omega arith))
 
       still : (y : ℕ) → y < n → (c y ≡ 0 → ⊥) → c' y ≡ 0 → ⊥
       still y b h z = elim (ℕ_discrete y t) [ yes q ↦ omega (arith, ap c' q) | no q ↦ h (sym (co y b q) ∙ z) ]
 
-      pop-held : (x : ℕ) → x < n → c' x ≡ 1 → (p : ℕ) × (p < sp - 1) × (s p ≡ x)
-      pop-held x b h =
+      pop_held : (x : ℕ) → x < n → c' x ≡ 1 → (p : ℕ) × (p < sp - 1) × (s p ≡ x)
+      pop_held x b h =
           let q : x ≡ t → ⊥ = λ r. omega (arith, ap c' r, ct) in
           let r = v.held x b (sym (co x b q) ∙ h) in
           let k : r.0 ≡ sp - 1 → ⊥ = λ z. q (sym r.2 ∙ ap s z) in
           (r.0, omega arith, r.2)
 
-      pop-begun : (x : ℕ) → x < n → (c' x ≡ 0 → ⊥) → a x ≤ fin + 1
-      pop-begun x b h = elim (ℕ_discrete x t) [
+      pop_begun : (x : ℕ) → x < n → (c' x ≡ 0 → ⊥) → a x ≤ fin + 1
+      pop_begun x b h = elim (ℕ_discrete x t) [
         | yes q ↦ omega (arith, v.begun x b (λ z. omega (arith, ap c q, top)))
         | no q ↦ omega (arith, v.begun x b (λ z. h (co x b q ∙ z)))
       ]
 
-      pop-out : (x y : ℕ) → x < n → 2 ≤ c' x → e x y ≡ true → (c' y ≡ 0 → ⊥) × (a y + 2 ≤ c' x)
-      pop-out x y b h g = elim (ℕ_discrete x t) [
+      pop_out : (x y : ℕ) → x < n → 2 ≤ c' x → e x y ≡ true → (c' y ≡ 0 → ⊥) × (a y + 2 ≤ c' x)
+      pop_out x y b h g = elim (ℕ_discrete x t) [
         | yes q ↦
             let l = ends x y g in
             let w = G.find x y g in
@@ -194,14 +194,14 @@ module _ {e : ℕ → ℕ → Bool} {n : ℕ} {d : ℕ → ℕ} {f : ℕ → ℕ
             (still y (ends x y g) r.0, omega arith)
       ]
 
-      pop-over : (p y : ℕ) → p < sp - 1 → y < n → 2 ≤ c' y → a (s p) + 2 ≤ c' y → Walk e (s p) y × (a (s p) ≤ a y)
-      pop-over p y b l h g = elim (ℕ_discrete y t) [
+      pop_over : (p y : ℕ) → p < sp - 1 → y < n → 2 ≤ c' y → a (s p) + 2 ≤ c' y → Walk e (s p) y × (a (s p) ≤ a y)
+      pop_over p y b l h g = elim (ℕ_discrete y t) [
         | yes q ↦ (rw q (up p (sp - 1) b (omega arith)), omega (arith, ap a q, v.rising p (sp - 1) b (omega arith)))
         | no q ↦ let k = co y l q in v.over p y (omega arith) l (omega arith) (omega arith)
       ]
 
-      pop-nest : (r y : ℕ) → r < n → y < n → 2 ≤ c' r → 2 ≤ c' y → a r + 2 ≤ c' y → c' y ≤ c' r → Reach e r y × (a r ≤ a y)
-      pop-nest r y b l h g i m = elim (ℕ_discrete r t) [
+      pop_nest : (r y : ℕ) → r < n → y < n → 2 ≤ c' r → 2 ≤ c' y → a r + 2 ≤ c' y → c' y ≤ c' r → Reach e r y × (a r ≤ a y)
+      pop_nest r y b l h g i m = elim (ℕ_discrete r t) [
         | yes q ↦ elim (ℕ_discrete y t) [
           | yes z ↦ (inl (q ∙ sym z), omega (arith, ap a (q ∙ sym z)))
           | no z ↦
@@ -217,8 +217,8 @@ module _ {e : ℕ → ℕ → Bool} {n : ℕ} {d : ℕ → ℕ} {f : ℕ → ℕ
             ]
       ]
 
-      pop-put : (x : ℕ) → x < n → 2 ≤ c' x → o' (c' x - 2) ≡ x
-      pop-put x b h = elim (ℕ_discrete x t) [
+      pop_put : (x : ℕ) → x < n → 2 ≤ c' x → o' (c' x - 2) ≡ x
+      pop_put x b h = elim (ℕ_discrete x t) [
         | yes q ↦
             let z : c' x - 2 ≡ fin = omega (arith, ap c' q, ct) in
             ap o' z ∙ of ∙ sym q
@@ -228,9 +228,9 @@ module _ {e : ℕ → ℕ → Bool} {n : ℕ} {d : ℕ → ℕ} {f : ℕ → ℕ
             rw k (oo (c x - 2) (omega (arith, v.count)) (omega arith) ∙ v.put x b (omega arith))
       ]
 
-      pop-got : (k : ℕ) → k < fin + 1 → (o' k < n) × (c' (o' k) ≡ k + 2)
-      pop-got k b = elim (ℕ_discrete k fin) [
-        | yes q ↦ (rw (q, of) top-n, rw (q, of) ct)
+      pop_got : (k : ℕ) → k < fin + 1 → (o' k < n) × (c' (o' k) ≡ k + 2)
+      pop_got k b = elim (ℕ_discrete k fin) [
+        | yes q ↦ (rw (q, of) top_n, rw (q, of) ct)
         | no q ↦
             let r = v.got k (omega arith) in
             let z = oo k (omega (arith, v.count)) q in
@@ -240,28 +240,28 @@ module _ {e : ℕ → ℕ → Bool} {n : ℕ} {d : ℕ → ℕ} {f : ℕ → ℕ
       pub pop : Search e n d f c' u s a o' (sp - 1) (fin + 1)
       pop =
           record {
-            count = omega (arith, pop-whites, v.count);
+            count = omega (arith, pop_whites, v.count);
             node = λ p b. v.node p (omega arith);
             gray = λ p b. co (s p) (v.node p (omega arith)) (v.apart p (sp - 1) b (omega arith)) ∙ v.gray p (omega arith);
-            held = pop-held;
+            held = pop_held;
             path = λ p b. v.path p (omega arith);
             apart = λ p q l b. v.apart p q l (omega arith);
             rising = λ p q l b. v.rising p q l (omega arith);
             reach = v.reach;
             seen = λ x i b h. still (f x i) (G.ends x i b (omega (arith, v.reach x b))) (v.seen x i b h);
-            begun = pop-begun;
+            begun = pop_begun;
             below = λ x b h. elim (ℕ_discrete x t) [ yes q ↦ omega (arith, ap c' q, ct) | no q ↦ let k = co x b q in omega (arith, v.below x b (omega arith)) ];
-            own = λ x b h. elim (ℕ_discrete x t) [ yes q ↦ omega (arith, ap c' q, ct, ap a q, v.begun t top-n (λ z. omega (arith, top))) | no q ↦ let k = co x b q in omega (arith, v.own x b (omega arith)) ];
-            out = pop-out;
-            over = pop-over;
-            nest = pop-nest;
-            put = pop-put;
-            got = pop-got;
+            own = λ x b h. elim (ℕ_discrete x t) [ yes q ↦ omega (arith, ap c' q, ct, ap a q, v.begun t top_n (λ z. omega (arith, top))) | no q ↦ let k = co x b q in omega (arith, v.own x b (omega arith)) ];
+            out = pop_out;
+            over = pop_over;
+            nest = pop_nest;
+            put = pop_put;
+            got = pop_got;
           }
 
-      pub pop-size : size n d c' u (sp - 1) < size n d c u sp
+      pub pop_size : size n d c' u (sp - 1) < size n d c u sp
       unfolding size
-      pop-size = omega (arith, pop-whites)
+      pop_size = omega (arith, pop_whites)
 
     -- the node t passes its neighbour at the cursor by
     module _ (u' : ℕ → ℕ) (t : ℕ) (tn : t < n) (room : u t < d t) (done : c (f t (u t)) ≡ 0 → ⊥) (ut : u' t ≡ u t + 1) (uo : But n t u u') where

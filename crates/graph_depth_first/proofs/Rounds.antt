@@ -9,7 +9,7 @@ use borrow.Author.Count.{below_more}
 use Rattle.graphs.specs.Bools.{fails}
 use Rattle.graphs.specs.Lists.{below}
 use Rattle.graphs.specs.Walk.{cyclic}
-use Rattle.graphs.specs.Walks.{sources-below, cyclic-walk}
+use Rattle.graphs.specs.Walks.{sources-below, cyclic_walk}
 use Rattle.graph_neighbours.specs.Lists.{deg, nb, edge, listed}
 use Rattle.graph_depth_first.specs.Steps.{at, Ready, Searched, CanWalk, Walked}
 use Rattle.graph_depth_first.proofs.Moves as moves
@@ -44,7 +44,7 @@ round_first {g} {l} {n} {stack} {low} {order} {colour'} {cursor'} can a b zc zu 
         orders = can.orders;
         small = can.small;
         state = first;
-        falls = λ h. falling.falls-first first (listed can.graph) zc zu;
+        falls = λ h. falling.falls_first first (listed can.graph) zc zu;
         closes = λ h. absurd (true≢false (sym h));
       };
       known = λ x h. absurd (omega arith);
@@ -52,19 +52,19 @@ round_first {g} {l} {n} {stack} {low} {order} {colour'} {cursor'} can a b zc zu 
     }
 
 module _ {g l : List ℕ} {n i : ℕ} {colour cursor stack low order : List ℕ} {fin : ℕ} {met : Bool} (r : Round g l n i colour cursor stack low order fin met) where
-  pub round-more : {colour' cursor' stack' low' order' : List ℕ} {fin' : ℕ} {met' : Bool} → i < n → Searched g l n i colour cursor stack colour' cursor' stack' low' order' fin' met'
+  pub round_more : {colour' cursor' stack' low' order' : List ℕ} {fin' : ℕ} {met' : Bool} → i < n → Searched g l n i colour cursor stack colour' cursor' stack' low' order' fin' met'
       → Round g l n (i + 1) colour' cursor' stack' low' order' fin' met'
-  round-more {colour'} b v = record {
+  round_more {colour'} b v = record {
     ready = v.ready;
     known = below_more (λ x. at colour' x ≡ 0 → ⊥) i (λ x k. v.kept.known x (omega arith) (r.known x k)) v.known;
     within = omega arith;
   }
 
-  pub round-black : n ≤ i → (x : ℕ) → x < n → 2 ≤ at colour x
-  round-black b = moves.black r.ready.state (λ x k. r.known x (omega arith))
+  pub round_black : n ≤ i → (x : ℕ) → x < n → 2 ≤ at colour x
+  round_black b = moves.black r.ready.state (λ x k. r.known x (omega arith))
 
-  pub round-done : n ≤ i → Walked (edge g l n) n order met
-  round-done b = record { answer = go met refl; ordered = moves.ordered r.ready.state all }
+  pub round_done : n ≤ i → Walked (edge g l n) n order met
+  round_done b = record { answer = go met refl; ordered = moves.ordered r.ready.state all }
     where
       all : (x : ℕ) → x < n → at colour x ≡ 0 → ⊥
       all x k = r.known x (omega arith)
@@ -72,6 +72,6 @@ module _ {g l : List ℕ} {n i : ℕ} {colour cursor stack low order : List ℕ}
       go : (t : Bool) → met ≡ t → t ≡ cyclic (edge g l n) (below n)
       go true q = sym (r.ready.closes q)
       go false q = sym (fails _ (λ h.
-          let p = (cyclic-walk (edge g l n) (below n) (sources-below (listed r.ready.graph).from)).0 h in
+          let p = (cyclic_walk (edge g l n) (below n) (sources-below (listed r.ready.graph).from)).0 h in
           let w = falling.falling r.ready.state (listed r.ready.graph) (r.ready.falls q) (moves.black r.ready.state all) p.1 in
           omega arith))

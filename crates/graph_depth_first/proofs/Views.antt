@@ -9,7 +9,7 @@ use lib.ListN.{get_or, length, set}
 use lib.Seq.{get_or-set_same, get_or-set_other}
 use Rattle.graph_colours.specs.declared.State.TheVariants.{White, Gray, Black}
 use Rattle.graph_colours.specs.Colours.{next_state, colour_of, View, Turns, Next, Opens, Passes, Closes, Step, Run, none, more, held, view}
-use Rattle.graph_colours.specs.States.{state_black, state_known}
+use Rattle.graph_colours.specs.States.{state-black, state_known}
 use Rattle.graph_depth_first.specs.Steps.{at}
 
 held_more : (s : ℕ → ℕ) (p : ℕ) → held s (p + 1) ≡ s p ∷ held s p
@@ -30,12 +30,12 @@ held_same s t (suc p) h = rw (h p (omega arith), held_same s t p (λ i b. h i (o
 
 module _ (n : ℕ) (d : ℕ → ℕ) (f : ℕ → ℕ → ℕ) (colour cursor stack : List ℕ) (sp : ℕ) (long : n ≤ length colour) where
   -- the node on top of the stack is the one opened last
-  pub next-top : (t y : ℕ) → t ≡ at stack (sp - 1) → 0 < sp → at cursor t < d t → f t (at cursor t) ≡ y → Next d f (view colour cursor stack sp) t y
-  next-top t y q b m e = record { rest = held (at stack) (sp - 1); top = rw q (held_top (at stack) sp b); more = m; there = e }
+  pub next_top : (t y : ℕ) → t ≡ at stack (sp - 1) → 0 < sp → at cursor t < d t → f t (at cursor t) ≡ y → Next d f (view colour cursor stack sp) t y
+  next_top t y q b m e = record { rest = held (at stack) (sp - 1); top = rw q (held_top (at stack) sp b); more = m; there = e }
 
-  pub view-opens : (y : ℕ) → y < n → sp < length stack → at colour y ≡ 0 → (held (at stack) sp ≡ []) ⊎ ((x : ℕ) × Next d f (view colour cursor stack sp) x y)
+  pub view_opens : (y : ℕ) → y < n → sp < length stack → at colour y ≡ 0 → (held (at stack) sp ≡ []) ⊎ ((x : ℕ) × Next d f (view colour cursor stack sp) x y)
       → Opens n d f (view colour cursor stack sp) (view (set colour y 1) cursor (set stack sp y) (sp + 1)) y
-  view-opens y b room new from = record {
+  view_opens y b room new from = record {
     node = b;
     white = ap colour_of new;
     from = from;
@@ -63,7 +63,7 @@ module _ (n : ℕ) (d : ℕ → ℕ) (f : ℕ → ℕ → ℕ) (colour cursor st
     path = rw q (held_top (at stack) sp some);
     all = all;
     turns = record {
-      this = ap colour_of (get_or-set_same colour t (fin + 2) 0 (omega arith)) ∙ state_black (fin + 2) (omega arith) ∙ sym (ap (λ k. next_state (colour_of k)) gray);
+      this = ap colour_of (get_or-set_same colour t (fin + 2) 0 (omega arith)) ∙ state-black (fin + 2) (omega arith) ∙ sym (ap (λ k. next_state (colour_of k)) gray);
       others = λ x h k. ap colour_of (get_or-set_other colour t x (fin + 2) 0 k);
     };
     cursors = λ z h. refl;

@@ -50,23 +50,23 @@ pub record Listed (e : ℕ → ℕ → Bool) (n : ℕ) (d : ℕ → ℕ) (f : �
   pub from : (x y : ℕ) → e x y ≡ true → x < n
   pub find : (x y : ℕ) → e x y ≡ true → (i : ℕ) × (i < d x) × (f x i ≡ y)
 
-pub listed_to : {e : ℕ → ℕ → Bool} {n : ℕ} {d : ℕ → ℕ} {f : ℕ → ℕ → ℕ} → Listed e n d f → (x y : ℕ) → e x y ≡ true → y < n
-listed_to g x y h = let r = g.find x y h in let b = g.ends x r.0 (g.from x y h) r.1 in omega (arith, r.2)
+pub listed-to : {e : ℕ → ℕ → Bool} {n : ℕ} {d : ℕ → ℕ} {f : ℕ → ℕ → ℕ} → Listed e n d f → (x y : ℕ) → e x y ≡ true → y < n
+listed-to g x y h = let r = g.find x y h in let b = g.ends x r.0 (g.from x y h) r.1 in omega (arith, r.2)
 
 module _ {starts list : List ℕ} {n : ℕ} (g : Graph starts list n) where
-  pub part-long : (x : ℕ) → x < n → length (part_of starts list x) ≡ deg starts x
-  part-long x h = length-take-le (deg starts x) (drop (get_or starts x 0) list) (rw length-drop (omega (arith, g.rise x h, g.inside x h)))
+  pub part_long : (x : ℕ) → x < n → length (part_of starts list x) ≡ deg starts x
+  part_long x h = length-take-le (deg starts x) (drop (get_or starts x 0) list) (rw length-drop (omega (arith, g.rise x h, g.inside x h)))
 
   pub listed : Listed (edge starts list n) n (deg starts) (nb starts list)
   unfolding edge
   listed = record {
     ends = g.ends;
-    step = λ x i h b. and_both (ltb x n) _ (lt-ltb x n h) (lt-ltb 0 _ (occ-at (part_of starts list x) i (omega (arith, part-long x h))));
+    step = λ x i h b. and_both (ltb x n) _ (lt-ltb x n h) (lt-ltb 0 _ (occ-at (part_of starts list x) i (omega (arith, part_long x h))));
     from = λ x y h. ltb-true x n (and_left (ltb x n) _ h);
     find = λ x y h.
         let b : x < n = ltb-true x n (and_left (ltb x n) _ h) in
         let r = occ-place y (part_of starts list x) (ltb-true 0 _ (and_right (ltb x n) _ h)) in
-        (r.0, omega (arith, r.1, part-long x b), r.2);
+        (r.0, omega (arith, r.1, part_long x b), r.2);
   }
 
   pub row_of : (x : ℕ) → x < n → Row starts x

@@ -31,8 +31,8 @@ module _ {s t : List ℕ} {m n : ℕ} {heads list order label stack flags : List
   room = record { rows = omega (arith, can.lists.slots.nodes); room = omega (arith, can.lists.slots.slots); short = omega arith }
 
   module _ {l' out' : List ℕ} (g : Grouped t s m n l l' out out') where
-    pub only-can : CanFlagOnly heads list l' out' n order label stack flags
-    only-can =
+    pub only_can : CanFlagOnly heads list l' out' n order label stack flags
+    only_can =
         let back = slot-lists (turned_slots can.lists.slots) room g in
         record {
           graph = can.lists.graph;
@@ -47,8 +47,8 @@ module _ {s t : List ℕ} {m n : ℕ} {heads list order label stack flags : List
         }
 
     -- the flags of the lists' graph are those of the slots'
-    pub only-slots : {r : List ℕ} → r ≡ flagged (edge heads list n) n flags → r ≡ flagged (slot_edge s t m) n flags
-    only-slots q = q ∙ ap (λ (f : ℕ → ℕ → Bool). flagged f n flags) can.lists.same
+    pub only_slots : {r : List ℕ} → r ≡ flagged (edge heads list n) n flags → r ≡ flagged (slot_edge s t m) n flags
+    only_slots q = q ∙ ap (λ (f : ℕ → ℕ → Bool). flagged f n flags) can.lists.same
 
 -- n zeros, and a list behind them
 zeros : (n : ℕ) (r : List ℕ) (x : ℕ) → x < n → get_or (replicate n 0 ++ r) x 0 ≡ 0

@@ -15,10 +15,10 @@ use Rattle.graph_walks.specs.Closed.{flag_edge, closed}
 use Rattle.graph_walks.specs.ClosedLaws.{flag_is}
 use Rattle.graph_walks.specs.Marks.{marking}
 use Rattle.graph_walks.specs.Counted.{counted, without, counted-take}
-use Rattle.graph_walks.specs.Places.{square, reached, holds, passes, at_row, at-column, next_row, offers, offers-without}
+use Rattle.graph_walks.specs.Places.{square, reached, holds, passes, at_row, at_column, next_row, offers, offers_without}
 use Rattle.graph_walks.specs.Spread.{Offers, Ready, CanLook, Looked, Scanned, Done}
 use Rattle.graph_walks.specs.Ends.{end_at, end_edge, end_place, looked_at, LookedEnd, EndRows, CanScanEnds, CanScanEndRow, ScannedTo, Swept, DoneEnds, CanCloseEnds}
-use Rattle.graph_walks.proofs.Layer.{push-ready, scan-none, turn-skip, turn_more}
+use Rattle.graph_walks.proofs.Layer.{push_ready, scan_none, turn_skip, turn_more}
 use Rattle.graph_walks.proofs.Ends.{union-done}
 
 -- a look's four ways out
@@ -52,7 +52,7 @@ seen e w = record { skipped = λ h. absurd (true≢false (sym e ∙ h)); looked 
 -- the stack has room after a look
 looked_ready : {n mark : ℕ} {l s : List ℕ} {sp y : ℕ} → Ready n mark l s sp → y < n → {l' s' : List ℕ} {sp' : ℕ} → Looked l s mark sp y l' s' sp' → Ready n mark l' s' sp'
 looked_ready {n} {mark} {l} {s} {sp} {y} v b w = elim (dec_lt (get_or l y 0) mark) [
-  | yes k ↦ let q = w.new k in rw (q.0, q.1, q.2) (push-ready v b k)
+  | yes k ↦ let q = w.new k in rw (q.0, q.1, q.2) (push_ready v b k)
   | no k ↦ let q = w.old (omega arith) in rw (q.0, q.1, q.2) v
 ]
 
@@ -61,19 +61,19 @@ end-ready v b true w = looked_ready v b (w.looked refl)
 end-ready v b false w = let q = w.skipped refl in rw (q.0, q.1, q.2) v
 
 module _ {l : List ℕ} {c n : ℕ} {ends : List ℕ} (s t : ℕ) (r : EndRows l c n ends) where
-  pub offers-ends : Offers (end_edge l c n ends s t) n (square n) (reached (end_at ends) n) (end_place l c n ends s t)
-  offers-ends = offers-without (offers (flag_edge l c n) (end_at ends) n r.each) s t
+  pub offers_ends : Offers (end_edge l c n ends s t) n (square n) (reached (end_at ends) n) (end_place l c n ends s t)
+  offers_ends = offers_without (offers (flag_edge l c n) (end_at ends) n r.each) s t
 
   ends-to : (x y : ℕ) → end_edge l c n ends s t x y ≡ true → y < n
   unfolding without
-  ends-to x y h = let k = counted-take (flag_edge l c n) (end_at ends) n x y (and_left (counted (flag_edge l c n) (end_at ends) n x y) _ h) in subst (λ v. v < n) k.to (r.each k.target k.target-in)
+  ends-to x y h = let k = counted-take (flag_edge l c n) (end_at ends) n x y (and_left (counted (flag_edge l c n) (end_at ends) n x y) _ h) in subst (λ v. v < n) k.to (r.each k.target k.target_in)
 
   module _ (i j x : ℕ) (a : i < n) (b : j < n) where
     abbrev row_at : (i * n + j) / n ≡ i
     row_at = at_row (flag_edge l c n) (end_at ends) n r.each i j b
 
-    abbrev column-at : (i * n + j) % n ≡ j
-    column-at = at-column (flag_edge l c n) (end_at ends) n r.each i j b
+    abbrev column_at : (i * n + j) % n ≡ j
+    column_at = at_column (flag_edge l c n) (end_at ends) n r.each i j b
 
     -- a place of a row of another node
     pub place-off : (end_at ends i ≡ x → ⊥) → end_place l c n ends s t x (i * n + j) ≡ true → ⊥
@@ -81,17 +81,17 @@ module _ {l : List ℕ} {c n : ℕ} {ends : List ℕ} (s t : ℕ) (r : EndRows l
     place-off q h = true≢false (sym h ∙ (rw (row_at, ne_eqb (end_at ends i) x q)))
 
     -- a place of one of x's rows
-    pub place-on : end_at ends i ≡ x → end_place l c n ends s t x (i * n + j) ≡ looked_at (get_or l (i * c + j) 0) s t x (end_at ends j)
+    pub place_on : end_at ends i ≡ x → end_place l c n ends s t x (i * n + j) ≡ looked_at (get_or l (i * c + j) 0) s t x (end_at ends j)
     unfolding passes holds looked_at
-    place-on q = rw (row_at, column-at, eq-eqb (end_at ends i) x q, flag_is l c n i j a b)
+    place_on q = rw (row_at, column_at, eq-eqb (end_at ends i) x q, flag_is l c n i j a b)
 
   -- t's place in row i, column j, is looked at
   module _ {mark : ℕ} {l₀ s₀ l₁ s₁ : List ℕ} {sp₀ sp₁ x i j : ℕ} (a : i < n) (b : j < n) (v : ScannedTo l c n ends s t mark l₀ s₀ sp₀ x (i * n + j) l₁ s₁ sp₁) where
     next : {l₂ s₂ : List ℕ} {sp₂ : ℕ} → ScannedTo l c n ends s t mark l₀ s₀ sp₀ x (i * n + j + 1) l₂ s₂ sp₂ → ScannedTo l c n ends s t mark l₀ s₀ sp₀ x (i * n + (j + 1)) l₂ s₂ sp₂
     next {l₂} {s₂} {sp₂} = subst (λ k. ScannedTo l c n ends s t mark l₀ s₀ sp₀ x k l₂ s₂ sp₂) (omega arith)
 
-    pub place-skip : (end_at ends i ≡ x → ⊥) → ScannedTo l c n ends s t mark l₀ s₀ sp₀ x (i * n + (j + 1)) l₁ s₁ sp₁
-    place-skip q = next (turn-skip offers-ends v (λ h. absurd (place-off i j x a b q h)))
+    pub place_skip : (end_at ends i ≡ x → ⊥) → ScannedTo l c n ends s t mark l₀ s₀ sp₀ x (i * n + (j + 1)) l₁ s₁ sp₁
+    place_skip q = next (turn_skip offers_ends v (λ h. absurd (place-off i j x a b q h)))
 
     pub place-more : x < n → end_at ends i ≡ x → {l₂ s₂ : List ℕ} {sp₂ : ℕ} → LookedEnd (looked_at (get_or l (i * c + j) 0) s t x (end_at ends j)) l₁ s₁ mark sp₁ (end_at ends j) l₂ s₂ sp₂
         → ScannedTo l c n ends s t mark l₀ s₀ sp₀ x (i * n + (j + 1)) l₂ s₂ sp₂
@@ -99,28 +99,28 @@ module _ {l : List ℕ} {c n : ℕ} {ends : List ℕ} (s t : ℕ) (r : EndRows l
       where
         go : (p : Bool) → looked_at (get_or l (i * c + j) 0) s t x (end_at ends j) ≡ p → LookedEnd p l₁ s₁ mark sp₁ (end_at ends j) l₂ s₂ sp₂
             → ScannedTo l c n ends s t mark l₀ s₀ sp₀ x (i * n + (j + 1)) l₂ s₂ sp₂
-        go true e w = next (turn_more offers-ends v xn (Rattle.graph_walks.specs.Places.inside (flag_edge l c n) (end_at ends) n r.each i j a b) (place-on i j x a b q ∙ e) (ap (end_at ends) (sym (column-at i j x a b))) (w.looked refl))
-        go false e w = let k = w.skipped refl in rw (k.0, k.1, k.2) (next (turn-skip offers-ends v (λ h. absurd (true≢false (sym h ∙ place-on i j x a b q ∙ e)))))
+        go true e w = next (turn_more offers_ends v xn (Rattle.graph_walks.specs.Places.inside (flag_edge l c n) (end_at ends) n r.each i j a b) (place_on i j x a b q ∙ e) (ap (end_at ends) (sym (column_at i j x a b))) (w.looked refl))
+        go false e w = let k = w.skipped refl in rw (k.0, k.1, k.2) (next (turn_skip offers_ends v (λ h. absurd (true≢false (sym h ∙ place_on i j x a b q ∙ e)))))
 
   -- row i, up to column j
   pub swept_none : {mark : ℕ} {l₁ s₁ : List ℕ} {sp₁ : ℕ} (x i : ℕ) → Ready n mark l₁ s₁ sp₁ → Swept l c n ends s t mark l₁ s₁ sp₁ x i 0 l₁ s₁ sp₁
   swept_none {mark} {l₁} {s₁} {sp₁} x i v = record { ready = v; more = λ l₀ s₀ sp₀. subst (λ k. ScannedTo l c n ends s t mark l₀ s₀ sp₀ x k l₁ s₁ sp₁) (omega arith) }
 
-  pub swept-more : {mark : ℕ} {l₁ s₁ l₂ s₂ l₃ s₃ : List ℕ} {sp₁ sp₂ sp₃ x i j : ℕ} → Swept l c n ends s t mark l₁ s₁ sp₁ x i j l₂ s₂ sp₂ → x < n → i < n → j < n → end_at ends i ≡ x
+  pub swept_more : {mark : ℕ} {l₁ s₁ l₂ s₂ l₃ s₃ : List ℕ} {sp₁ sp₂ sp₃ x i j : ℕ} → Swept l c n ends s t mark l₁ s₁ sp₁ x i j l₂ s₂ sp₂ → x < n → i < n → j < n → end_at ends i ≡ x
       → LookedEnd (looked_at (get_or l (i * c + j) 0) s t x (end_at ends j)) l₂ s₂ mark sp₂ (end_at ends j) l₃ s₃ sp₃ → Swept l c n ends s t mark l₁ s₁ sp₁ x i (j + 1) l₃ s₃ sp₃
-  swept-more {i} {j} v xn a b q w = record { ready = end-ready v.ready (r.each j b) _ w; more = λ l₀ s₀ sp₀ k. place-more a b (v.more l₀ s₀ sp₀ k) xn q w }
+  swept_more {i} {j} v xn a b q w = record { ready = end-ready v.ready (r.each j b) _ w; more = λ l₀ s₀ sp₀ k. place-more a b (v.more l₀ s₀ sp₀ k) xn q w }
 
   -- a row that isn't x's
-  pub swept-off : {mark : ℕ} {l₁ s₁ : List ℕ} {sp₁ : ℕ} (x i : ℕ) → Ready n mark l₁ s₁ sp₁ → i < n → (end_at ends i ≡ x → ⊥) → Swept l c n ends s t mark l₁ s₁ sp₁ x i n l₁ s₁ sp₁
-  swept-off {mark} {l₁} {s₁} {sp₁} x i v a q = record { ready = v; more = λ l₀ s₀ sp₀ w. go l₀ s₀ sp₀ w n (omega arith) }
+  pub swept_off : {mark : ℕ} {l₁ s₁ : List ℕ} {sp₁ : ℕ} (x i : ℕ) → Ready n mark l₁ s₁ sp₁ → i < n → (end_at ends i ≡ x → ⊥) → Swept l c n ends s t mark l₁ s₁ sp₁ x i n l₁ s₁ sp₁
+  swept_off {mark} {l₁} {s₁} {sp₁} x i v a q = record { ready = v; more = λ l₀ s₀ sp₀ w. go l₀ s₀ sp₀ w n (omega arith) }
     where
       go : (l₀ s₀ : List ℕ) (sp₀ : ℕ) → ScannedTo l c n ends s t mark l₀ s₀ sp₀ x (i * n) l₁ s₁ sp₁ → (j : ℕ) → j ≤ n → ScannedTo l c n ends s t mark l₀ s₀ sp₀ x (i * n + j) l₁ s₁ sp₁
       go l₀ s₀ sp₀ w zero b = subst (λ k. ScannedTo l c n ends s t mark l₀ s₀ sp₀ x k l₁ s₁ sp₁) (omega arith) w
-      go l₀ s₀ sp₀ w (suc j) b = subst (λ k. ScannedTo l c n ends s t mark l₀ s₀ sp₀ x (i * n + k) l₁ s₁ sp₁) (add-one j) (place-skip a (omega arith) (go l₀ s₀ sp₀ w j (omega arith)) q)
+      go l₀ s₀ sp₀ w (suc j) b = subst (λ k. ScannedTo l c n ends s t mark l₀ s₀ sp₀ x (i * n + k) l₁ s₁ sp₁) (add-one j) (place_skip a (omega arith) (go l₀ s₀ sp₀ w j (omega arith)) q)
 
   -- all rows up to the i-th
   pub rows_none : {mark : ℕ} {l₁ s₁ : List ℕ} {sp₁ : ℕ} (x : ℕ) → Ready n mark l₁ s₁ sp₁ → ScannedTo l c n ends s t mark l₁ s₁ sp₁ x (0 * n) l₁ s₁ sp₁
-  rows_none {mark} {l₁} {s₁} {sp₁} x v = subst (λ k. ScannedTo l c n ends s t mark l₁ s₁ sp₁ x k l₁ s₁ sp₁) (sym (none n)) (scan-none offers-ends v)
+  rows_none {mark} {l₁} {s₁} {sp₁} x v = subst (λ k. ScannedTo l c n ends s t mark l₁ s₁ sp₁ x k l₁ s₁ sp₁) (sym (none n)) (scan_none offers_ends v)
     where
       none : (n : ℕ) → 0 * n ≡ 0
       none n = omega arith
@@ -137,4 +137,4 @@ end-row_can {c} {n} {i} r v h b = record { can = record { rows = r; ready = v; n
 pub ends-done : {q : List ℕ} {c n : ℕ} {ends : List ℕ} {source target mark : ℕ} {l s : List ℕ} → CanCloseEnds q c n ends source target mark l s → {l₁ s₁ l₂ s₂ l₃ s₃ : List ℕ} {sp₁ sp₂ : ℕ}
     → ScannedTo q c n ends source target mark l s 0 source (n * n) l₁ s₁ sp₁ → ScannedTo q c n ends source target mark l₁ s₁ sp₁ target (n * n) l₂ s₂ sp₂
     → DoneEnds q c n ends source target mark l₂ s₂ sp₂ l₃ s₃ 0 → length l₃ ≡ length l → l₃ ≡ marking (closed (end_edge q c n ends source target) n source target) mark l
-ends-done {source} {target} can v v₂ w long = union-done (offers-ends source target can.rows) (ends-to source target can.rows) source target can.fresh v v₂ w long
+ends-done {source} {target} can v v₂ w long = union-done (offers_ends source target can.rows) (ends-to source target can.rows) source target can.fresh v v₂ w long

@@ -13,12 +13,12 @@ use Rattle.graphs.specs.Tab.{is_tab}
 use Rattle.graphs.specs.Walk.{Walk, one, more, via}
 use Rattle.graphs.specs.Walks.{sources-below, join, sound, complete, walk_to}
 use Rattle.graphs.specs.Square.{row_in}
-use Rattle.graph_neighbours.specs.Lists.{deg, nb, edge, Graph, listed, listed_to}
+use Rattle.graph_neighbours.specs.Lists.{deg, nb, edge, Graph, listed, listed-to}
 use Rattle.graph_walks.specs.Closed.{flag_edge, closed}
-use Rattle.graph_walks.specs.ClosedLaws.{flag-from, flag-to, flag_is, closed-first, closed-next, closed_all}
+use Rattle.graph_walks.specs.ClosedLaws.{flag_from, flag-to, flag_is, closed-first, closed-next, closed_all}
 use Rattle.graph_walks.specs.Marks.{marking}
 use Rattle.graph_walks.specs.Spread.{met, stk, every, wide, itself, Offers, Spread, Ready, Kept, CanLook, LookedFlag, HandsOn, Scanned, Done, CanReach, Rows, CanScanRow, CanClose}
-use Rattle.graph_walks.proofs.Layer.{met-yes, met_no, yes-met, kept_trans, kept-met, look-can, turn-skip, turn_more}
+use Rattle.graph_walks.proofs.Layer.{met-yes, met_no, yes-met, kept_trans, kept-met, look_can, turn_skip, turn_more}
 use Rattle.graph_walks.proofs.Moves as moves
 
 -- neighbour lists, and rows of flags, as a walk reads them
@@ -34,7 +34,7 @@ pub offers_rows : (l : List ℕ) (c n : ℕ) → Offers (flag_edge l c n) n (wid
 offers_rows l c n = record {
   ends = λ x i b h q. h;
   step = λ x i b h q. q;
-  from = flag-from l c n;
+  from = flag_from l c n;
   find = λ x y h. (y, flag-to l c n x y h, h, refl);
 }
 
@@ -67,11 +67,11 @@ module _ {e : ℕ → ℕ → Bool} {n : ℕ} {d : ℕ → ℕ} {f : ℕ → ℕ
   scanned : Spread n d f h none r (met mark l') (stk s') sp' t (d t)
   scanned = v.state none r (moves.begin w t) (λ y k u. gives y k)
 
-  pub scan-done : Spread n d f h none r (met mark l') (stk s') sp' n 0
-  scan-done = moves.done scanned (omega arith)
+  pub scan_done : Spread n d f h none r (met mark l') (stk s') sp' n 0
+  scan_done = moves.done scanned (omega arith)
 
-  pub scan-met : (y : ℕ) → e t y ≡ true → met mark l' y ≡ 1
-  scan-met y k = let q = G.find t y k in rw q.3 at (scanned.part q.0 q.1 q.1 q.2)
+  pub scan_met : (y : ℕ) → e t y ≡ true → met mark l' y ≡ 1
+  scan_met y k = let q = G.find t y k in rw q.3 at (scanned.part q.0 q.1 q.1 q.2)
 
 -- `reach`
 module _ {starts list : List ℕ} {n mark root : ℕ} {l s : List ℕ} (can : CanReach starts list n mark root l s) where
@@ -93,56 +93,56 @@ module _ {starts list : List ℕ} {n mark root : ℕ} {l s : List ℕ} (can : Ca
   module _ {l₁ s₁ l₂ s₂ : List ℕ} {sp : ℕ} (v : Scanned e n (deg starts) (nb starts list) every mark l s 0 root (deg starts root) l₁ s₁ sp)
       (w : Done e n (deg starts) (nb starts list) every mark l₁ s₁ sp l₂ s₂ 0) where
     last : Spread n (deg starts) (nb starts list) every none to (met mark l₂) (stk s₂) 0 n 0
-    last = w.state none to hands (scan-done (offers_list can.graph) to v (start mark l s can.fresh) gives)
+    last = w.state none to hands (scan_done (offers_list can.graph) to v (start mark l s can.fresh) gives)
 
     all : {x y : ℕ} → x < n → met mark l₂ x ≡ 1 → Walk e x y → met mark l₂ y ≡ 1
     all b m (one {x} {y} k) = moves.step-out (offers_list can.graph) last x y b m refl k
-    all b m (more {x} {y} k p) = all (listed_to (listed can.graph) x y k) (moves.step-out (offers_list can.graph) last x y b m refl k) p
+    all b m (more {x} {y} k p) = all (listed-to (listed can.graph) x y k) (moves.step-out (offers_list can.graph) last x y b m refl k) p
 
     seed : (y : ℕ) → e root y ≡ true → met mark l₂ y ≡ 1
-    seed y k = kept-met w.kept y (scan-met (offers_list can.graph) to v (start mark l s can.fresh) gives y k)
+    seed y k = kept-met w.kept y (scan_met (offers_list can.graph) to v (start mark l s can.fresh) gives y k)
 
-    from-root : {y : ℕ} → Walk e root y → met mark l₂ y ≡ 1
-    from-root (one {y} k) = seed y k
-    from-root (more {y} k p) = all (listed_to (listed can.graph) root y k) (seed y k) p
+    from_root : {y : ℕ} → Walk e root y → met mark l₂ y ≡ 1
+    from_root (one {y} k) = seed y k
+    from_root (more {y} k p) = all (listed-to (listed can.graph) root y k) (seed y k) p
 
     pub reach-done : length l₂ ≡ length l → l₂ ≡ marking to mark l
     reach-done long = marking_is l (kept_trans v.kept w.kept) long can.fresh
-        (λ x q. walk_to (listed_to (listed can.graph)) (sound e (below n) root x q))
+        (λ x q. walk_to (listed-to (listed can.graph)) (sound e (below n) root x q))
         (λ x b m. last.from x b m refl)
-        (λ x q. from-root (sound e (below n) root x q))
+        (λ x q. from_root (sound e (below n) root x q))
 
 -- the closed union of two nodes' edges, after a scan of each and of all that goes on the stack
 module _ {deps : ℕ → ℕ → Bool} {n : ℕ} {d : ℕ → ℕ} {f : ℕ → ℕ → ℕ} {h : ℕ → ℕ → Bool} (G : Offers deps n d f h) (to : (x y : ℕ) → deps x y ≡ true → y < n) (source target : ℕ) where
-  abbrev in-closed : ℕ → Bool
-  in-closed = closed deps n source target
+  abbrev in_closed : ℕ → Bool
+  in_closed = closed deps n source target
 
-  given : (y : ℕ) → (deps source y ≡ true) ⊎ (deps target y ≡ true) → in-closed y ≡ true
+  given : (y : ℕ) → (deps source y ≡ true) ⊎ (deps target y ≡ true) → in_closed y ≡ true
   given y k = closed-first deps n source target y (⊎_elim (to source y) (to target y) k) k
 
-  handed : HandsOn deps none in-closed
+  handed : HandsOn deps none in_closed
   handed x y w k u = closed-next deps n source target G.from x y w k
 
   module _ {mark : ℕ} {l s l₁ s₁ l₂ s₂ l₃ s₃ : List ℕ} {sp₁ sp₂ : ℕ} (fresh : (x : ℕ) → x < n → get_or l x 0 < mark) (v : Scanned deps n d f h mark l s 0 source (d source) l₁ s₁ sp₁) (v₂ : Scanned deps n d f h mark l₁ s₁ sp₁ target (d target) l₂ s₂ sp₂)
       (w : Done deps n d f h mark l₂ s₂ sp₂ l₃ s₃ 0) where
-    one-row : Spread n d f h none in-closed (met mark l₁) (stk s₁) sp₁ n 0
-    one-row = scan-done G in-closed v (start mark l s fresh) (λ y k. given y (inl k))
+    one_row : Spread n d f h none in_closed (met mark l₁) (stk s₁) sp₁ n 0
+    one_row = scan_done G in_closed v (start mark l s fresh) (λ y k. given y (inl k))
 
-    ended : Spread n d f h none in-closed (met mark l₃) (stk s₃) 0 n 0
-    ended = w.state none in-closed handed (scan-done G in-closed v₂ one-row (λ y k. given y (inr k)))
+    ended : Spread n d f h none in_closed (met mark l₃) (stk s₃) 0 n 0
+    ended = w.state none in_closed handed (scan_done G in_closed v₂ one_row (λ y k. given y (inr k)))
 
     seeds : (y : ℕ) → (deps source y ≡ true) ⊎ (deps target y ≡ true) → met mark l₃ y ≡ 1
     seeds y k = kept-met w.kept y (⊎_elim
-        (λ a. kept-met v₂.kept y (scan-met G in-closed v (start mark l s fresh) (λ y k. given y (inl k)) y a))
-        (λ a. scan-met G in-closed v₂ one-row (λ y k. given y (inr k)) y a)
+        (λ a. kept-met v₂.kept y (scan_met G in_closed v (start mark l s fresh) (λ y k. given y (inl k)) y a))
+        (λ a. scan_met G in_closed v₂ one_row (λ y k. given y (inr k)) y a)
         k)
 
-    reached : (x : ℕ) → in-closed x ≡ true → (x < n) × (met mark l₃ x ≡ 1)
+    reached : (x : ℕ) → in_closed x ≡ true → (x < n) × (met mark l₃ x ≡ 1)
     reached = closed_all deps n source target (λ x. (x < n) × (met mark l₃ x ≡ 1))
         (λ x k. (⊎_elim (to source x) (to target x) k, seeds x k))
         (λ x y m k. (to x y k, moves.step-out G ended x y m.0 m.1 refl k))
 
-    pub union-done : length l₃ ≡ length l → l₃ ≡ marking in-closed mark l
+    pub union-done : length l₃ ≡ length l → l₃ ≡ marking in_closed mark l
     union-done long = marking_is l (kept_trans (kept_trans v.kept v₂.kept) w.kept) long fresh
         (λ x k. (reached x k).0)
         (λ x b m. ended.from x b m refl)
@@ -160,15 +160,15 @@ module _ {q : List ℕ} {c n mark : ℕ} {l₀ s₀ l s : List ℕ} {sp₀ sp t 
   tn : t < n
   tn = can.node
 
-  pub flag-can : CanLook l s mark sp j
-  flag-can = look-can v.ready jn
+  pub flag_can : CanLook l s mark sp j
+  flag_can = look_can v.ready jn
 
   pub flag-more : {l' s' : List ℕ} {sp' : ℕ} → LookedFlag (get_or q (t * c + j) 0) l s mark sp j l' s' sp'
       → Scanned (flag_edge q c n) n (wide n) itself (flag_edge q c n) mark l₀ s₀ sp₀ t (j + 1) l' s' sp'
   flag-more {l'} {s'} {sp'} w = go (ℕ_discrete (get_or q (t * c + j) 0) 0)
     where
       go : Dec (get_or q (t * c + j) 0 ≡ 0) → Scanned (flag_edge q c n) n (wide n) itself (flag_edge q c n) mark l₀ s₀ sp₀ t (j + 1) l' s' sp'
-      go (yes h) = let k = w.unset h in rw (k.0, k.1, k.2) (turn-skip (offers_rows q c n) v (λ z. absurd (true≢false (sym z ∙ flag_is q c n t j tn jn ∙ ap not (eq-eqb _ _ h)))))
+      go (yes h) = let k = w.unset h in rw (k.0, k.1, k.2) (turn_skip (offers_rows q c n) v (λ z. absurd (true≢false (sym z ∙ flag_is q c n t j tn jn ∙ ap not (eq-eqb _ _ h)))))
       go (no h) = turn_more (offers_rows q c n) v tn jn (flag_is q c n t j tn jn ∙ ap not (ne_eqb _ _ h)) refl (w.looked h)
 
 pub row_can : {q : List ℕ} {c n mark : ℕ} {l s : List ℕ} {sp t : ℕ} → Rows q c n → Ready n mark l s sp → t < n → CanScanRow q c n mark l s sp t

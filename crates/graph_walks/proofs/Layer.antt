@@ -52,8 +52,8 @@ module _ {n mark : ℕ} {marks stack : List ℕ} {sp y : ℕ} (v : Ready n mark 
   fits : get_or marks y 0 < mark → sp < n
   fits h = room_for n (met mark marks) sp y v.count yn (met_no mark marks y h)
 
-  pub look-can : CanLook marks stack mark sp y
-  look-can = record { cell = omega (arith, v.cells); room = λ h. let a = fits h in omega (arith, v.room) }
+  pub look_can : CanLook marks stack mark sp y
+  look_can = record { cell = omega (arith, v.cells); room = λ h. let a = fits h in omega (arith, v.room) }
 
   -- it is new
   module _ (new : get_or marks y 0 < mark) where
@@ -75,8 +75,8 @@ module _ {n mark : ℕ} {marks stack : List ℕ} {sp y : ℕ} (v : Ready n mark 
     pub co : (x : ℕ) → x < n → (x ≡ y → ⊥) → met mark marks' x ≡ met mark marks x
     co x b z = ap (λ k. ind (not (ltb k mark))) (far x z)
 
-    pub top-y : stk stack' sp ≡ y
-    top-y = get_or-set_same stack sp y 0 (omega (arith, v.room, fits new))
+    pub top_y : stk stack' sp ≡ y
+    top_y = get_or-set_same stack sp y 0 (omega (arith, v.room, fits new))
 
     pub so : (p : ℕ) → (p ≡ sp → ⊥) → stk stack' p ≡ stk stack p
     so p z = get_or-set_other stack sp p y 0 z
@@ -84,12 +84,12 @@ module _ {n mark : ℕ} {marks stack : List ℕ} {sp y : ℕ} (v : Ready n mark 
     fewer : whites n (met mark marks') + 1 ≡ whites n (met mark marks)
     fewer = whites_push n (met mark marks) (met mark marks') y yn (met_no mark marks y new) cy co
 
-    pub push-ready : Ready n mark marks' stack' (sp + 1)
-    push-ready = record {
+    pub push_ready : Ready n mark marks' stack' (sp + 1)
+    push_ready = record {
       cells = rw length-set v.cells;
       room = rw length-set v.room;
       count = omega (arith, fewer, v.count);
-      node = λ p b. elim (ℕ_discrete p sp) [ yes q ↦ rw (q, top-y) yn | no q ↦ rw (so p q) (v.node p (omega arith)) ];
+      node = λ p b. elim (ℕ_discrete p sp) [ yes q ↦ rw (q, top_y) yn | no q ↦ rw (so p q) (v.node p (omega arith)) ];
     }
 
     pub push_kept : Kept n mark marks marks'
@@ -100,42 +100,42 @@ module _ {n mark : ℕ} {marks stack : List ℕ} {sp y : ℕ} (v : Ready n mark 
       beyond = λ x h. far x (omega arith);
     }
 
-    pub push-less : size n mark marks' (sp + 1) ≤ size n mark marks sp
+    pub push_less : size n mark marks' (sp + 1) ≤ size n mark marks sp
     unfolding size
-    push-less = omega (arith, fewer)
+    push_less = omega (arith, fewer)
 
     -- it goes on the stack between two scans
-    pub seed-state : {d : ℕ → ℕ} {f : ℕ → ℕ → ℕ} {h : ℕ → ℕ → Bool} {o r : ℕ → Bool} → ((x i : ℕ) → x < n → i < d x → h x i ≡ true → f x i < n)
+    pub seed_state : {d : ℕ → ℕ} {f : ℕ → ℕ → ℕ} {h : ℕ → ℕ → Bool} {o r : ℕ → Bool} → ((x i : ℕ) → x < n → i < d x → h x i ≡ true → f x i < n)
         → Spread n d f h o r (met mark marks) (stk stack) sp n 0 → r y ≡ true → Spread n d f h o r (met mark marks') (stk stack') (sp + 1) n 0
-    seed-state g a may = moves.seed a g (met mark marks') (stk stack') y yn may cy co top-y so (λ i b. absurd (omega arith))
+    seed_state g a may = moves.seed a g (met mark marks') (stk stack') y yn may cy co top_y so (λ i b. absurd (omega arith))
 
 -- the loop over t's places
 module _ {e : ℕ → ℕ → Bool} {n : ℕ} {d : ℕ → ℕ} {f : ℕ → ℕ → ℕ} {h : ℕ → ℕ → Bool} (G : Offers e n d f h) where
-  pub scan-none : {mark : ℕ} {l s : List ℕ} {sp t : ℕ} → Ready n mark l s sp → Scanned e n d f h mark l s sp t 0 l s sp
-  scan-none {mark} {l} v = record { ready = v; kept = kept_refl n mark l; less = omega arith; state = λ o r w g. w }
+  pub scan_none : {mark : ℕ} {l s : List ℕ} {sp t : ℕ} → Ready n mark l s sp → Scanned e n d f h mark l s sp t 0 l s sp
+  scan_none {mark} {l} v = record { ready = v; kept = kept_refl n mark l; less = omega arith; state = λ o r w g. w }
 
   module _ {mark : ℕ} {l₀ s₀ l s : List ℕ} {sp₀ sp t j : ℕ} (v : Scanned e n d f h mark l₀ s₀ sp₀ t j l s sp) where
-    pub turn-skip : (h t j ≡ true → met mark l (f t j) ≡ 1) → Scanned e n d f h mark l₀ s₀ sp₀ t (j + 1) l s sp
-    turn-skip q = record { ready = v.ready; kept = v.kept; less = v.less; state = λ o r w g. moves.pass (v.state o r w g) q }
+    pub turn_skip : (h t j ≡ true → met mark l (f t j) ≡ 1) → Scanned e n d f h mark l₀ s₀ sp₀ t (j + 1) l s sp
+    turn_skip q = record { ready = v.ready; kept = v.kept; less = v.less; state = λ o r w g. moves.pass (v.state o r w g) q }
 
     module _ (tn : t < n) (jd : j < d t) (holds : h t j ≡ true) {y : ℕ} (is : y ≡ f t j) where
       yn : y < n
       yn = rw is (G.ends t j tn jd holds)
 
-      pub turn-can : CanLook l s mark sp y
-      turn-can = look-can v.ready yn
+      pub turn_can : CanLook l s mark sp y
+      turn_can = look_can v.ready yn
 
       turn-new : get_or l y 0 < mark → Scanned e n d f h mark l₀ s₀ sp₀ t (j + 1) (set l y mark) (set s sp y) (sp + 1)
       turn-new k = record {
-        ready = push-ready v.ready yn k;
+        ready = push_ready v.ready yn k;
         kept = kept_trans v.kept (push_kept v.ready yn k);
-        less = omega (arith, v.less, push-less v.ready yn k);
+        less = omega (arith, v.less, push_less v.ready yn k);
         state = λ o r w g.
             let a = v.state o r w g in
             let free : o y ≡ false = fails (o y) (λ z. omega (arith, a.old y yn z, met_no mark l y k)) in
             moves.pass
             (moves.seed a G.ends (met mark (set l y mark)) (stk (set s sp y)) y yn (g y (rw is (G.step t j tn jd holds)) free)
-            (cy v.ready yn k) (co v.ready yn k) (top-y v.ready yn k) (so v.ready yn k) (λ i b m q. G.ends t i tn m q))
+            (cy v.ready yn k) (co v.ready yn k) (top_y v.ready yn k) (so v.ready yn k) (λ i b m q. G.ends t i tn m q))
             (λ z. rw (← is) (cy v.ready yn k));
       }
 
@@ -144,15 +144,15 @@ module _ {e : ℕ → ℕ → Bool} {n : ℕ} {d : ℕ → ℕ} {f : ℕ → ℕ
         where
           go : Dec (get_or l y 0 < mark) → Scanned e n d f h mark l₀ s₀ sp₀ t (j + 1) l' s' sp'
           go (yes k) = let q = w.new k in rw (q.0, q.1, q.2) (turn-new k)
-          go (no k) = let q = w.old (omega arith) in rw (q.0, q.1, q.2) (turn-skip (λ z. rw (← is) (met-yes mark l y (omega arith))))
+          go (no k) = let q = w.old (omega arith) in rw (q.0, q.1, q.2) (turn_skip (λ z. rw (← is) (met-yes mark l y (omega arith))))
 
   -- the loop over the stack
   pub done_none : {mark : ℕ} {l s : List ℕ} {sp : ℕ} → Ready n mark l s sp → Done e n d f h mark l s sp l s sp
   done_none {mark} {l} v = record { ready = v; kept = kept_refl n mark l; state = λ o r g w. w }
 
   module _ {mark : ℕ} {l₀ s₀ l s : List ℕ} {sp₀ sp : ℕ} (v : Done e n d f h mark l₀ s₀ sp₀ l s sp) (some : 0 < sp) where
-    pub top-node : stk s (sp - 1) < n
-    top-node = v.ready.node (sp - 1) (omega arith)
+    pub top_node : stk s (sp - 1) < n
+    top_node = v.ready.node (sp - 1) (omega arith)
 
     pub top_ready : Ready n mark l s (sp - 1)
     top_ready = record { cells = v.ready.cells; room = v.ready.room; count = omega (arith, v.ready.count); node = λ p b. v.ready.node p (omega arith) }

@@ -47,9 +47,9 @@ module _ {n : ℕ} {d : ℕ → ℕ} {f : ℕ → ℕ → ℕ} {h : ℕ → ℕ 
     same_s : (p : ℕ) → p < sp → s' p ≡ s p
     same_s p b = so p (omega arith)
 
-    seed-shut : (x : ℕ) → x < n → c' x ≡ 1 → o x ≡ false
+    seed_shut : (x : ℕ) → x < n → c' x ≡ 1 → o x ≡ false
         → ((p : ℕ) × (p < sp + 1) × (s' p ≡ x)) ⊎ ((i : ℕ) → i < d x → h x i ≡ true → (x ≡ t → i < j) → c' (f x i) ≡ 1)
-    seed-shut x b w u = elim (ℕ_discrete x y) [
+    seed_shut x b w u = elim (ℕ_discrete x y) [
       | yes q ↦ inl (sp, omega arith, sy ∙ sym q)
       | no q ↦ ⊎_elim (λ k. inl (k.0, omega arith, same_s k.0 k.1 ∙ k.2))
           (λ k. inr (λ i l m a. keeps (f x i) (g x i b l m) (k i l m a)))
@@ -64,7 +64,7 @@ module _ {n : ℕ} {d : ℕ → ℕ} {f : ℕ → ℕ → ℕ} {h : ℕ → ℕ 
       old = λ x b w. keeps x b (v.old x b w);
       from = λ x b w u. elim (ℕ_discrete x y) [ yes q ↦ rw q may | no q ↦ v.from x b (sym (co x b q) ∙ w) u ];
       part = λ i b l q. keeps (f t i) (looked i b l q) (v.part i b l q);
-      shut = seed-shut;
+      shut = seed_shut;
     }
 
 module _ {n : ℕ} {d : ℕ → ℕ} {f : ℕ → ℕ → ℕ} {h : ℕ → ℕ → Bool} {o r : ℕ → Bool} {c s : ℕ → ℕ} {sp : ℕ} (v : Spread n d f h o r c s sp n 0) where

@@ -9,9 +9,9 @@ use Rattle.graphs.specs.Walks.{Sources, sources-below, join, sound, complete}
 use Rattle.graph_walks.specs.Closed.{flag_edge, closed}
 
 module _ (l : List ℕ) (c n x y : ℕ) where
-  pub flag-from : flag_edge l c n x y ≡ true → x < n
+  pub flag_from : flag_edge l c n x y ≡ true → x < n
   unfolding flag_edge
-  flag-from h = ltb-true x n (and_left (ltb x n) _ h)
+  flag_from h = ltb-true x n (and_left (ltb x n) _ h)
 
   pub flag-to : flag_edge l c n x y ≡ true → y < n
   unfolding flag_edge

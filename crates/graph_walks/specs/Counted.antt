@@ -16,9 +16,9 @@ unfoldable pub without : (ℕ → ℕ → Bool) → ℕ → ℕ → ℕ → ℕ 
 without d s t x y = d x y && not (eqb x s && eqb y t)
 
 module _ (d : ℕ → ℕ → Bool) (end : ℕ → ℕ) (n : ℕ) where
-  pub counted-give : (i j : ℕ) → i < n → j < n → d i j ≡ true → (end i ≡ end j → ⊥) → counted d end n (end i) (end j) ≡ true
+  pub counted_give : (i j : ℕ) → i < n → j < n → d i j ≡ true → (end i ≡ end j → ⊥) → counted d end n (end i) (end j) ≡ true
   unfolding counted
-  counted-give i j a b h ne =
+  counted_give i j a b h ne =
       and_both _ _ (ap not (ne_eqb (end i) (end j) ne))
       (some_give (λ i'. eqb (end i') (end i) && some_below (λ j'. eqb (end j') (end j) && d i' j') n) n i a
       (and_both _ _ (eq-eqb (end i) (end i) refl) (some_give (λ j'. eqb (end j') (end j) && d i j') n j b (and_both _ _ (eq-eqb (end j) (end j) refl) h))))
@@ -27,7 +27,7 @@ module _ (d : ℕ → ℕ → Bool) (end : ℕ → ℕ) (n : ℕ) where
     pub source : ℕ
     pub target : ℕ
     pub source_in : source < n
-    pub target-in : target < n
+    pub target_in : target < n
     pub from : end source ≡ x
     pub to : end target ≡ y
     pub edge : d source target ≡ true
@@ -42,7 +42,7 @@ module _ (d : ℕ → ℕ → Bool) (end : ℕ → ℕ) (n : ℕ) where
         source = r.0;
         target = q.0;
         source_in = r.1;
-        target-in = q.1;
+        target_in = q.1;
         from = eqb-true _ _ (and_left (eqb (end r.0) x) _ r.2);
         to = eqb-true _ _ (and_left (eqb (end q.0) y) _ q.2);
         edge = and_right (eqb (end q.0) y) _ q.2;

@@ -8,7 +8,7 @@ use Rattle.std.proofs.Math.Dec.{eqb}
 use borrow.Author.Tests.{eqb-true, eqb-false, eq-eqb, ne_eqb, not-true}
 use Rattle.graphs.specs.Bools.{and_left, and_right, and_both}
 use Rattle.graph_walks.specs.Spread.{Offers}
-use Rattle.graph_walks.specs.Counted.{counted, without, counted-give, counted-take}
+use Rattle.graph_walks.specs.Counted.{counted, without, counted_give, counted-take}
 
 abbrev pub square : ℕ → ℕ → ℕ
 square n x = n * n
@@ -49,8 +49,8 @@ module _ (d : ℕ → ℕ → Bool) (end : ℕ → ℕ) (n : ℕ) where
     pub at_row : (i j : ℕ) → j < n → (i * n + j) / n ≡ i
     at_row i j b = div-eq_of_lt-le n (omega arith) (omega (arith, next_row i))
 
-    pub at-column : (i j : ℕ) → j < n → (i * n + j) % n ≡ j
-    at-column i j b = mul-add-mod_self_right i n j ∙ mod-eq_of_lt b
+    pub at_column : (i j : ℕ) → j < n → (i * n + j) % n ≡ j
+    at_column i j b = mul-add-mod_self_right i n j ∙ mod-eq_of_lt b
 
     pub inside : (i j : ℕ) → i < n → j < n → i * n + j < n * n
     inside i j a b = omega (arith, next_row i, mul-le-mul_right n (before a))
@@ -66,16 +66,16 @@ module _ (d : ℕ → ℕ → Bool) (end : ℕ → ℕ) (n : ℕ) where
           let p = and_left (eqb (end (k / n)) x && d (k / n) (k % n)) _ h in
           let q : end (k / n) ≡ x = eqb-true _ _ (and_left (eqb (end (k / n)) x) _ p) in
           let ne = eqb-false _ _ (not-true _ (and_right (eqb (end (k / n)) x && d (k / n) (k % n)) _ h)) in
-          subst (λ z. counted d end n z (end (k % n)) ≡ true) q (counted-give d end n (k / n) (k % n) (row k b) (column k b) (and_right (eqb (end (k / n)) x) _ p) (λ e. ne (sym e ∙ q)));
+          subst (λ z. counted d end n z (end (k % n)) ≡ true) q (counted_give d end n (k / n) (k % n) (row k b) (column k b) (and_right (eqb (end (k / n)) x) _ p) (λ e. ne (sym e ∙ q)));
       from = λ x y h. let r = counted-take d end n x y h in subst (λ z. z < n) r.from (within r.source r.source_in);
       find = λ x y h.
           let r = counted-take d end n x y h in
           let i = r.source in
           let j = r.target in
-          let c : (i * n + j) % n ≡ j = at-column i j r.target-in in
-          let w : (i * n + j) / n ≡ i = at_row i j r.target-in in (
+          let c : (i * n + j) % n ≡ j = at_column i j r.target_in in
+          let w : (i * n + j) / n ≡ i = at_row i j r.target_in in (
             i * n + j,
-            inside i j r.source_in r.target-in,
+            inside i j r.source_in r.target_in,
             and_both _ _ (and_both _ _ (eq-eqb _ _ (ap end w ∙ r.from)) (ap₂ d w c ∙ r.edge)) (ap not (ne_eqb _ _ (λ e. r.differ (sym e ∙ ap end c ∙ r.to)))),
             ap end c ∙ r.to,
           );
@@ -83,9 +83,9 @@ module _ (d : ℕ → ℕ → Bool) (end : ℕ → ℕ) (n : ℕ) where
 
 -- the same with one edge left out
 module _ {e : ℕ → ℕ → Bool} {n : ℕ} {c : ℕ → ℕ} {f : ℕ → ℕ → ℕ} {h : ℕ → ℕ → Bool} (o : Offers e n c f h) (s t : ℕ) where
-  pub offers-without : Offers (without e s t) n c f (passes h f s t)
+  pub offers_without : Offers (without e s t) n c f (passes h f s t)
   unfolding passes without
-  offers-without = record {
+  offers_without = record {
     ends = λ x k a b q. o.ends x k a b (and_left (h x k) _ q);
     step = λ x k a b q. and_both _ _ (o.step x k a b (and_left (h x k) _ q)) (and_right (h x k) _ q);
     from = λ x y q. o.from x y (and_left (e x y) _ q);

@@ -64,52 +64,52 @@ module _ (e : ℕ → ℕ → Bool) (ks : List ℕ) (f : (x y : ℕ) → e x y �
 
 -- each test is its statement about walks, over any list that holds the source of every edge
 module _ (e : ℕ → ℕ → Bool) (ks : List ℕ) (f : (x y : ℕ) → e x y ≡ true → has x ks ≡ true) where
-  pub via-walk : (x y : ℕ) → (via e ks x y ≡ true) ↔ Walk e x y
-  via-walk x y = (λ h. sound e ks x y h, λ w. complete e ks f x y w)
+  pub via_walk : (x y : ℕ) → (via e ks x y ≡ true) ↔ Walk e x y
+  via_walk x y = (λ h. sound e ks x y h, λ w. complete e ks f x y w)
 
-  pub cyclic-walk : (cyclic e ks ≡ true) ↔ ((x : ℕ) × Walk e x x)
+  pub cyclic_walk : (cyclic e ks ≡ true) ↔ ((x : ℕ) × Walk e x x)
   unfolding cyclic
-  cyclic-walk = (
+  cyclic_walk = (
     λ h. let r = any-take (λ x. via e ks x x) ks h in (r.0, sound e ks r.0 r.0 r.2),
     λ w. any_give (λ x. via e ks x x) ks w.0 (walk_source e ks f w.1) (complete e ks f w.0 w.0 w.1),
   )
 
-  pub acyclic-walk : (cyclic e ks ≡ false) ↔ ((x : ℕ) → Walk e x x → ⊥)
-  acyclic-walk = (λ h x w. true≢false (sym (cyclic-walk.1 (x, w)) ∙ h), λ g. fails _ (λ h. let r = cyclic-walk.0 h in g r.0 r.1))
+  pub acyclic_walk : (cyclic e ks ≡ false) ↔ ((x : ℕ) → Walk e x x → ⊥)
+  acyclic_walk = (λ h x w. true≢false (sym (cyclic_walk.1 (x, w)) ∙ h), λ g. fails _ (λ h. let r = cyclic_walk.0 h in g r.0 r.1))
 
-  pub only-walk : (x : ℕ) → (only e ks x ≡ true) ↔ (Walk e x x × ((y : ℕ) → Walk e y y → Walk e x y × Walk e y x))
+  pub only_walk : (x : ℕ) → (only e ks x ≡ true) ↔ (Walk e x x × ((y : ℕ) → Walk e y y → Walk e x y × Walk e y x))
   unfolding only
-  only-walk x = (there, back)
+  only_walk x = (there, back)
     where
       test : ℕ → Bool
       test y = not (via e ks y y) || (via e ks x y && via e ks y x)
 
       there : (via e ks x x && all test ks) ≡ true → Walk e x x × ((y : ℕ) → Walk e y y → Walk e x y × Walk e y x)
       there h = (
-        (via-walk x x).0 (and_left (via e ks x x) _ h),
+        (via_walk x x).0 (and_left (via e ks x x) _ h),
         λ y w.
             let a = all_take test ks (and_right (via e ks x x) _ h) y (walk_source e ks f w) in
-            let b = subst (λ t. (not t || (via e ks x y && via e ks y x)) ≡ true) ((via-walk y y).1 w) a in
-            ((via-walk x y).0 (and_left (via e ks x y) _ b), (via-walk y x).0 (and_right (via e ks x y) _ b)),
+            let b = subst (λ t. (not t || (via e ks x y && via e ks y x)) ≡ true) ((via_walk y y).1 w) a in
+            ((via_walk x y).0 (and_left (via e ks x y) _ b), (via_walk y x).0 (and_right (via e ks x y) _ b)),
       )
 
       back : Walk e x x × ((y : ℕ) → Walk e y y → Walk e x y × Walk e y x) → (via e ks x x && all test ks) ≡ true
-      back c = and_both (via e ks x x) _ ((via-walk x x).1 c.0) (all_give test ks (λ y m. pass y (via e ks y y) refl))
+      back c = and_both (via e ks x x) _ ((via_walk x x).1 c.0) (all_give test ks (λ y m. pass y (via e ks y y) refl))
         where
           pass : (y : ℕ) (t : Bool) → via e ks y y ≡ t → (not t || (via e ks x y && via e ks y x)) ≡ true
-          pass y true q = let r = c.1 y ((via-walk y y).0 q) in and_both (via e ks x y) _ ((via-walk x y).1 r.0) ((via-walk y x).1 r.1)
+          pass y true q = let r = c.1 y ((via_walk y y).0 q) in and_both (via e ks x y) _ ((via_walk x y).1 r.0) ((via_walk y x).1 r.1)
           pass y false q = refl
 
 -- the tests are the same over any two lists that hold the source of every edge
 module _ (e : ℕ → ℕ → Bool) (ks ls : List ℕ) (f : (x y : ℕ) → e x y ≡ true → has x ks ≡ true) (g : (x y : ℕ) → e x y ≡ true → has x ls ≡ true) where
   pub via-lists : (x y : ℕ) → via e ks x y ≡ via e ls x y
-  via-lists x y = alike _ _ (λ h. (via-walk e ls g x y).1 ((via-walk e ks f x y).0 h)) (λ h. (via-walk e ks f x y).1 ((via-walk e ls g x y).0 h))
+  via-lists x y = alike _ _ (λ h. (via_walk e ls g x y).1 ((via_walk e ks f x y).0 h)) (λ h. (via_walk e ks f x y).1 ((via_walk e ls g x y).0 h))
 
   pub cyclic-lists : cyclic e ks ≡ cyclic e ls
-  cyclic-lists = alike _ _ (λ h. (cyclic-walk e ls g).1 ((cyclic-walk e ks f).0 h)) (λ h. (cyclic-walk e ks f).1 ((cyclic-walk e ls g).0 h))
+  cyclic-lists = alike _ _ (λ h. (cyclic_walk e ls g).1 ((cyclic_walk e ks f).0 h)) (λ h. (cyclic_walk e ks f).1 ((cyclic_walk e ls g).0 h))
 
   pub only-lists : (x : ℕ) → only e ks x ≡ only e ls x
-  only-lists x = alike _ _ (λ h. (only-walk e ls g x).1 ((only-walk e ks f x).0 h)) (λ h. (only-walk e ks f x).1 ((only-walk e ls g x).0 h))
+  only-lists x = alike _ _ (λ h. (only_walk e ls g x).1 ((only_walk e ks f x).0 h)) (λ h. (only_walk e ks f x).1 ((only_walk e ls g x).0 h))
 
 -- without a cycle there is no cyclic component
 pub acyclic_none : (e : ℕ → ℕ → Bool) (n x : ℕ) → cyclic e (below n) ≡ false → x < n → only e (below n) x ≡ false

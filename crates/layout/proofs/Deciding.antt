@@ -27,8 +27,8 @@ module _ (P : ℕ → Type 0) {k : ℕ} where
       go true false d e = record { right = λ h. absurd (true≢false (sym h)); wrong = λ h f. e.wrong refl (f k (omega arith)) }
       go false t d e = record { right = λ h. absurd (true≢false (sym h)); wrong = λ h f. d.wrong refl (λ i z. f i (omega arith)) }
 
-  pub each-done : {n : ℕ} {r : Bool} → Decides (Each P k) r → k ≡ n → Decides (Each P n) r
-  each-done {n} {r} d q = subst (λ (j : ℕ). Decides (Each P j) r) q d
+  pub each_done : {n : ℕ} {r : Bool} → Decides (Each P k) r → k ≡ n → Decides (Each P n) r
+  each_done {n} {r} d q = subst (λ (j : ℕ). Decides (Each P j) r) q d
 
 -- no number is below 0
 pub none_below : (f : ℕ → ℕ) (k b : ℕ) → b ≡ 0 → Decides (Each (λ i. f i < b) k) (eqb k 0)

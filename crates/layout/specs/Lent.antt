@@ -10,8 +10,8 @@ pub mid_at : (a k : ℕ) (xs : List ℕ) (j : ℕ) → j < k → get_or (mid_of 
 mid_at a k xs j h = get_or-take k (drop a xs) j 0 h ∙ get_or-drop a xs j 0
 
 module _ (a e : ℕ) (xs ys : List ℕ) (h : a ≤ e) (g : e ≤ length xs) (l : length ys ≡ e - a) where
-  pub put-long : length (put_mid a (e - a) xs ys) ≡ length xs
-  put-long = same_len_mid a (e - a) xs ys (l ∙ sym (mid_len a e xs g))
+  pub put_long : length (put_mid a (e - a) xs ys) ≡ length xs
+  put_long = same_len_mid a (e - a) xs ys (l ∙ sym (mid_len a e xs g))
 
   pub put-inside : (j : ℕ) → j < e - a → get_or (put_mid a (e - a) xs ys) (a + j) 0 ≡ get_or ys j 0
   put-inside j z =
@@ -36,7 +36,7 @@ mid_part a e xs h g =
 -- what comes back is a patch
 pub put-patch : (a e : ℕ) (xs ys : List ℕ) → a ≤ e → e ≤ length xs → length ys ≡ e - a → put_mid a (e - a) xs ys ≡ patch a ys xs
 put-patch a e xs ys h g l =
-    is_patch a ys xs (put_mid a (e - a) xs ys) (put-long a e xs ys h g l) (λ i b z. put-inside a e xs ys h g l i (omega arith)) (λ k b z. go k z (dec_lt k a))
+    is_patch a ys xs (put_mid a (e - a) xs ys) (put_long a e xs ys h g l) (λ i b z. put-inside a e xs ys h g l i (omega arith)) (λ k b z. go k z (dec_lt k a))
   where
     go : (k : ℕ) → (a ≤ k → a + length ys ≤ k) → Dec (k < a) → get_or (put_mid a (e - a) xs ys) k 0 ≡ get_or xs k 0
     go k z (yes y) = put-before a e xs ys h g l k y

@@ -35,13 +35,13 @@ module _ (z : Sizes) (a : List ℕ) where
   unfolding head_fault
   head_first h = rw (lt-ltb _ _ h)
 
-  pub head-second : cell a (head z 0) ≤ cell a (head z 1) → z.chunks < cell a (head z 1) → true ≡ head_fault z a
+  pub head_second : cell a (head z 0) ≤ cell a (head z 1) → z.chunks < cell a (head z 1) → true ≡ head_fault z a
   unfolding head_fault
-  head-second p h = rw (le-ltb _ _ p, lt-ltb _ _ h)
+  head_second p h = rw (le-ltb _ _ p, lt-ltb _ _ h)
 
-  pub head-third : cell a (head z 0) ≤ cell a (head z 1) → cell a (head z 1) ≤ z.chunks → z.chunks + cell a (head z 1) < cell a (head z 3) → true ≡ head_fault z a
+  pub head_third : cell a (head z 0) ≤ cell a (head z 1) → cell a (head z 1) ≤ z.chunks → z.chunks + cell a (head z 1) < cell a (head z 3) → true ≡ head_fault z a
   unfolding head_fault
-  head-third p q h = rw (le-ltb _ _ p, le-ltb _ _ q, lt-ltb _ _ h)
+  head_third p q h = rw (le-ltb _ _ p, le-ltb _ _ q, lt-ltb _ _ h)
 
   pub head-last : {n : ℕ} → cell a (head z 0) ≤ cell a (head z 1) → cell a (head z 1) ≤ z.chunks → cell a (head z 3) ≤ z.chunks + cell a (head z 1) → n ≡ cell a (head z 4) → ltb z.entries n ≡ head_fault z a
   unfolding head_fault
@@ -76,34 +76,34 @@ module _ (z : Sizes) (a : List ℕ) where
   abbrev Flags : Bool
   Flags = flags_fault a z.chunks (cell a (head z 1))
 
-  pub odd-head : head_fault z a ≡ true → true ≡ inconsistent z a
+  pub odd_head : head_fault z a ≡ true → true ≡ inconsistent z a
   unfolding inconsistent
-  odd-head h = rw h
+  odd_head h = rw h
 
-  pub odd-flags : {n : ℕ} {r : Bool} → head_fault z a ≡ false → n ≡ cell a (head z 1) → r ≡ flags_fault a z.chunks n → r ≡ true → true ≡ inconsistent z a
+  pub odd_flags : {n : ℕ} {r : Bool} → head_fault z a ≡ false → n ≡ cell a (head z 1) → r ≡ flags_fault a z.chunks n → r ≡ true → true ≡ inconsistent z a
   unfolding inconsistent
-  odd-flags p e q h = let k : Flags ≡ true = rw (← e) (sym q ∙ h) in rw (p, k)
+  odd_flags p e q h = let k : Flags ≡ true = rw (← e) (sym q ∙ h) in rw (p, k)
 
-  pub flags-now : {n : ℕ} {r : Bool} → n ≡ cell a (head z 1) → r ≡ flags_fault a z.chunks n → r ≡ false → Flags ≡ false
-  flags-now e q h = rw (← e) (sym q ∙ h)
+  pub flags_now : {n : ℕ} {r : Bool} → n ≡ cell a (head z 1) → r ≡ flags_fault a z.chunks n → r ≡ false → Flags ≡ false
+  flags_now e q h = rw (← e) (sym q ∙ h)
 
   pub odd_index : head_fault z a ≡ false → Flags ≡ false → 0 < index_faults z a → true ≡ inconsistent z a
   unfolding inconsistent
   odd_index p q h = rw (p, q, lt-ltb 0 (index_faults z a) h)
 
-  pub odd-merges : head_fault z a ≡ false → Flags ≡ false → index_faults z a ≤ 0 → merges_fault z a ≡ true → true ≡ inconsistent z a
+  pub odd_merges : head_fault z a ≡ false → Flags ≡ false → index_faults z a ≤ 0 → merges_fault z a ≡ true → true ≡ inconsistent z a
   unfolding inconsistent
-  odd-merges p q h m = rw (p, q, le-ltb 0 (index_faults z a) h, m)
+  odd_merges p q h m = rw (p, q, le-ltb 0 (index_faults z a) h, m)
 
-  pub odd-range : {n : ℕ} {r : Bool} → head_fault z a ≡ false → Flags ≡ false → index_faults z a ≤ 0 → merges_fault z a ≡ false → n ≡ cell a (head z 3)
+  pub odd_range : {n : ℕ} {r : Bool} → head_fault z a ≡ false → Flags ≡ false → index_faults z a ≤ 0 → merges_fault z a ≡ false → n ≡ cell a (head z 3)
       → r ≡ some_below (out_of_range z a) n → r ≡ true → true ≡ inconsistent z a
   unfolding inconsistent sets_fault
-  odd-range p q h m e f k = let v : some_below (out_of_range z a) (cell a (head z 3)) ≡ true = rw (← e) (sym f ∙ k) in rw (p, q, le-ltb 0 (index_faults z a) h, m, v)
+  odd_range p q h m e f k = let v : some_below (out_of_range z a) (cell a (head z 3)) ≡ true = rw (← e) (sym f ∙ k) in rw (p, q, le-ltb 0 (index_faults z a) h, m, v)
 
-  pub odd-twice : {n : ℕ} {r s : Bool} → head_fault z a ≡ false → Flags ≡ false → index_faults z a ≤ 0 → merges_fault z a ≡ false → n ≡ cell a (head z 3)
+  pub odd_twice : {n : ℕ} {r s : Bool} → head_fault z a ≡ false → Flags ≡ false → index_faults z a ≤ 0 → merges_fault z a ≡ false → n ≡ cell a (head z 3)
       → r ≡ some_below (out_of_range z a) n → r ≡ false → s ≡ twice (λ i. lanes a (set_place z i) 1) n → s ≡ inconsistent z a
   unfolding inconsistent sets_fault
-  odd-twice p q h m e f k g =
+  odd_twice p q h m e f k g =
       let v : some_below (out_of_range z a) (cell a (head z 3)) ≡ false = rw (← e) (sym f ∙ k) in
       g ∙ ap (twice (λ i. lanes a (set_place z i) 1)) e ∙ (rw (p, q, le-ltb 0 (index_faults z a) h, m, v))
 
@@ -113,9 +113,9 @@ module _ (z : Sizes) (a : List ℕ) where
   unfolding standing first_fitting
   stands-over m l e h = rw (← e, h)
 
-  pub stands-many : (m l : Bool) {r : Bool} → r ≡ over z → r ≡ false → m ≡ true → 14 ≡ standing z m l a
+  pub stands_many : (m l : Bool) {r : Bool} → r ≡ over z → r ≡ false → m ≡ true → 14 ≡ standing z m l a
   unfolding standing first_fitting
-  stands-many m l e h k = rw (← e, h, k)
+  stands_many m l e h k = rw (← e, h, k)
 
   pub stands-lists : (m l : Bool) {r : Bool} → r ≡ over z → r ≡ false → m ≡ false → l ≡ true → 15 ≡ standing z m l a
   unfolding standing first_fitting
@@ -125,9 +125,9 @@ module _ (z : Sizes) (a : List ℕ) where
   unfolding standing first_fitting
   stands-short m l e h k i f g = rw (← e, h, k, i, ← f, g)
 
-  pub stands-odd : (m l : Bool) {r s t : Bool} → r ≡ over z → r ≡ false → m ≡ false → l ≡ false → s ≡ short z a → s ≡ false → t ≡ inconsistent z a → t ≡ true → 21 ≡ standing z m l a
+  pub stands_odd : (m l : Bool) {r s t : Bool} → r ≡ over z → r ≡ false → m ≡ false → l ≡ false → s ≡ short z a → s ≡ false → t ≡ inconsistent z a → t ≡ true → 21 ≡ standing z m l a
   unfolding standing first_fitting
-  stands-odd m l e h k i f g p q = rw (← e, h, k, i, ← f, g, ← p, q)
+  stands_odd m l e h k i f g p q = rw (← e, h, k, i, ← f, g, ← p, q)
 
   pub stands : (m l : Bool) {r s t : Bool} → r ≡ over z → r ≡ false → m ≡ false → l ≡ false → s ≡ short z a → s ≡ false → t ≡ inconsistent z a → t ≡ false → 0 ≡ standing z m l a
   unfolding standing first_fitting

@@ -19,7 +19,7 @@ use Rattle.merge_area.specs.Layout.{cell, head, need, into}
 use Rattle.merge_area.specs.Read.{read, needs_in, mode_in, into_in}
 use Rattle.merge_area.specs.Consistent.{faults, lane_faults, merges_fault}
 use Rattle.merge_area.specs.Within.{Headed}
-use Rattle.merge_area.specs.Merged.{Range, Far, Inside, Led, Doubled, CanFollow, into-at, into-off, into-past, lane-range, first_far, far_on, far_less}
+use Rattle.merge_area.specs.Merged.{Range, Far, Inside, Led, Doubled, CanFollow, into-at, into-off, into_past, lane_range, first_far, far_on, far_less}
 
 -- one step is taken from the first k chunks
 pub record Stepped (f : ℕ → ℕ) (n k : ℕ) (l₀ l : List ℕ) : Type 0 where
@@ -65,11 +65,11 @@ pub record Doubling (n k : ℕ) (l₀ l : List ℕ) : Type 0 where
   pub further : (f : ℕ → ℕ) (m : ℕ) → Led f n m l₀ → (x : ℕ) → x < k → Far f (m + m) x (get_or l x 0)
 
 module _ (n : ℕ) where
-  pub doubling-none : (l : List ℕ) → Inside n l → Doubling n 0 l l
-  doubling-none l h = record { same = refl; inside = h; far = λ f m led. led.far; further = λ f m led x b. absurd (omega arith) }
+  pub doubling_none : (l : List ℕ) → Inside n l → Doubling n 0 l l
+  doubling_none l h = record { same = refl; inside = h; far = λ f m led. led.far; further = λ f m led x b. absurd (omega arith) }
 
-  pub doubling-more : {l₀ l : List ℕ} (k y : ℕ) {v : ℕ} → Doubling n k l₀ l → k < n → y ≡ get_or l k 0 → v ≡ get_or l y 0 → Doubling n (k + 1) l₀ (set l k v)
-  doubling-more {l₀} {l} k y {v} s b e q =
+  pub doubling_more : {l₀ l : List ℕ} (k y : ℕ) {v : ℕ} → Doubling n k l₀ l → k < n → y ≡ get_or l k 0 → v ≡ get_or l y 0 → Doubling n (k + 1) l₀ (set l k v)
+  doubling_more {l₀} {l} k y {v} s b e q =
       record {
         same = simp length-set s.same;
         inside = record {
@@ -95,8 +95,8 @@ module _ (n : ℕ) where
       on : (f : ℕ → ℕ) (m : ℕ) → Led f n m l₀ → Far f (m + m) k v
       on f m led = subst (Far f (m + m) k) (ap (λ i. get_or l i 0) (sym e) ∙ sym q) (far_on (s.far f m led k b) (s.far f m led (get_or l k 0) (s.inside.each k b)))
 
-  pub doubling-done : {l₀ l : List ℕ} {k : ℕ} → Doubling n k l₀ l → k ≡ n → Doubled n l₀ l
-  doubling-done s e = record { inside = s.inside; led = λ f m led. record { inside = s.inside; far = λ x b. s.further f m led x (omega arith) } }
+  pub doubling_done : {l₀ l : List ℕ} {k : ℕ} → Doubling n k l₀ l → k ≡ n → Doubled n l₀ l
+  doubling_done s e = record { inside = s.inside; led = λ f m led. record { inside = s.inside; far = λ x b. s.further f m led x (omega arith) } }
 
 -- after r rounds
 pub record Rounds (n r : ℕ) (l₀ l : List ℕ) : Type 0 where
@@ -105,11 +105,11 @@ pub record Rounds (n r : ℕ) (l₀ l : List ℕ) : Type 0 where
   pub led : (f : ℕ → ℕ) → Led f n 1 l₀ → Led f n (2 ^ r) l
 
 module _ (n : ℕ) where
-  pub rounds-none : (l : List ℕ) → Inside n l → Rounds n 0 l l
-  rounds-none l h = record { same = refl; inside = h; led = λ f a. a }
+  pub rounds_none : (l : List ℕ) → Inside n l → Rounds n 0 l l
+  rounds_none l h = record { same = refl; inside = h; led = λ f a. a }
 
-  pub rounds-more : {l₀ l l' : List ℕ} (r : ℕ) → Rounds n r l₀ l → Doubled n l l' → length l' ≡ length l → Rounds n (r + 1) l₀ l'
-  rounds-more {l₀} {l} {l'} r s d q =
+  pub rounds_more : {l₀ l l' : List ℕ} (r : ℕ) → Rounds n r l₀ l → Doubled n l l' → length l' ≡ length l → Rounds n (r + 1) l₀ l'
+  rounds_more {l₀} {l} {l'} r s d q =
       record {
         same = q ∙ s.same;
         inside = d.inside;
@@ -119,8 +119,8 @@ module _ (n : ℕ) where
       e : 2 ^ r + 2 ^ r ≡ 2 ^ (r + 1)
       e = sym (omega (arith, pow-suc 2 r, ap (λ k. 2 ^ k) (native.Mathlib.Numerals.add-one r)))
 
-  pub rounds-done : (f : ℕ → ℕ) {l₀ l : List ℕ} (r : ℕ) → Rounds n r l₀ l → r ≡ 10 → Led f n 1 l₀ → Led f n 1024 l
-  rounds-done f {l₀} {l} r s e a = subst (λ k. Led f n (2 ^ k) l) e (s.led f a)
+  pub rounds_done : (f : ℕ → ℕ) {l₀ l : List ℕ} (r : ℕ) → Rounds n r l₀ l → r ≡ 10 → Led f n 1 l₀ → Led f n 1024 l
+  rounds_done f {l₀} {l} r s e a = subst (λ k. Led f n (2 ^ k) l) e (s.led f a)
 
 -- the number of a merge, at its place
 pub left_at : {z : Sizes} {a : List ℕ} {n x p : ℕ} → CanFollow z a n → x < n → p ≡ into z x → get_or a p 0 ≡ into_in z a x
@@ -128,11 +128,11 @@ left_at {z} {a} {n} {x} can b e = ap (cell a) e ∙ sym (into-at z a x can.on (o
 
 -- a chunk that was merged away, and one that waits
 module _ (z : Sizes) (a : List ℕ) (x : ℕ) where
-  pub not-gone-off : mode_in z a ≡ false → false ≡ gone (read z a) x
-  not-gone-off m = rw (into-off z a m x)
+  pub not_gone-off : mode_in z a ≡ false → false ≡ gone (read z a) x
+  not_gone-off m = rw (into-off z a m x)
 
-  pub not-gone-past : z.chunks ≤ x → false ≡ gone (read z a) x
-  not-gone-past h = rw (into-past z a x h)
+  pub not_gone_past : z.chunks ≤ x → false ≡ gone (read z a) x
+  not_gone_past h = rw (into_past z a x h)
 
   pub gone_at : {p : ℕ} → mode_in z a ≡ true → x < z.chunks → p ≡ into z x → not (eqb (cell a p) None) ≡ gone (read z a) x
   gone_at m b e = ap (λ v. not (eqb v None)) (ap (cell a) e ∙ sym (into-at z a x m b))
@@ -147,32 +147,32 @@ module _ (z : Sizes) (a : List ℕ) (x : ℕ) where
 
 -- the tests of `merges_fault`, in order
 module _ (z : Sizes) (a : List ℕ) where
-  pub lane-sum : {p q m r s : ℕ} → m ≡ cell a (head z 1) → p ≡ into z 0 → q ≡ into z m → r ≡ faults a p m m true → s ≡ faults a q (z.chunks - m) 0 true → r + s ≡ lane_faults z a
+  pub lane_sum : {p q m r s : ℕ} → m ≡ cell a (head z 1) → p ≡ into z 0 → q ≡ into z m → r ≡ faults a p m m true → s ≡ faults a q (z.chunks - m) 0 true → r + s ≡ lane_faults z a
   unfolding lane_faults
-  lane-sum e f g h i = rw (h, i, f, g, e)
+  lane_sum e f g h i = rw (h, i, f, g, e)
 
-  pub mode-is : {v : ℕ} → v ≡ cell a (head z 5) → not (eqb v 0) ≡ mode_in z a
+  pub mode_is : {v : ℕ} → v ≡ cell a (head z 5) → not (eqb v 0) ≡ mode_in z a
   unfolding mode_in
-  mode-is e = rw e
+  mode_is e = rw e
 
-  pub no-merges : mode_in z a ≡ false → false ≡ merges_fault z a
+  pub no_merges : mode_in z a ≡ false → false ≡ merges_fault z a
   unfolding merges_fault
-  no-merges h = rw h
+  no_merges h = rw h
 
   pub odd_lane : mode_in z a ≡ true → 0 < lane_faults z a → true ≡ merges_fault z a
   unfolding merges_fault
   odd_lane h k = rw (h, lt-ltb 0 (lane_faults z a) k)
 
-  pub can-follow : {n : ℕ} → Headed z a → mode_in z a ≡ true → lane_faults z a ≤ 0 → n ≡ cell a (head z 1) → CanFollow z a n
-  can-follow {n} h m k e =
+  pub can_follow : {n : ℕ} → Headed z a → mode_in z a ≡ true → lane_faults z a ≤ 0 → n ≡ cell a (head z 1) → CanFollow z a n
+  can_follow {n} h m k e =
       record {
         within = h.within;
         long = h.long;
         few = omega (arith, h.fits, e);
         on = m;
-        range = rw e (lane-range z a m h.fits (omega arith));
+        range = rw e (lane_range z a m h.fits (omega arith));
       }
 
-  pub odd-ring : {n : ℕ} {r : Bool} → mode_in z a ≡ true → lane_faults z a ≤ 0 → n ≡ cell a (head z 1) → r ≡ cyclic (merged_into (into_in z a)) (below n) → r ≡ merges_fault z a
+  pub odd_ring : {n : ℕ} {r : Bool} → mode_in z a ≡ true → lane_faults z a ≤ 0 → n ≡ cell a (head z 1) → r ≡ cyclic (merged_into (into_in z a)) (below n) → r ≡ merges_fault z a
   unfolding merges_fault
-  odd-ring h k e q = q ∙ ap (λ n. cyclic (merged_into (into_in z a)) (below n)) e ∙ (rw (h, le-ltb 0 (lane_faults z a) k))
+  odd_ring h k e q = q ∙ ap (λ n. cyclic (merged_into (into_in z a)) (below n)) e ∙ (rw (h, le-ltb 0 (lane_faults z a) k))

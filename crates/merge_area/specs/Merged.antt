@@ -10,11 +10,11 @@ use borrow.Author.Tests.{eqb-false, ne_eqb, lt-ltb, le-ltb, not-true}
 use Rattle.graphs.specs.Bools.{alike, fails}
 use Rattle.graphs.specs.Lists.{some_below, below, some_give, some_take}
 use Rattle.graphs.specs.Walk.{Walk, one, more, cyclic}
-use Rattle.graphs.specs.Walks.{cyclic-walk, acyclic-walk, sources-below, walk_from}
+use Rattle.graphs.specs.Walks.{cyclic_walk, acyclic_walk, sources-below, walk_from}
 use Rattle.merge_state.specs.declared.Sizes.{Sizes}
 use Rattle.merge_state.specs.State.{None}
 use Rattle.merge_state.specs.Merges.{ending, merged_into}
-use Rattle.merge_state.specs.Ends.{step-take, further, settled, ended, ring-goes-on}
+use Rattle.merge_state.specs.Ends.{step-take, further, settled, ended, ring_goes_on}
 use Rattle.merge_area.specs.Layout.{room, cell, head, into}
 use Rattle.merge_area.specs.Read.{mode_in, into_in}
 use Rattle.merge_area.specs.Within.{Within}
@@ -64,19 +64,19 @@ module _ (z : Sizes) (a : List ℕ) where
   unfolding into_in
   into-off m x = rw m
 
-  pub into-past : (x : ℕ) → z.chunks ≤ x → into_in z a x ≡ None
+  pub into_past : (x : ℕ) → z.chunks ≤ x → into_in z a x ≡ None
   unfolding into_in
-  into-past x b = go (mode_in z a)
+  into_past x b = go (mode_in z a)
     where
       go : (m : Bool) → cond (m && ltb x z.chunks) (cell a (into z x)) None ≡ None
       go true = rw (le-ltb x z.chunks b)
       go false = refl
 
   -- no fault of the lane: all merges are in range
-  pub lane-range : mode_in z a ≡ true → cell a (head z 1) ≤ z.chunks → lane_faults z a ≡ 0 → Range (into_in z a) (cell a (head z 1))
+  pub lane_range : mode_in z a ≡ true → cell a (head z 1) ≤ z.chunks → lane_faults z a ≡ 0 → Range (into_in z a) (cell a (head z 1))
   unfolding lane_faults
-  lane-range m fits h x q = elim (dec_lt x z.chunks) [
-    | no b ↦ absurd (q (into-past x (omega arith)))
+  lane_range m fits h x q = elim (dec_lt x z.chunks) [
+    | no b ↦ absurd (q (into_past x (omega arith)))
     | yes b ↦
         let made = cell a (head z 1) in
         let e = into-at x m b in
@@ -113,8 +113,8 @@ far_less h a = record { steps = a.steps; enough = omega (arith, a.enough); is = 
 
 -- no closed walk of merges, and as many steps as chunks: that is the end
 module _ (f : ℕ → ℕ) (n : ℕ) (range : Range f n) {l : List ℕ} {m : ℕ} (led : Led f n m l) (enough : n ≤ m) where
-  pub led-end : ((x : ℕ) → Walk (merged_into f) x x → ⊥) → (x : ℕ) → x < n → get_or l x 0 ≡ ending f n x
-  led-end none x b =
+  pub led_end : ((x : ℕ) → Walk (merged_into f) x x → ⊥) → (x : ℕ) → x < n → get_or l x 0 ≡ ending f n x
+  led_end none x b =
       let v = led.far x b in
       let e : v.steps ≡ n + (v.steps - n) = omega (arith, v.enough) in
       v.is ∙ ap (λ k. ending f k x) e ∙ settled f n (v.steps - n) x (ended f n range none x)
@@ -126,11 +126,11 @@ module _ (f : ℕ → ℕ) (n : ℕ) (range : Range f n) {l : List ℕ} {m : ℕ
   sources : (x y : ℕ) → merged_into f x y ≡ true → x < n
   sources x y h = (range x (step-take f x y h).0).0
 
-  pub ring-is : some_below left n ≡ cyclic (merged_into f) (below n)
-  ring-is = alike _ _ there back
+  pub ring_is : some_below left n ≡ cyclic (merged_into f) (below n)
+  ring_is = alike _ _ there back
     where
       none : cyclic (merged_into f) (below n) ≡ false → (x : ℕ) → Walk (merged_into f) x x → ⊥
-      none h = (acyclic-walk (merged_into f) (below n) (sources-below sources)).0 h
+      none h = (acyclic_walk (merged_into f) (below n) (sources-below sources)).0 h
 
       there : some_below left n ≡ true → cyclic (merged_into f) (below n) ≡ true
       there h = go (cyclic (merged_into f) (below n)) refl
@@ -139,12 +139,12 @@ module _ (f : ℕ → ℕ) (n : ℕ) (range : Range f n) {l : List ℕ} {m : ℕ
           go true q = refl
           go false q =
               let r = some_take left n h in
-              absurd (eqb-false _ None (not-true _ r.2) (ap f (led-end (none q) r.0 r.1) ∙ ended f n range (none q) r.0))
+              absurd (eqb-false _ None (not-true _ r.2) (ap f (led_end (none q) r.0 r.1) ∙ ended f n range (none q) r.0))
 
       back : cyclic (merged_into f) (below n) ≡ true → some_below left n ≡ true
       back h =
-          let w = (cyclic-walk (merged_into f) (below n) (sources-below sources)).0 h in
+          let w = (cyclic_walk (merged_into f) (below n) (sources-below sources)).0 h in
           let x = w.0 in
           let b = walk_from sources w.1 in
           let v = led.far x b in
-          some_give left n x b (ap not (ne_eqb _ None (λ q. ring-goes-on f v.steps x w.1 (ap f (sym v.is) ∙ q))))
+          some_give left n x b (ap not (ne_eqb _ None (λ q. ring_goes_on f v.steps x w.1 (ap f (sym v.is) ∙ q))))

@@ -61,8 +61,8 @@ first_below p (suc n) = let r = first_below p n in cond (eqb r None) (cond (p n)
 
 -- of chunks by their roles, those below n named by a bit
 module _ (role : ℕ → ℕ) (n : ℕ) where
-  unfoldable pub some-role : ℕ → Bool
-  some-role v = some_below (λ b. eqb (role b) v) n
+  unfoldable pub some_role : ℕ → Bool
+  some_role v = some_below (λ b. eqb (role b) v) n
 
   -- o's entry module imports t's, or is the same, as in the Rust
   unfoldable pub imports : List ℕ → Lists → ℕ → ℕ → Bool
@@ -73,8 +73,8 @@ module _ (role : ℕ → ℕ) (n : ℕ) where
   wins entries static v t = eqb (role t) v && not (some_below (λ o. eqb (role o) v && not (imports entries static t o)) n)
 
   -- "the first" of them, or None
-  unfoldable pub first-target : List ℕ → Lists → ℕ → ℕ
-  first-target entries static v = first_below (wins entries static v) n
+  unfoldable pub first_target : List ℕ → Lists → ℕ → ℕ
+  first_target entries static v = first_below (wins entries static v) n
 
   -- "the Rust's guards on reached entries": t doesn't reach every dynamic entry that is named
   unfoldable pub unreached : Lists → ℕ → Bool
@@ -85,12 +85,12 @@ module _ (role : ℕ → ℕ) (n : ℕ) where
   leaks reached effects k t = flag effects t && some_below (λ o. not (eqb o t) && some_of reached o (λ d. eqb (role d) 1)) k
 
   -- m is the entry module of a dynamic entry that is named
-  unfoldable pub dynamic-module : List ℕ → ℕ → Bool
-  dynamic-module entries m = some_below (λ d. eqb (role d) 1 && eqb m (get_or entries d 0)) n
+  unfoldable pub dynamic_module : List ℕ → ℕ → Bool
+  dynamic_module entries m = some_below (λ d. eqb (role d) 1 && eqb m (get_or entries d 0)) n
 
   -- "exports": m isn't t's entry module but another dynamic entry's, and has some
   unfoldable pub pollutes : List ℕ → List ℕ → ℕ → ℕ → Bool
-  pollutes entries exports t m = not (eqb m (get_or entries t 0)) && (flag exports m && dynamic-module entries m)
+  pollutes entries exports t m = not (eqb m (get_or entries t 0)) && (flag exports m && dynamic_module entries m)
 
   unfoldable pub polluted : List ℕ → List ℕ → List ℕ → ℕ → Bool
   polluted entries exports candidate t = some_in candidate (pollutes entries exports t)
@@ -111,16 +111,16 @@ guarded bars t = cond (eqb t None || bars t) None t
 unfoldable pub user_target : (ℕ → ℕ) → ℕ → List ℕ → Lists → Lists → Lists → Lists → List ℕ → List ℕ → ℕ
 user_target role k entries modules static dynamic reached effects candidate =
     guarded (λ t. unreached role (bits k) reached t || (leaks role (bits k) reached effects k t || strayed modules dynamic candidate t))
-    (first-target role (bits k) entries static 2)
+    (first_target role (bits k) entries static 2)
 
 unfoldable pub dynamic_target : (ℕ → ℕ) → ℕ → List ℕ → Lists → List ℕ → List ℕ → ℕ
-dynamic_target role k entries static exports candidate = guarded (polluted role (bits k) entries exports candidate) (first-target role (bits k) entries static 1)
+dynamic_target role k entries static exports candidate = guarded (polluted role (bits k) entries exports candidate) (first_target role (bits k) entries static 1)
 
 -- "a common chunk among them means no target"; "Among the user entries, or the dynamic ones where there is no user entry"
 unfoldable pub chosen : (ℕ → ℕ) → ℕ → Lent → ℕ
 chosen role k l =
-    cond (some-role role (bits k) 3) None
-    (cond (some-role role (bits k) 2)
+    cond (some_role role (bits k) 3) None
+    (cond (some_role role (bits k) 2)
     (user_target role k l.entries l.modules l.static l.dynamic l.reached l.effects l.candidate)
     (dynamic_target role k l.entries l.static l.exports l.candidate))
 

@@ -5,7 +5,7 @@ use Rattle.std.proofs.Math.Path.{sym, ap}
 use Rattle.graphs.specs.Bools.{and_left, Same, it, other, same?}
 use Rattle.merge_state.specs.State.{None}
 use Rattle.merge_state.specs.Table.{Answer, refused, chunk, nothing}
-use Rattle.merge_choice.specs.Choice.{Lists, Lent, lists, bits, role, first_below, some-role, wins, first-target, unreached, leaks, strayed, polluted, guarded, user_target, dynamic_target, chosen, choice, built_in}
+use Rattle.merge_choice.specs.Choice.{Lists, Lent, lists, bits, role, first_below, some_role, wins, first_target, unreached, leaks, strayed, polluted, guarded, user_target, dynamic_target, chosen, choice, built_in}
 use Rattle.merge_choice.specs.Find.{row23, told, find}
 use Rattle.merge_choice.specs.Spans.{Spans}
 use Rattle.merge_choice.specs.Named.{reads, Named, CanSetRoles, named-all, bits_le}
@@ -36,8 +36,8 @@ pub record CanGuard (k m : ℕ) (mstarts modules dstarts dynamics rstarts reache
   pub sided : length effects ≡ k
 
 module _ {k m v : ℕ} {roles entries istarts importers candidate : List ℕ} (r : Ready k m v roles entries istarts importers candidate) where
-  pub can-first : {n : ℕ} → n ≡ bits k → CanFirst n roles v entries istarts importers 4096
-  can-first {n} e =
+  pub can_first : {n : ℕ} → n ≡ bits k → CanFirst n roles v entries istarts importers 4096
+  can_first {n} e =
       let w = bits_le k in
       record {
         few = omega (arith, e);
@@ -50,8 +50,8 @@ module _ {k m v : ℕ} {roles entries istarts importers candidate : List ℕ} (r
       }
 
   module _ {mstarts modules dstarts dynamics rstarts reached effects : List ℕ} (g : CanGuard k m mstarts modules dstarts dynamics rstarts reached effects) where
-    pub can-reach : {n t : ℕ} → n ≡ bits k → t < k → CanReach n roles rstarts reached t
-    can-reach {n} {t} e b =
+    pub can_reach : {n t : ℕ} → n ≡ bits k → t < k → CanReach n roles rstarts reached t
+    can_reach {n} {t} e b =
         let w = bits_le k in
         record {
           few = omega (arith, e);
@@ -60,11 +60,11 @@ module _ {k m v : ℕ} {roles entries istarts importers candidate : List ℕ} (r
           below = λ i h. omega (arith, g.reaches.below i h, r.few_chunks);
         }
 
-    pub can-leak : CanLeakFrom k roles rstarts reached
-    can-leak = record { spans = g.reaches.each; below = λ i h. omega (arith, g.reaches.below i h, r.few_chunks, r.long) }
+    pub can_leak : CanLeakFrom k roles rstarts reached
+    can_leak = record { spans = g.reaches.each; below = λ i h. omega (arith, g.reaches.below i h, r.few_chunks, r.long) }
 
-    pub can-stray : {t : ℕ} → t < k → CanStray mstarts modules dstarts dynamics candidate t
-    can-stray {t} b = record {
+    pub can_stray : {t : ℕ} → t < k → CanStray mstarts modules dstarts dynamics candidate t
+    can_stray {t} b = record {
       home = g.homes.each t b;
       inside = λ i h. omega (arith, g.homes.below i h, r.few_modules);
       spans = λ i h. g.dynamic.each (get_or candidate i 0) (r.own i h);
@@ -101,8 +101,8 @@ first_in p (suc n) h = go (same? (first_below p n) None) (first_in p n) h
     go (other e) f h = let r = f e in rw (ne_eqb (first_below p n) None e) (omega (arith, r.0), r.1)
 
 -- so is an entry that wins
-pub found_below : (roles entries istarts importers : List ℕ) (k v : ℕ) {n t : ℕ} → n ≡ bits k → t ≡ first-target (reads roles) n entries (lists istarts importers) v → (t ≡ None → ⊥) → t < k
-unfolding first-target
+pub found_below : (roles entries istarts importers : List ℕ) (k v : ℕ) {n t : ℕ} → n ≡ bits k → t ≡ first_target (reads roles) n entries (lists istarts importers) v → (t ≡ None → ⊥) → t < k
+unfolding first_target
 found_below roles entries istarts importers k v {n} {t} e q h = omega (arith, (first_in (wins (reads roles) n entries (lists istarts importers) v) n (λ z. h (q ∙ z))).0, q, (bits_le k).1, e)
 
 -- the guards in order
@@ -121,47 +121,47 @@ module _ (bars : ℕ → Bool) (t : ℕ) where
 
 -- the target among user entries, t being the first that wins
 module _ (roles : List ℕ) (k : ℕ) (entries : List ℕ) (modules static dynamic reached : Lists) (effects candidate : List ℕ) {n t : ℕ} (e : n ≡ bits k)
-    (f : t ≡ first-target (reads roles) n entries static 2) where
+    (f : t ≡ first_target (reads roles) n entries static 2) where
   abbrev bars : ℕ → ℕ → Bool
   bars j t = unreached (reads roles) j reached t || (leaks (reads roles) j reached effects k t || strayed modules dynamic candidate t)
 
-  user-is : guarded (bars n) t ≡ user_target (reads roles) k entries modules static dynamic reached effects candidate
+  user_is : guarded (bars n) t ≡ user_target (reads roles) k entries modules static dynamic reached effects candidate
   unfolding user_target
-  user-is = ap (guarded (bars n)) f ∙ ap (λ j. guarded (bars j) (first-target (reads roles) j entries static 2)) e
+  user_is = ap (guarded (bars n)) f ∙ ap (λ j. guarded (bars j) (first_target (reads roles) j entries static 2)) e
 
-  pub user-none : t ≡ None → None ≡ user_target (reads roles) k entries modules static dynamic reached effects candidate
-  user-none h = none_found (bars n) t h ∙ user-is
+  pub user_none : t ≡ None → None ≡ user_target (reads roles) k entries modules static dynamic reached effects candidate
+  user_none h = none_found (bars n) t h ∙ user_is
 
   module _ (h : t ≡ None → ⊥) {u : Bool} (p : u ≡ unreached (reads roles) n reached t) where
-    pub user-unreached : u ≡ true → None ≡ user_target (reads roles) k entries modules static dynamic reached effects candidate
-    user-unreached q = barred (bars n) t h (rw (sym p ∙ q)) ∙ user-is
+    pub user_unreached : u ≡ true → None ≡ user_target (reads roles) k entries modules static dynamic reached effects candidate
+    user_unreached q = barred (bars n) t h (rw (sym p ∙ q)) ∙ user_is
 
     module _ (q : u ≡ false) {v : Bool} (p₁ : v ≡ leaks (reads roles) n reached effects k t) where
-      pub user-leaks : v ≡ true → None ≡ user_target (reads roles) k entries modules static dynamic reached effects candidate
-      user-leaks q₁ = barred (bars n) t h (rw (sym p ∙ q, sym p₁ ∙ q₁)) ∙ user-is
+      pub user_leaks : v ≡ true → None ≡ user_target (reads roles) k entries modules static dynamic reached effects candidate
+      user_leaks q₁ = barred (bars n) t h (rw (sym p ∙ q, sym p₁ ∙ q₁)) ∙ user_is
 
       module _ (q₁ : v ≡ false) {w : Bool} (p₂ : w ≡ strayed modules dynamic candidate t) where
-        pub user-strays : w ≡ true → None ≡ user_target (reads roles) k entries modules static dynamic reached effects candidate
-        user-strays q₂ = barred (bars n) t h (rw (sym p ∙ q, sym p₁ ∙ q₁) (sym p₂ ∙ q₂)) ∙ user-is
+        pub user_strays : w ≡ true → None ≡ user_target (reads roles) k entries modules static dynamic reached effects candidate
+        user_strays q₂ = barred (bars n) t h (rw (sym p ∙ q, sym p₁ ∙ q₁) (sym p₂ ∙ q₂)) ∙ user_is
 
-        pub user-found : w ≡ false → t ≡ user_target (reads roles) k entries modules static dynamic reached effects candidate
-        user-found q₂ = unbarred (bars n) t h (rw (sym p ∙ q, sym p₁ ∙ q₁) (sym p₂ ∙ q₂)) ∙ user-is
+        pub user_found : w ≡ false → t ≡ user_target (reads roles) k entries modules static dynamic reached effects candidate
+        user_found q₂ = unbarred (bars n) t h (rw (sym p ∙ q, sym p₁ ∙ q₁) (sym p₂ ∙ q₂)) ∙ user_is
 
 -- the same among dynamic ones
 module _ (roles : List ℕ) (k : ℕ) (entries : List ℕ) (static : Lists) (exports candidate : List ℕ) {n t : ℕ} (e : n ≡ bits k)
-    (f : t ≡ first-target (reads roles) n entries static 1) where
-  dynamic-is : guarded (polluted (reads roles) n entries exports candidate) t ≡ dynamic_target (reads roles) k entries static exports candidate
+    (f : t ≡ first_target (reads roles) n entries static 1) where
+  dynamic_is : guarded (polluted (reads roles) n entries exports candidate) t ≡ dynamic_target (reads roles) k entries static exports candidate
   unfolding dynamic_target
-  dynamic-is = ap (guarded (polluted (reads roles) n entries exports candidate)) f ∙ ap (λ j. guarded (polluted (reads roles) j entries exports candidate) (first-target (reads roles) j entries static 1)) e
+  dynamic_is = ap (guarded (polluted (reads roles) n entries exports candidate)) f ∙ ap (λ j. guarded (polluted (reads roles) j entries exports candidate) (first_target (reads roles) j entries static 1)) e
 
   pub dynamic-none : t ≡ None → None ≡ dynamic_target (reads roles) k entries static exports candidate
-  dynamic-none h = none_found (polluted (reads roles) n entries exports candidate) t h ∙ dynamic-is
+  dynamic-none h = none_found (polluted (reads roles) n entries exports candidate) t h ∙ dynamic_is
 
   pub dynamic-polluted : (t ≡ None → ⊥) → {u : Bool} → u ≡ polluted (reads roles) n entries exports candidate t → u ≡ true → None ≡ dynamic_target (reads roles) k entries static exports candidate
-  dynamic-polluted h p q = barred (polluted (reads roles) n entries exports candidate) t h (sym p ∙ q) ∙ dynamic-is
+  dynamic-polluted h p q = barred (polluted (reads roles) n entries exports candidate) t h (sym p ∙ q) ∙ dynamic_is
 
   pub dynamic-found : (t ≡ None → ⊥) → {u : Bool} → u ≡ polluted (reads roles) n entries exports candidate t → u ≡ false → t ≡ dynamic_target (reads roles) k entries static exports candidate
-  dynamic-found h p q = unbarred (polluted (reads roles) n entries exports candidate) t h (sym p ∙ q) ∙ dynamic-is
+  dynamic-found h p q = unbarred (polluted (reads roles) n entries exports candidate) t h (sym p ∙ q) ∙ dynamic_is
 
 -- an entry that a bit names: its entry module is read
 named-entry : (classes kinds : List ℕ) (set b v : ℕ) → role classes kinds set b ≡ v → (v ≡ 0 → ⊥) → (v ≡ 3 → ⊥) → (b < length kinds) × (get_or kinds b 0 ≡ 8 → ⊥)
@@ -174,8 +174,8 @@ named-entry classes kinds set b v e h₀ h₃ = go (ltb b (bits (length kinds)) 
     go false q e = absurd (h₀ (sym e))
 
 module _ {k m : ℕ} {kinds : List ℕ} {l : Lent} (ok : Legal k m kinds l) where
-  pub can-roles : {n : ℕ} (classes roles : List ℕ) → n ≡ bits k → length classes ≡ 8 → length roles ≡ 1024 → ((b : ℕ) → get_or roles b 0 ≡ 0) → CanSetRoles kinds classes n roles
-  can-roles classes roles e c r z = record {
+  pub can_roles : {n : ℕ} (classes roles : List ℕ) → n ≡ bits k → length classes ≡ 8 → length roles ≡ 1024 → ((b : ℕ) → get_or roles b 0 ≡ 0) → CanSetRoles kinds classes n roles
+  can_roles classes roles e c r z = record {
     count = e ∙ ap bits (sym ok.count);
     small = ok.kind;
     eight = c;
@@ -197,43 +197,43 @@ module _ {k m : ℕ} {kinds : List ℕ} {l : Lent} (ok : Legal k m kinds l) wher
         ok.entry o w.0 w.1;
   }
 
-  pub can-guard : CanGuard k m l.modules.starts l.modules.items l.dynamic.starts l.dynamic.items l.reached.starts l.reached.items l.effects
-  can-guard = record { homes = ok.modules; dynamic = ok.dynamic; reaches = ok.reached; sided = ok.sided }
+  pub can_guard : CanGuard k m l.modules.starts l.modules.items l.dynamic.starts l.dynamic.items l.reached.starts l.reached.items l.effects
+  can_guard = record { homes = ok.modules; dynamic = ok.dynamic; reaches = ok.reached; sided = ok.sided }
 
   -- the choice, by the roles in the table
   module _ (classes : List ℕ) (set : ℕ) {old roles : List ℕ} {n : ℕ} (w : Named classes kinds set old roles n) (e : n ≡ bits k) where
-    by-roles : chosen (reads roles) k l ≡ choice classes kinds set l
+    by_roles : chosen (reads roles) k l ≡ choice classes kinds set l
     unfolding choice
-    by-roles = ap (λ r. chosen r k l) (named-all w (e ∙ ap bits (sym ok.count))) ∙ ap (λ j. chosen (role classes kinds set) j l) (sym ok.count)
+    by_roles = ap (λ r. chosen r k l) (named-all w (e ∙ ap bits (sym ok.count))) ∙ ap (λ j. chosen (role classes kinds set) j l) (sym ok.count)
 
-    module _ {a : Bool} (p : a ≡ some-role (reads roles) n 3) where
-      p' : a ≡ some-role (reads roles) (bits k) 3
-      p' = p ∙ ap (λ j. some-role (reads roles) j 3) e
+    module _ {a : Bool} (p : a ≡ some_role (reads roles) n 3) where
+      p' : a ≡ some_role (reads roles) (bits k) 3
+      p' = p ∙ ap (λ j. some_role (reads roles) j 3) e
 
       no_target : a ≡ true → None ≡ chosen (reads roles) k l
       unfolding chosen
       no_target q = rw (sym p' ∙ q)
 
-      pub common-chunk : a ≡ true → None ≡ choice classes kinds set l
-      common-chunk q = no_target q ∙ by-roles
+      pub common_chunk : a ≡ true → None ≡ choice classes kinds set l
+      common_chunk q = no_target q ∙ by_roles
 
-      module _ (q : a ≡ false) {b : Bool} (p₂ : b ≡ some-role (reads roles) n 2) where
-        p₂' : b ≡ some-role (reads roles) (bits k) 2
-        p₂' = p₂ ∙ ap (λ j. some-role (reads roles) j 2) e
+      module _ (q : a ≡ false) {b : Bool} (p₂ : b ≡ some_role (reads roles) n 2) where
+        p₂' : b ≡ some_role (reads roles) (bits k) 2
+        p₂' = p₂ ∙ ap (λ j. some_role (reads roles) j 2) e
 
-        user-picked : b ≡ true → user_target (reads roles) k l.entries l.modules l.static l.dynamic l.reached l.effects l.candidate ≡ chosen (reads roles) k l
+        user_picked : b ≡ true → user_target (reads roles) k l.entries l.modules l.static l.dynamic l.reached l.effects l.candidate ≡ chosen (reads roles) k l
         unfolding chosen
-        user-picked h = rw (sym p' ∙ q, sym p₂' ∙ h)
+        user_picked h = rw (sym p' ∙ q, sym p₂' ∙ h)
 
-        pub among-users : {r : ℕ} → b ≡ true → r ≡ user_target (reads roles) k l.entries l.modules l.static l.dynamic l.reached l.effects l.candidate → r ≡ choice classes kinds set l
-        among-users {r} h f = f ∙ user-picked h ∙ by-roles
+        pub among_users : {r : ℕ} → b ≡ true → r ≡ user_target (reads roles) k l.entries l.modules l.static l.dynamic l.reached l.effects l.candidate → r ≡ choice classes kinds set l
+        among_users {r} h f = f ∙ user_picked h ∙ by_roles
 
-        dynamic-picked : b ≡ false → dynamic_target (reads roles) k l.entries l.static l.exports l.candidate ≡ chosen (reads roles) k l
+        dynamic_picked : b ≡ false → dynamic_target (reads roles) k l.entries l.static l.exports l.candidate ≡ chosen (reads roles) k l
         unfolding chosen
-        dynamic-picked h = rw (sym p' ∙ q, sym p₂' ∙ h)
+        dynamic_picked h = rw (sym p' ∙ q, sym p₂' ∙ h)
 
         pub among-dynamic : {r : ℕ} → b ≡ false → r ≡ dynamic_target (reads roles) k l.entries l.static l.exports l.candidate → r ≡ choice classes kinds set l
-        among-dynamic {r} h f = f ∙ dynamic-picked h ∙ by-roles
+        among-dynamic {r} h f = f ∙ dynamic_picked h ∙ by_roles
 
 -- the answer in document 01's terms
 pub told_none : (x : ℕ) → x ≡ None → nothing ≡ told x

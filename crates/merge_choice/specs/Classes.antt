@@ -7,7 +7,7 @@ use Rattle.graphs.specs.Bools.{or_false_left, or_false_right}
 use Rattle.graphs.specs.Lists.{any, below, some_below, some_none}
 use Rattle.merge_state.specs.State.{misfit}
 use Rattle.merge_state.specs.Table.{Answer, refused, any_misfit, other_length}
-use Rattle.merge_state.specs.Kept.{no-misfit}
+use Rattle.merge_state.specs.Kept.{no_misfit}
 use Rattle.merge_choice.specs.Choice.{Lent, choice, built_in}
 use Rattle.merge_choice.specs.Find.{row23, row25, told, find_by}
 
@@ -43,7 +43,7 @@ classes c h =
     let h₁ = or_false_right (other_length c 8) _ h in
     record {
       eight = eqb-true _ _ (not-false _ (or_false_left (other_length c 8) _ h));
-      small = no-misfit 2 c (or_false_left (any_misfit 2 false c) _ h₁);
+      small = no_misfit 2 c (or_false_left (any_misfit 2 false c) _ h₁);
       odd = λ i b e.
           let q = some_none (λ i. eqb (i % 2) 1 && not (eqb (get_or c i 0) 1)) 8 (or_false_right (any_misfit 2 false c) _ h₁) i b in
           eqb-true _ _ (not-false _ (rw (eq-eqb (i % 2) 1 e) at q));
@@ -62,9 +62,9 @@ module _ (c : List ℕ) (k m : ℕ) (kinds : List ℕ) (set : ℕ) (l : Lent) wh
   unfolding find_by
   by-lists h = rw h
 
-  pub by-classes : row23 k m kinds l ≡ false → row25 c ≡ true → refused 25 ≡ find_by c k m kinds set l
+  pub by_classes : row23 k m kinds l ≡ false → row25 c ≡ true → refused 25 ≡ find_by c k m kinds set l
   unfolding find_by
-  by-classes h g = rw (h, g)
+  by_classes h g = rw (h, g)
 
   pub by-choice : {r : Answer} {t : ℕ} → row23 k m kinds l ≡ false → row25 c ≡ false → t ≡ choice c kinds set l → r ≡ told t → r ≡ find_by c k m kinds set l
   unfolding find_by

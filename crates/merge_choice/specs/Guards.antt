@@ -8,7 +8,7 @@ use borrow.Author.Tests.{eq-eqb, ne_eqb, eqb-true}
 use Rattle.graphs.specs.Bools.{alike, and_left, and_right, and_both}
 use Rattle.graphs.specs.Lists.{some_below, some_give, some_take}
 use Rattle.merge_state.specs.State.{flag}
-use Rattle.merge_choice.specs.Choice.{lists, size, some_from, some_of, some_in, in_list, unreached, leaks, there, strayed, dynamic-module, pollutes, polluted}
+use Rattle.merge_choice.specs.Choice.{lists, size, some_from, some_of, some_in, in_list, unreached, leaks, there, strayed, dynamic_module, pollutes, polluted}
 use Rattle.merge_choice.specs.Spans.{Span}
 use Rattle.merge_choice.specs.Marks.{Marked, hits, all, part, empty, dynamic}
 use Rattle.merge_choice.specs.Named.{reads}
@@ -95,19 +95,19 @@ module _ (n : ℕ) (roles starts reached : List ℕ) (t : ℕ) {old marks : List
   unfolding unmarked hits some_from
   unreached-at d = ap (λ b. eqb (reads roles d) 1 && b) (ap (λ v. eqb v 0) (m.at d) ∙ one_or_none (in_list (lists starts reached) t d) (get_or old d 0) (z d))
 
-  pub unreached-is : {r : Bool} → r ≡ some_below (unmarked roles marks) n → r ≡ unreached (reads roles) n (lists starts reached) t
+  pub unreached_is : {r : Bool} → r ≡ some_below (unmarked roles marks) n → r ≡ unreached (reads roles) n (lists starts reached) t
   unfolding unreached
-  unreached-is e = e ∙ ap (λ p. some_below p n) (fun_ext unreached-at)
+  unreached_is e = e ∙ ap (λ p. some_below p n) (fun_ext unreached-at)
 
 -- leaked side effects
 module _ (roles starts reached effects : List ℕ) (n k t : ℕ) where
-  pub no-leak : get_or effects t 0 ≡ 0 → false ≡ leaks (reads roles) n (lists starts reached) effects k t
+  pub no_leak : get_or effects t 0 ≡ 0 → false ≡ leaks (reads roles) n (lists starts reached) effects k t
   unfolding leaks
-  no-leak h = rw (eq-eqb (get_or effects t 0) 0 h)
+  no_leak h = rw (eq-eqb (get_or effects t 0) 0 h)
 
-  pub leak-is : {r : Bool} → (get_or effects t 0 ≡ 0 → ⊥) → r ≡ some_below (reaches_named roles starts reached t) k → r ≡ leaks (reads roles) n (lists starts reached) effects k t
+  pub leak_is : {r : Bool} → (get_or effects t 0 ≡ 0 → ⊥) → r ≡ some_below (reaches_named roles starts reached t) k → r ≡ leaks (reads roles) n (lists starts reached) effects k t
   unfolding leaks reaches_named
-  leak-is h e = rw (ne_eqb (get_or effects t 0) 0 h) e
+  leak_is h e = rw (ne_eqb (get_or effects t 0) 0 h) e
 
 pub leak_self : (roles starts reached : List ℕ) (t o : ℕ) → o ≡ t → false ≡ reaches_named roles starts reached t o
 unfolding reaches_named
@@ -122,9 +122,9 @@ module _ (homes modules starts items candidate : List ℕ) (t : ℕ) {l₀ l₁ 
     (m₁ : Marked all (part modules (get_or homes t 0)) (size (lists homes modules) t) 1 l₀ l₁)
     (m₂ : Marked (empty candidate starts) (reads candidate) (length candidate) 1 l₁ l₂) where
   -- the candidate's module that is y, and its empty list
-  free-is : (y : ℕ) → hits (empty candidate starts) (reads candidate) (length candidate) y ≡ (some_in candidate (eqb y) && eqb (size (lists starts items) y) 0)
+  free_is : (y : ℕ) → hits (empty candidate starts) (reads candidate) (length candidate) y ≡ (some_in candidate (eqb y) && eqb (size (lists starts items) y) 0)
   unfolding hits some_in
-  free-is y =
+  free_is y =
       alike _ _
       (λ h.
       let r = some_take (λ i. empty candidate starts i && eqb y (get_or candidate i 0)) (length candidate) h in
@@ -136,39 +136,39 @@ module _ (homes modules starts items candidate : List ℕ) (t : ℕ) {l₀ l₁ 
       some_give (λ i. empty candidate starts i && eqb y (get_or candidate i 0)) (length candidate) r.0 r.1
       (and_both _ _ (ap (λ k. eqb (size (lists starts items) k) 0) (sym (eqb-true y (get_or candidate r.0 0) r.2)) ∙ and_right (some_below (λ i. eqb y (get_or candidate i 0)) (length candidate)) _ h) r.2))
 
-  stray-at : (y : ℕ) → stands l₂ 0 y ≡ not (there (lists homes modules) (lists starts items) candidate t y)
+  stray_at : (y : ℕ) → stands l₂ 0 y ≡ not (there (lists homes modules) (lists starts items) candidate t y)
   unfolding there hits some_from
-  stray-at y =
+  stray_at y =
       ap (λ v. eqb v 0) (m₂.at y ∙ ap (λ v. cond (hits (empty candidate starts) (reads candidate) (length candidate) y) 1 v) (m₁.at y))
-      ∙ ap (λ b. eqb (cond b 1 (cond (in_list (lists homes modules) t y) 1 (get_or l₀ y 0))) 0) (free-is y)
+      ∙ ap (λ b. eqb (cond b 1 (cond (in_list (lists homes modules) t y) 1 (get_or l₀ y 0))) 0) (free_is y)
       ∙ twice (some_in candidate (eqb y) && eqb (size (lists starts items) y) 0) (in_list (lists homes modules) t y) (get_or l₀ y 0) (z y)
 
-  pub strayed-is : {r : Bool} → r ≡ some_in candidate (outside starts items l₂) → r ≡ strayed (lists homes modules) (lists starts items) candidate t
+  pub strayed_is : {r : Bool} → r ≡ some_in candidate (outside starts items l₂) → r ≡ strayed (lists homes modules) (lists starts items) candidate t
   unfolding strayed some_from
-  strayed-is e = e ∙ ap (λ p. some_in candidate (λ m. some_of (lists starts items) m p)) (fun_ext stray-at)
+  strayed_is e = e ∙ ap (λ p. some_in candidate (λ m. some_of (lists starts items) m p)) (fun_ext stray_at)
 
 -- exports
 module _ (n : ℕ) (roles entries exports candidate : List ℕ) (t : ℕ) {old marks : List ℕ} (z : Zero old) (m : Marked (dynamic roles) (reads entries) n 1 old marks) where
   polluting-at : (y : ℕ) → polluting (get_or entries t 0) exports marks y ≡ pollutes (reads roles) n entries exports t y
-  unfolding polluting pollutes dynamic-module hits
+  unfolding polluting pollutes dynamic_module hits
   polluting-at y = ap (λ b. not (eqb y (get_or entries t 0)) && (flag exports y && b)) (ap (λ v. not (eqb v 0)) (m.at y) ∙ one_is (some_below (λ d. eqb (reads roles d) 1 && eqb y (get_or entries d 0)) n) (get_or old y 0) (z y))
 
-  pub polluted-is : {r : Bool} → r ≡ some_in candidate (polluting (get_or entries t 0) exports marks) → r ≡ polluted (reads roles) n entries exports candidate t
+  pub polluted_is : {r : Bool} → r ≡ some_in candidate (polluting (get_or entries t 0) exports marks) → r ≡ polluted (reads roles) n entries exports candidate t
   unfolding polluted
-  polluted-is e = e ∙ ap (some_in candidate) (fun_ext polluting-at)
+  polluted_is e = e ∙ ap (some_in candidate) (fun_ext polluting-at)
 
 module _ (e : ℕ) (exports marks : List ℕ) (m : ℕ) where
-  pub own-module : m ≡ e → false ≡ polluting e exports marks m
+  pub own_module : m ≡ e → false ≡ polluting e exports marks m
   unfolding polluting
-  own-module h = rw (eq-eqb m e h)
+  own_module h = rw (eq-eqb m e h)
 
-  pub no-exports : (m ≡ e → ⊥) → get_or exports m 0 ≡ 0 → false ≡ polluting e exports marks m
+  pub no_exports : (m ≡ e → ⊥) → get_or exports m 0 ≡ 0 → false ≡ polluting e exports marks m
   unfolding polluting
-  no-exports h q = rw (ne_eqb m e h, eq-eqb (get_or exports m 0) 0 q)
+  no_exports h q = rw (ne_eqb m e h, eq-eqb (get_or exports m 0) 0 q)
 
-  pub by-mark : (m ≡ e → ⊥) → (get_or exports m 0 ≡ 0 → ⊥) → not (eqb (get_or marks m 0) 0) ≡ polluting e exports marks m
+  pub by_mark : (m ≡ e → ⊥) → (get_or exports m 0 ≡ 0 → ⊥) → not (eqb (get_or marks m 0) 0) ≡ polluting e exports marks m
   unfolding polluting
-  by-mark h q = rw (ne_eqb m e h, ne_eqb (get_or exports m 0) 0 q)
+  by_mark h q = rw (ne_eqb m e h, ne_eqb (get_or exports m 0) 0 q)
 
 -- the cases of an entry without a mark
 module _ (roles marks : List ℕ) (d : ℕ) where
@@ -176,6 +176,6 @@ module _ (roles marks : List ℕ) (d : ℕ) where
   unfolding unmarked
   other-role h = rw (ne_eqb (get_or roles d 0) 1 h)
 
-  pub by-its-mark : get_or roles d 0 ≡ 1 → eqb (get_or marks d 0) 0 ≡ unmarked roles marks d
+  pub by_its_mark : get_or roles d 0 ≡ 1 → eqb (get_or marks d 0) 0 ≡ unmarked roles marks d
   unfolding unmarked
-  by-its-mark h = rw (eq-eqb (get_or roles d 0) 1 h)
+  by_its_mark h = rw (eq-eqb (get_or roles d 0) 1 h)

@@ -89,9 +89,9 @@ module _ (set : ℕ) {classes kinds : List ℕ} {b : ℕ} (c : CanName kinds cla
     unfolding role
     role-common e = rw (within, h, eq-eqb (get_or kinds b 0) 8 e)
 
-    pub role-user : (get_or kinds b 0 ≡ 8 → ⊥) → get_or classes (get_or kinds b 0) 0 ≡ 1 → 2 ≡ role classes kinds set b
+    pub role_user : (get_or kinds b 0 ≡ 8 → ⊥) → get_or classes (get_or kinds b 0) 0 ≡ 1 → 2 ≡ role classes kinds set b
     unfolding role
-    role-user e q = rw (within, h, ne_eqb (get_or kinds b 0) 8 e, eq-eqb (get_or classes (get_or kinds b 0) 0) 1 q)
+    role_user e q = rw (within, h, ne_eqb (get_or kinds b 0) 8 e, eq-eqb (get_or classes (get_or kinds b 0) 0) 1 q)
 
     pub role-dynamic : (get_or kinds b 0 ≡ 8 → ⊥) → (get_or classes (get_or kinds b 0) 0 ≡ 1 → ⊥) → 1 ≡ role classes kinds set b
     unfolding role

@@ -5,7 +5,7 @@ use Rattle.std.proofs.lemmas.Bool.{not-false}
 use Rattle.graphs.specs.Bools.{or_false_left, or_false_right}
 use Rattle.graphs.specs.Lists.{some_none}
 use Rattle.merge_state.specs.Table.{any_misfit, other_length}
-use Rattle.merge_state.specs.Kept.{no-misfit}
+use Rattle.merge_state.specs.Kept.{no_misfit}
 use Rattle.merge_choice.specs.Choice.{Lent}
 use Rattle.merge_choice.specs.Find.{bad_lists, bad_entry, bad_lengths, bad_spans, bad_numbers, row23}
 use Rattle.merge_choice.specs.Spans.{Spans, spans}
@@ -76,8 +76,8 @@ legal k m kinds l h =
       static = spans m m l.static.starts l.static.items (or_false_left (bad_lists m m l.static) _ s₁);
       dynamic = spans m m l.dynamic.starts l.dynamic.items (or_false_left (bad_lists m m l.dynamic) _ s₂);
       reached = spans k k l.reached.starts l.reached.items (or_false_right (bad_lists m m l.dynamic) _ s₂);
-      kind = no-misfit 9 kinds (or_false_left (any_misfit 9 false kinds) _ n);
-      own = no-misfit m l.candidate (or_false_left (any_misfit m false l.candidate) _ n₁);
+      kind = no_misfit 9 kinds (or_false_left (any_misfit 9 false kinds) _ n);
+      own = no_misfit m l.candidate (or_false_left (any_misfit m false l.candidate) _ n₁);
       entry = λ b i e. leb-false m (get_or l.entries b 0) (entry_read kinds l.entries m b e ∙ some_none (bad_entry kinds l.entries m) (length kinds) n₂ b i);
     }
 

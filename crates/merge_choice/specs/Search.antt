@@ -21,17 +21,17 @@ misses roles v entries e marks mark o = eqb (get_or roles o 0) v && not (eqb (ge
 
 -- its cases
 module _ (roles : List ℕ) (v : ℕ) (entries : List ℕ) (e : ℕ) (marks : List ℕ) (mark o : ℕ) where
-  pub miss-role : (get_or roles o 0 ≡ v → ⊥) → false ≡ misses roles v entries e marks mark o
+  pub miss_role : (get_or roles o 0 ≡ v → ⊥) → false ≡ misses roles v entries e marks mark o
   unfolding misses
-  miss-role h = rw (ne_eqb (get_or roles o 0) v h)
+  miss_role h = rw (ne_eqb (get_or roles o 0) v h)
 
-  pub miss-same : get_or roles o 0 ≡ v → get_or entries o 0 ≡ e → false ≡ misses roles v entries e marks mark o
+  pub miss_same : get_or roles o 0 ≡ v → get_or entries o 0 ≡ e → false ≡ misses roles v entries e marks mark o
   unfolding misses
-  miss-same h q = rw (eq-eqb (get_or roles o 0) v h, eq-eqb (get_or entries o 0) e q)
+  miss_same h q = rw (eq-eqb (get_or roles o 0) v h, eq-eqb (get_or entries o 0) e q)
 
-  pub miss-mark : get_or roles o 0 ≡ v → (get_or entries o 0 ≡ e → ⊥) → not (eqb (get_or marks (get_or entries o 0) 0) mark) ≡ misses roles v entries e marks mark o
+  pub miss_mark : get_or roles o 0 ≡ v → (get_or entries o 0 ≡ e → ⊥) → not (eqb (get_or marks (get_or entries o 0) 0) mark) ≡ misses roles v entries e marks mark o
   unfolding misses
-  miss-mark h q = rw (eq-eqb (get_or roles o 0) v h, ne_eqb (get_or entries o 0) e q)
+  miss_mark h q = rw (eq-eqb (get_or roles o 0) v h, ne_eqb (get_or entries o 0) e q)
 
 -- the entry modules of the chunks of role v have a mark
 pub record CanMiss (roles : List ℕ) (v : ℕ) (entries : List ℕ) (n : ℕ) (marks : List ℕ) : Type 0 where
@@ -123,14 +123,14 @@ pub record Searching (n : ℕ) (roles : List ℕ) (v : ℕ) (entries starts item
   pub none : first_below (wins (reads roles) n entries (lists starts items) v) t ≡ None
 
 module _ {n : ℕ} {roles : List ℕ} {v : ℕ} {entries starts items marks : List ℕ} where
-  pub can-mark : {t : ℕ} → CanWin n roles v entries starts items marks t → get_or roles t 0 ≡ v → CanMarkList starts items (get_or entries t 0) marks
-  can-mark {t} c q = record { span = c.first.spans (get_or entries t 0) (c.first.entry t c.named q); below = c.first.inside }
+  pub can_mark : {t : ℕ} → CanWin n roles v entries starts items marks t → get_or roles t 0 ≡ v → CanMarkList starts items (get_or entries t 0) marks
+  can_mark {t} c q = record { span = c.first.spans (get_or entries t 0) (c.first.entry t c.named q); below = c.first.inside }
 
-  pub can-miss : {t : ℕ} {marks' : List ℕ} → CanWin n roles v entries starts items marks t → length marks' ≡ length marks → CanMiss roles v entries n marks'
-  can-miss c e = record { named = c.first.named; listed = c.first.listed; below = λ o b q. omega (arith, c.first.entry o b q, c.first.count) }
+  pub can_miss : {t : ℕ} {marks' : List ℕ} → CanWin n roles v entries starts items marks t → length marks' ≡ length marks → CanMiss roles v entries n marks'
+  can_miss c e = record { named = c.first.named; listed = c.first.listed; below = λ o b q. omega (arith, c.first.entry o b q, c.first.count) }
 
-  pub can-win : {t : ℕ} → CanFirst n roles v entries starts items 4096 → Searching n roles v entries starts items marks t → t < n → CanWin n roles v entries starts items marks t
-  can-win f s b = record { first = subst (λ k. CanFirst n roles v entries starts items k) (sym s.long) f; old = s.old; named = b }
+  pub can_win : {t : ℕ} → CanFirst n roles v entries starts items 4096 → Searching n roles v entries starts items marks t → t < n → CanWin n roles v entries starts items marks t
+  can_win f s b = record { first = subst (λ k. CanFirst n roles v entries starts items k) (sym s.long) f; old = s.old; named = b }
 
-  pub search-more : {t : ℕ} {marks' : List ℕ} {r : Bool} → Searching n roles v entries starts items marks t → Won n roles v entries starts items marks t marks' r → r ≡ false → Searching n roles v entries starts items marks' (t + 1)
-  search-more {t} s w q = record { long = w.long ∙ s.long; old = w.old; none = first_more _ t s.none (sym w.answer ∙ q) }
+  pub search_more : {t : ℕ} {marks' : List ℕ} {r : Bool} → Searching n roles v entries starts items marks t → Won n roles v entries starts items marks t marks' r → r ≡ false → Searching n roles v entries starts items marks' (t + 1)
+  search_more {t} s w q = record { long = w.long ∙ s.long; old = w.old; none = first_more _ t s.none (sym w.answer ∙ q) }

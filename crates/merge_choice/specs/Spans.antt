@@ -5,7 +5,7 @@ use Rattle.std.proofs.lemmas.Bool.{not-false}
 use Rattle.graphs.specs.Bools.{or_false_left, or_false_right}
 use Rattle.graphs.specs.Lists.{some_none}
 use Rattle.merge_state.specs.Table.{bad_starts, falling}
-use Rattle.merge_state.specs.Kept.{no-misfit}
+use Rattle.merge_state.specs.Kept.{no_misfit}
 use Rattle.merge_choice.specs.Choice.{lists}
 use Rattle.merge_choice.specs.Find.{bad_lists}
 
@@ -39,5 +39,5 @@ spans n top starts items h =
     record {
       count = count;
       each = λ x b. record { next = omega arith; rising = rise x b; ends = omega (arith, up starts n rise (n - (x + 1)) (x + 1) (omega arith)) };
-      below = no-misfit top items (or_false_right (bad_starts n starts (length items)) _ h);
+      below = no_misfit top items (or_false_right (bad_starts n starts (length items)) _ h);
     }

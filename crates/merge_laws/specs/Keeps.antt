@@ -19,15 +19,15 @@ use Rattle.merge_laws.specs.Can.{CanAppend, CanOpen, CanLink, CanLinked, CanCalc
 
 -- opening a chunk
 module _ (z : Sizes) (a : List ℕ) (v : ℕ) where
-  pub open-length : length (open_area z a v) ≡ length a
+  pub open_length : length (open_area z a v) ≡ length a
   unfolding open_area
-  open-length = simp length-set (length-set_strided a (set_place z (cell a (head z 3))) 1 (parts 32 8 v))
+  open_length = simp length-set (length-set_strided a (set_place z (cell a (head z 3))) 1 (parts 32 8 v))
 
   -- a number that isn't written stays
-  pub open-far : (i : ℕ) → ((j : ℕ) → j < 8 → i ≡ set_place z (cell a (head z 3)) + j * 1 → ⊥) → (i ≡ set_chunk z (cell a (head z 3)) → ⊥) → (i ≡ head z 3 → ⊥)
+  pub open_far : (i : ℕ) → ((j : ℕ) → j < 8 → i ≡ set_place z (cell a (head z 3)) + j * 1 → ⊥) → (i ≡ set_chunk z (cell a (head z 3)) → ⊥) → (i ≡ head z 3 → ⊥)
       → (i ≡ side z (cell a (head z 1)) → ⊥) → (i ≡ need z (cell a (head z 1)) → ⊥) → (i ≡ head z 1 → ⊥) → cell (open_area z a v) i ≡ cell a i
   unfolding open_area
-  open-far i p q r s t u =
+  open_far i p q r s t u =
       let n = cell a (head z 1) in
       let k = cell a (head z 3) in
       let a₀ = set_lanes a (set_place z k) 1 v in
@@ -38,25 +38,25 @@ module _ (z : Sizes) (a : List ℕ) (v : ℕ) where
       get_or-set_other a₄ (head z 1) i (n + 1) 0 u ∙ get_or-set_other a₃ (need z n) i 1 0 t ∙ get_or-set_other a₂ (side z n) i 0 0 s ∙ get_or-set_other a₁ (head z 3) i (k + 1) 0 r
       ∙ get_or-set_other a₀ (set_chunk z k) i n 0 q ∙ set_strided-other a (set_place z k) 1 (parts 32 8 v) i (λ j h. p j (omega (arith, h, length-parts 32 8 v)))
 
-  pub open-append : (m : ℕ) → CanOpen z a → m < z.modules → cell a (head z 4) < z.entries → CanAppend z (open_area z a v) (cell a (head z 1)) m
-  open-append m o h l =
+  pub open_append : (m : ℕ) → CanOpen z a → m < z.modules → cell a (head z 4) < z.entries → CanAppend z (open_area z a v) (cell a (head z 1)) m
+  open_append m o h l =
       record {
         within = o.within;
-        long = omega (arith, o.long, open-length);
+        long = omega (arith, o.long, open_length);
         chunk = o.left;
         listed = h;
-        left = omega (arith, open-far (head z 4) (λ j b. omega arith) (omega arith) (omega arith) (omega arith) (omega arith) (omega arith));
+        left = omega (arith, open_far (head z 4) (λ j b. omega arith) (omega arith) (omega arith) (omega arith) (omega arith) (omega arith));
       }
 
 -- `init_module_assignment`, by the chunk found
 module _ (z : Sizes) (a : List ℕ) (m v x : ℕ) (e : Bool) where
-  pub init-new : {n : ℕ} {o b : List ℕ} → x ≡ None → n ≡ cell a (head z 1) → o ≡ open_area z a v → b ≡ append_area z o n m e → b ≡ init_area z a m v e x
+  pub init_new : {n : ℕ} {o b : List ℕ} → x ≡ None → n ≡ cell a (head z 1) → o ≡ open_area z a v → b ≡ append_area z o n m e → b ≡ init_area z a m v e x
   unfolding init_area
-  init-new h p q r = rw (eq-eqb x None h, ← p, ← q) r
+  init_new h p q r = rw (eq-eqb x None h, ← p, ← q) r
 
-  pub init-old : {b : List ℕ} → (x ≡ None → ⊥) → b ≡ append_area z a x m e → b ≡ init_area z a m v e x
+  pub init_old : {b : List ℕ} → (x ≡ None → ⊥) → b ≡ append_area z a x m e → b ≡ init_area z a m v e x
   unfolding init_area
-  init-old h r = rw (ne_eqb x None h) r
+  init_old h r = rw (ne_eqb x None h) r
 
 -- b is a but for numbers of the flags
 pub record Kept (z : Sizes) (a b : List ℕ) : Type 0 where
@@ -99,8 +99,8 @@ module _ (z : Sizes) (deps : List ℕ) (x from : ℕ) (a : List ℕ) (n : ℕ) (
       let k = linked-kept j (omega arith) in
       kept-twice k (link-kept z r x (cell r (home z (get_or deps (from + j) 0))) (next-link r k j (omega arith)))
 
-  pub linked-can : (r : List ℕ) (j : ℕ) → r ≡ linked z deps x from a j → j < n → CanLink z r x (cell r (home z (get_or deps (from + j) 0)))
-  linked-can r j e h = rw e (next-link (linked z deps x from a j) (linked-kept j (omega arith)) j h)
+  pub linked_can : (r : List ℕ) (j : ℕ) → r ≡ linked z deps x from a j → j < n → CanLink z r x (cell r (home z (get_or deps (from + j) 0)))
+  linked_can r j e h = rw e (next-link (linked z deps x from a j) (linked-kept j (omega arith)) j h)
 
   pub linked_long : (r : List ℕ) (j : ℕ) → r ≡ linked z deps x from a j → j ≤ n → length r ≡ length a
   linked_long r j e h = rw e (linked-kept j h).same
@@ -133,26 +133,26 @@ module _ (z : Sizes) (starts deps a : List ℕ) (used : ℕ) (can : CanCalc z a 
         modules = can.modules;
       })
 
-  calc-kept : (i : ℕ) → i ≤ used → Kept z a (calc_area z starts deps a i)
+  calc_kept : (i : ℕ) → i ≤ used → Kept z a (calc_area z starts deps a i)
   unfolding calc_area
-  calc-kept zero h = kept-all
-  calc-kept (suc i) h =
+  calc_kept zero h = kept-all
+  calc_kept (suc i) h =
       let r = calc_area z starts deps a i in
-      let k = calc-kept i (omega arith) in
+      let k = calc_kept i (omega arith) in
       let m = cell r (entry_module z i) in
       kept-twice k (linked-all z deps (cell r (entry_chunk z i)) (get_or starts m 0) r (get_or starts (m + 1) 0 - get_or starts m 0) (next-entry r k i (omega arith)))
 
-  pub calc-can : (r : List ℕ) (i : ℕ) → r ≡ calc_area z starts deps a i → i < used
+  pub calc_can : (r : List ℕ) (i : ℕ) → r ≡ calc_area z starts deps a i → i < used
       → CanLinked z r deps (cell r (entry_chunk z i)) (get_or starts (cell r (entry_module z i)) 0) (get_or starts (cell r (entry_module z i) + 1) 0 - get_or starts (cell r (entry_module z i)) 0)
-  calc-can r i e h = rw e (next-entry (calc_area z starts deps a i) (calc-kept i (omega arith)) i h)
+  calc_can r i e h = rw e (next-entry (calc_area z starts deps a i) (calc_kept i (omega arith)) i h)
 
-  pub calc-same : (r : List ℕ) (i : ℕ) → r ≡ calc_area z starts deps a i → i ≤ used → Kept z a r
-  calc-same r i e h = rw e (calc-kept i h)
+  pub calc_same : (r : List ℕ) (i : ℕ) → r ≡ calc_area z starts deps a i → i ≤ used → Kept z a r
+  calc_same r i e h = rw e (calc_kept i h)
 
   -- the entry's module, and its starts
-  pub calc-module : (r : List ℕ) (i : ℕ) → r ≡ calc_area z starts deps a i → i < used
+  pub calc_module : (r : List ℕ) (i : ℕ) → r ≡ calc_area z starts deps a i → i < used
       → (cell r (entry_module z i) < z.modules) × (get_or starts (cell r (entry_module z i)) 0 ≤ get_or starts (cell r (entry_module z i) + 1) 0)
-  calc-module r i e h = let k = calc-same r i e (omega arith) in let f = k.beyond (entry_module z i) (omega arith) in rw f (can.listed i h, can.rising (cell a (entry_module z i)) (can.listed i h))
+  calc_module r i e h = let k = calc_same r i e (omega arith) in let f = k.beyond (entry_module z i) (omega arith) in rw f (can.listed i h, can.rising (cell a (entry_module z i)) (can.listed i h))
 
 pub calc_none : (z : Sizes) (starts deps a : List ℕ) → a ≡ calc_area z starts deps a 0
 unfolding calc_area

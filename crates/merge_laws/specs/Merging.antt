@@ -83,8 +83,8 @@ module _ {l : List ℕ} {c t s : ℕ} (can : CanMerge l c t s) where
     away : t * c + y ≡ s * c + y → ⊥
     away e = elim (dec_lt t s) [ yes p ↦ omega (arith, sets-room {i = t} {n = s} c p) | no p ↦ omega (arith, sets-room {i = s} {n = t} c (omega (arith, can.differ))) ]
 
-    next-cells : (i : ℕ) → i < length l → get_or d' i 0 ≡ merging l c t s (y + 1) i
-    next-cells i b =
+    next_cells : (i : ℕ) → i < length l → get_or d' i 0 ≡ merging l c t s (y + 1) i
+    next_cells i b =
         let u = union_cell (get_or d (t * c + y) 0) (get_or d (s * c + y) 0) y t in
         let ti = cells_in t y can.target yc in
         let si = cells_in s y can.source yc in
@@ -113,7 +113,7 @@ half_can {l} {c} {t} {s} {d} {y} can h b = (omega (arith, cells_in can t y can.t
 
 pub half_more : {l : List ℕ} {c t s : ℕ} {d d' : List ℕ} {y : ℕ} → CanMerge l c t s → Half l c t s d y → y < c
     → d' ≡ set (set d (t * c + y) (union_cell (get_or d (t * c + y) 0) (get_or d (s * c + y) 0) y t)) (s * c + y) 0 → Half l c t s d' (y + 1)
-half_more {d} can h b q = record { far = omega arith; same = next-length can d b h.same h.cells q; cells = next-cells can d b h.same h.cells q }
+half_more {d} can h b q = record { far = omega arith; same = next-length can d b h.same h.cells q; cells = next_cells can d b h.same h.cells q }
 
 pub half_done : {l : List ℕ} {c t s : ℕ} {d : List ℕ} {y : ℕ} → Half l c t s d y → c ≤ y → d ≡ merged_rows l c t s
 unfolding merged_rows

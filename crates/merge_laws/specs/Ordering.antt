@@ -11,9 +11,9 @@ use Rattle.graphs.specs.Bools.{alike, fails, and_left, and_right, and_both, or_f
 use Rattle.graphs.specs.Count.{count_pos}
 use Rattle.graphs.specs.Lists.{some_below, below, some_none}
 use Rattle.graphs.specs.Walk.{Walk, one, more, cyclic}
-use Rattle.graphs.specs.Walks.{sources-below, acyclic-walk}
+use Rattle.graphs.specs.Walks.{sources-below, acyclic_walk}
 use Rattle.graph_walks.specs.Closed.{flag_edge}
-use Rattle.graph_walks.specs.ClosedLaws.{flag-from, flag-to, flag_is}
+use Rattle.graph_walks.specs.ClosedLaws.{flag_from, flag-to, flag_is}
 use Rattle.entry_set.specs.Lanes.{lanes}
 use Rattle.entry_set.specs.SetLaws.{sets-room}
 use Rattle.merge_state.specs.declared.Sizes.{Sizes}
@@ -30,7 +30,7 @@ use Rattle.merge_state.specs.Pairs.{pairs-length, pairs-at}
 use Rattle.merge_area.specs.Consistent.{faults, row_fault, flags_fault, index_faults, lane_faults, merges_fault, out_of_range, sets_fault, inconsistent, head_fault}
 use Rattle.merge_area.specs.Within.{Headed}
 use Rattle.merge_area.specs.Faults.{no_fault, fits-free, part-below}
-use Rattle.merge_area.specs.Merged.{into-off, lane-range, CanFollow}
+use Rattle.merge_area.specs.Merged.{into-off, lane_range, CanFollow}
 use Rattle.merge_laws.specs.Rows.{Stood}
 
 -- the flags of an area that row 21 doesn't refuse
@@ -66,8 +66,8 @@ depends-parts z a x y h =
 
 -- the dependencies that such flags give
 module _ (z : Sizes) (a : List ℕ) (n : ℕ) (fits : n ≤ z.chunks) (k : Clean a z.chunks n) where
-  depends-from : (x y : ℕ) → depends_in z a x y ≡ true → x < n
-  depends-from x y h = elim (dec_lt x n) [
+  depends_from : (x y : ℕ) → depends_in z a x y ≡ true → x < n
+  depends_from x y h = elim (dec_lt x n) [
     | yes b ↦ b
     | no b ↦
         let p = depends-parts z a x y h in
@@ -77,11 +77,11 @@ module _ (z : Sizes) (a : List ℕ) (n : ℕ) (fits : n ≤ z.chunks) (k : Clean
   depends-to : (x y : ℕ) → depends_in z a x y ≡ true → y < n
   depends-to x y h = elim (dec_lt y n) [
     | yes b ↦ b
-    | no b ↦ let p = depends-parts z a x y h in absurd (p.2 (k.right x y (depends-from x y h) (omega arith) p.1))
+    | no b ↦ let p = depends-parts z a x y h in absurd (p.2 (k.right x y (depends_from x y h) (omega arith) p.1))
   ]
 
-  depends-self : (x : ℕ) → depends_in z a x x ≡ false
-  depends-self x = fails _ (λ h. (depends-parts z a x x h).2 (k.self x (depends-from x x h)))
+  depends_self : (x : ℕ) → depends_in z a x x ≡ false
+  depends_self x = fails _ (λ h. (depends-parts z a x x h).2 (k.self x (depends_from x x h)))
 
   -- the walks' reading of the flags
   pub depends-flag : depends_in z a ≡ flag_edge a z.chunks n
@@ -89,16 +89,16 @@ module _ (z : Sizes) (a : List ℕ) (n : ℕ) (fits : n ≤ z.chunks) (k : Clean
   depends-flag = fun_ext (λ x. fun_ext (λ y. alike _ _ (there x y) (back x y)))
     where
       there : (x y : ℕ) → depends_in z a x y ≡ true → flag_edge a z.chunks n x y ≡ true
-      there x y h = flag_is a z.chunks n x y (depends-from x y h) (depends-to x y h) ∙ and_right (ltb x z.chunks && ltb y z.chunks) _ h
+      there x y h = flag_is a z.chunks n x y (depends_from x y h) (depends-to x y h) ∙ and_right (ltb x z.chunks && ltb y z.chunks) _ h
 
       back : (x y : ℕ) → flag_edge a z.chunks n x y ≡ true → depends_in z a x y ≡ true
       back x y h =
-          let xn = flag-from a z.chunks n x y h in
+          let xn = flag_from a z.chunks n x y h in
           let yn = flag-to a z.chunks n x y h in
           and_both _ _ (and_both _ _ (lt-ltb x z.chunks (omega arith)) (lt-ltb y z.chunks (omega arith))) (sym (flag_is a z.chunks n x y xn yn) ∙ h)
 
-  depends-sound : (g : ℕ) → g ≡ n → Sound (record { initial = cell a (head z 0); made = g; created = cell a (head z 2); depends = depends_in z a; effects = λ x. false; needs = λ x. false; log = mathlib.Core.List.[]; sets = mathlib.Core.List.[]; home = λ m. 0; keys = λ m. 0; mode = false; into = λ m. 0 })
-  depends-sound g e = record { self = depends-self; from = λ x y h. omega (arith, depends-from x y h); to = λ x y h. omega (arith, depends-to x y h) }
+  depends_sound : (g : ℕ) → g ≡ n → Sound (record { initial = cell a (head z 0); made = g; created = cell a (head z 2); depends = depends_in z a; effects = λ x. false; needs = λ x. false; log = mathlib.Core.List.[]; sets = mathlib.Core.List.[]; home = λ m. 0; keys = λ m. 0; mode = false; into = λ m. 0 })
+  depends_sound g e = record { self = depends_self; from = λ x y h. omega (arith, depends_from x y h); to = λ x y h. omega (arith, depends-to x y h) }
 
 -- the parts of `inconsistent`
 module _ (z : Sizes) (a : List ℕ) (s : Stood z a) where
@@ -109,8 +109,8 @@ module _ (z : Sizes) (a : List ℕ) (s : Stood z a) where
   unfolding inconsistent
   after-head = or_false_right (head_fault z a) _ s.consistent
 
-  pub flags-clean : Clean a z.chunks (cell a (head z 1))
-  flags-clean = clean a z.chunks (cell a (head z 1)) H.fits (or_false_left (flags_fault a z.chunks (cell a (head z 1))) _ after-head)
+  pub flags_clean : Clean a z.chunks (cell a (head z 1))
+  flags_clean = clean a z.chunks (cell a (head z 1)) H.fits (or_false_left (flags_fault a z.chunks (cell a (head z 1))) _ after-head)
 
   after-flags : (ltb 0 (index_faults z a) || (merges_fault z a || sets_fault z a (cell a (head z 3)))) ≡ false
   after-flags = or_false_right (flags_fault a z.chunks (cell a (head z 1))) _ after-head
@@ -124,16 +124,16 @@ module _ (z : Sizes) (a : List ℕ) (s : Stood z a) where
   after-merges : sets_fault z a (cell a (head z 3)) ≡ false
   after-merges = or_false_right (merges_fault z a) _ after-index
 
-  pub merges-right : Merges (mode_in z a) (into_in z a) (cell a (head z 1))
+  pub merges_right : Merges (mode_in z a) (into_in z a) (cell a (head z 1))
   unfolding merges_fault
-  merges-right = go (mode_in z a) refl (or_false_left (merges_fault z a) _ after-index)
+  merges_right = go (mode_in z a) refl (or_false_left (merges_fault z a) _ after-index)
     where
       go : (m : Bool) → mode_in z a ≡ m → (m && (ltb 0 (lane_faults z a) || cyclic (merged_into (into_in z a)) (below (cell a (head z 1))))) ≡ false → Merges m (into_in z a) (cell a (head z 1))
       go true e h =
-          let range = lane-range z a e H.fits (omega (arith, ltb-false 0 (lane_faults z a) (or_false_left (ltb 0 (lane_faults z a)) _ h))) in
+          let range = lane_range z a e H.fits (omega (arith, ltb-false 0 (lane_faults z a) (or_false_left (ltb 0 (lane_faults z a)) _ h))) in
           record {
             range = range;
-            no_ring = (acyclic-walk (merged_into (into_in z a)) (below (cell a (head z 1))) (sources-below (λ x y q. (range x (step-take (into_in z a) x y q).0).0))).0 (or_false_right (ltb 0 (lane_faults z a)) _ h);
+            no_ring = (acyclic_walk (merged_into (into_in z a)) (below (cell a (head z 1))) (sources-below (λ x y q. (range x (step-take (into_in z a) x y q).0).0))).0 (or_false_right (ltb 0 (lane_faults z a)) _ h);
             off = λ q. absurd (true≢false q);
           }
       go false e h = record { range = λ x q. absurd (q (into-off z a e x)); no_ring = λ x w. stuck e w; off = λ q x. into-off z a e x }
@@ -145,9 +145,9 @@ module _ (z : Sizes) (a : List ℕ) (s : Stood z a) where
   shifted : (at i : ℕ) → cell a (at + 0 + i) ≡ cell a (at + i)
   shifted at i = ap (cell a) (omega arith)
 
-  pub set-chunk-in : (i : ℕ) → i < cell a (head z 3) → cell a (set_chunk z i) < cell a (head z 1)
+  pub set_chunk_in : (i : ℕ) → i < cell a (head z 3) → cell a (set_chunk z i) < cell a (head z 1)
   unfolding index_faults
-  set-chunk-in i h = omega (arith, part-below a (set_chunk z 0) (cell a (head z 3)) (cell a (head z 1)) (omega (arith, none)) i h, shifted (z.chunks * z.chunks + 32 + 16 * z.chunks) i)
+  set_chunk_in i h = omega (arith, part-below a (set_chunk z 0) (cell a (head z 3)) (cell a (head z 1)) (omega (arith, none)) i h, shifted (z.chunks * z.chunks + 32 + 16 * z.chunks) i)
 
   pub key_in : (i : ℕ) → i < z.chunks → (cell a (key z i) ≡ None → ⊥) → cell a (key z i) < cell a (head z 1)
   unfolding index_faults
@@ -155,29 +155,29 @@ module _ (z : Sizes) (a : List ℕ) (s : Stood z a) where
       let e = shifted (z.chunks * z.chunks + 32 + 20 * z.chunks) i in
       omega (arith, fits-free (cell a (head z 1)) _ (no_fault a (key z 0) z.chunks (cell a (head z 1)) true (omega (arith, none)) i h) (λ q. n (sym e ∙ q)), e)
 
-  pub home-in-range : (i : ℕ) → i < z.modules → (cell a (home z i) ≡ None → ⊥) → cell a (home z i) < cell a (head z 1)
+  pub home_in_range : (i : ℕ) → i < z.modules → (cell a (home z i) ≡ None → ⊥) → cell a (home z i) < cell a (head z 1)
   unfolding index_faults
-  home-in-range i h n =
+  home_in_range i h n =
       let e = shifted (z.chunks * z.chunks + 32 + 32 * z.chunks) i in
       omega (arith, fits-free (cell a (head z 1)) _ (no_fault a (home z 0) z.modules (cell a (head z 1)) true (omega (arith, none)) i h) (λ q. n (sym e ∙ q)), e)
 
-  pub entry-chunk-in : (i : ℕ) → i < cell a (head z 4) → cell a (entry_chunk z i) < cell a (head z 1)
+  pub entry_chunk_in : (i : ℕ) → i < cell a (head z 4) → cell a (entry_chunk z i) < cell a (head z 1)
   unfolding index_faults
-  entry-chunk-in i h =
+  entry_chunk_in i h =
       omega (arith, part-below a (entry_chunk z 0) (cell a (head z 4)) (cell a (head z 1)) (omega (arith, none)) i h, shifted (z.chunks * z.chunks + 32 + 32 * z.chunks + 32 * z.modules) i)
 
-  pub entry-module-in : (i : ℕ) → i < cell a (head z 4) → cell a (entry_module z i) < z.modules
+  pub entry_module_in : (i : ℕ) → i < cell a (head z 4) → cell a (entry_module z i) < z.modules
   unfolding index_faults
-  entry-module-in i h =
+  entry_module_in i h =
       omega (arith, part-below a (entry_module z 0) (cell a (head z 4)) z.modules (omega (arith, none)) i h, shifted (z.chunks * z.chunks + 32 + 32 * z.chunks + 32 * z.modules + z.entries) i)
 
   need-none : (i : ℕ) → i < cell a (head z 0) → cell a (need z i) ≡ 0
   unfolding index_faults
   need-none i h = omega (arith, part-below a (need z 0) (cell a (head z 0)) 1 (omega (arith, none)) i h, shifted (z.chunks * z.chunks + 32 + 19 * z.chunks) i)
 
-  set-in : (i : ℕ) → i < cell a (head z 3) → lanes a (set_place z i) 1 < 2 ^ z.bits
+  set_in : (i : ℕ) → i < cell a (head z 3) → lanes a (set_place z i) 1 < 2 ^ z.bits
   unfolding sets_fault out_of_range
-  set-in i h = ltb-true _ _ (not-false _ (some_none (out_of_range z a) (cell a (head z 3)) (or_false_left (some_below (out_of_range z a) (cell a (head z 3))) _ after-merges) i h))
+  set_in i h = ltb-true _ _ (not-false _ (some_none (out_of_range z a) (cell a (head z 3)) (or_false_left (some_below (out_of_range z a) (cell a (head z 3))) _ after-merges) i h))
 
   set_apart : (i j : ℕ) → i < j → j < cell a (head z 3) → lanes a (set_place z i) 1 ≡ lanes a (set_place z j) 1 → ⊥
   unfolding sets_fault twice came_before
@@ -198,20 +198,20 @@ module _ (z : Sizes) (a : List ℕ) (s : Stood z a) where
         small = H.within.chunks;
         begun = H.begun;
         fits = H.fits;
-        sound = let d = depends-sound z a (cell a (head z 1)) H.fits flags-clean (cell a (head z 1)) refl in record { self = d.self; from = d.from; to = d.to };
+        sound = let d = depends_sound z a (cell a (head z 1)) H.fits flags_clean (cell a (head z 1)) refl in record { self = d.self; from = d.from; to = d.to };
         initial_needs_none = λ x h. fails _ (λ q. eqb-false _ _ (not-true _ (and_right (ltb x z.chunks) _ q)) (need-none x h));
-        homes = ranged (λ m. cell a (home z m)) home-in-range;
+        homes = ranged (λ m. cell a (home z m)) home_in_range;
         keyed = ranged (λ m. cell a (key z m)) key_in;
-        named = λ i h. let b : i < cell a (head z 3) = omega (arith, pairs-length (named_set z a) (cell a (head z 3))) in rw (pairs-at (named_set z a) (cell a (head z 3)) i b) (set-in i b, set-chunk-in i b);
+        named = λ i h. let b : i < cell a (head z 3) = omega (arith, pairs-length (named_set z a) (cell a (head z 3))) in rw (pairs-at (named_set z a) (cell a (head z 3)) i b) (set_in i b, set_chunk_in i b);
         distinct = λ i j l h q.
             let b : j < cell a (head z 3) = omega (arith, pairs-length (named_set z a) (cell a (head z 3))) in
             set_apart i j l b (ap (λ e. e.0) (sym (pairs-at (named_set z a) (cell a (head z 3)) i (omega arith))) ∙ q ∙ ap (λ e. e.0) (pairs-at (named_set z a) (cell a (head z 3)) j b));
         room = omega (arith, pairs-length (named_set z a) (cell a (head z 3)), H.named);
-        logged = λ i h. let b : i < cell a (head z 4) = omega (arith, pairs-length (entry z a) (cell a (head z 4))) in rw (pairs-at (entry z a) (cell a (head z 4)) i b) (entry-chunk-in i b, entry-module-in i b);
+        logged = λ i h. let b : i < cell a (head z 4) = omega (arith, pairs-length (entry z a) (cell a (head z 4))) in rw (pairs-at (entry z a) (cell a (head z 4)) i b) (entry_chunk_in i b, entry_module_in i b);
         used = omega (arith, pairs-length (entry z a) (cell a (head z 4)), H.used);
-        merges = merges-right;
+        merges = merges_right;
       }
 
   -- the merges can be followed
   pub follows : {n : ℕ} → mode_in z a ≡ true → n ≡ cell a (head z 1) → CanFollow z a n
-  follows {n} m e = record { within = H.within; long = H.long; few = omega (arith, H.fits, e); on = m; range = rw e merges-right.range }
+  follows {n} m e = record { within = H.within; long = H.long; few = omega (arith, H.fits, e); on = m; range = rw e merges_right.range }

@@ -104,16 +104,16 @@ turned-free (suc n) g r h = absurd (omega arith)
 
 module _ (z : Sizes) (a : List ℕ) (c : Call) where
   -- a refused call
-  pub refused-called : {q : ℕ} {r : Answer} {b : List ℕ} → q ≡ refusal z a c → (q ≡ 0 → ⊥) → r ≡ refused q → b ≡ a → Called z a c r b
+  pub refused_called : {q : ℕ} {r : Answer} {b : List ℕ} → q ≡ refusal z a c → (q ≡ 0 → ⊥) → r ≡ refused q → b ≡ a → Called z a c r b
   unfolding step
-  refused-called {q} e h p s =
+  refused_called {q} e h p s =
       let t = turned_refused (refusal z a c) a ((acted z (read z a) c).0, write z a c) (λ k. h (e ∙ k)) in
       record { answer = p ∙ ap refused e ∙ sym (ap (λ x. x.0) t); area = s ∙ sym (ap (λ x. x.1) t) }
 
   -- one that isn't
-  pub acted-called : {q : ℕ} {r : Answer} {b : List ℕ} → q ≡ refusal z a c → q ≡ 0 → r ≡ (acted z (read z a) c).0 → b ≡ write z a c → Called z a c r b
+  pub acted_called : {q : ℕ} {r : Answer} {b : List ℕ} → q ≡ refusal z a c → q ≡ 0 → r ≡ (acted z (read z a) c).0 → b ≡ write z a c → Called z a c r b
   unfolding step
-  acted-called e h p s =
+  acted_called e h p s =
       let t = turned-free (refusal z a c) a ((acted z (read z a) c).0, write z a c) (sym e ∙ h) in
       record { answer = p ∙ sym (ap (λ x. x.0) t); area = s ∙ sym (ap (λ x. x.1) t) }
 

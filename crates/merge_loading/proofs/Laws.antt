@@ -57,29 +57,29 @@ module _ (z : Sizes) (i : ℕ) (starts : List ℕ) (d flat pairs effects w : ℕ
   pub lists-sets : (flat ≡ pairs * w → ⊥) → true ≡ lists
   lists-sets h = sym (or_right (bad_starts i starts d) _ (or_left (not (eqb flat (pairs * width z.bits))) _ (ap not (ne_eqb _ _ (λ e. h (e ∙ ap (λ v. pairs * v) (sym wide)))))))
 
-  pub lists-effects : bad_starts i starts d ≡ false → flat ≡ pairs * w → not (eqb effects z.modules) ≡ lists
-  lists-effects b h = rw (b, eq-eqb flat (pairs * width z.bits) (h ∙ ap (λ v. pairs * v) wide))
+  pub lists_effects : bad_starts i starts d ≡ false → flat ≡ pairs * w → not (eqb effects z.modules) ≡ lists
+  lists_effects b h = rw (b, eq-eqb flat (pairs * width z.bits) (h ∙ ap (λ v. pairs * v) wide))
 
 -- those of row 16
 module _ (z : Sizes) (i : ℕ) (modules flat chunks : List ℕ) where
-  abbrev odd-module : Bool
-  odd-module = any_misfit z.modules false modules
+  abbrev odd_module : Bool
+  odd_module = any_misfit z.modules false modules
 
   abbrev illegal : ℕ → Bool
   illegal w = some_below (λ j. not (legal z.bits (set_at w flat j))) (length chunks)
 
-  pub index-module : odd-module ≡ true → true ≡ bad_index z i modules flat chunks
+  pub index_module : odd_module ≡ true → true ≡ bad_index z i modules flat chunks
   unfolding bad_index
-  index-module h = sym (or_left odd-module _ h)
+  index_module h = sym (or_left odd_module _ h)
 
   module _ (w : ℕ) (wide : w ≡ width z.bits) where
     pub index-set : illegal w ≡ true → true ≡ bad_index z i modules flat chunks
     unfolding bad_index
-    index-set h = sym (or_right odd-module _ (or_left (illegal (width z.bits)) _ (sym (ap illegal wide) ∙ h)))
+    index-set h = sym (or_right odd_module _ (or_left (illegal (width z.bits)) _ (sym (ap illegal wide) ∙ h)))
 
-    pub index-chunk : {r : Bool} → odd-module ≡ false → illegal w ≡ false → r ≡ any_misfit i false chunks → r ≡ bad_index z i modules flat chunks
+    pub index_chunk : {r : Bool} → odd_module ≡ false → illegal w ≡ false → r ≡ any_misfit i false chunks → r ≡ bad_index z i modules flat chunks
     unfolding bad_index
-    index-chunk a b e = let k : illegal (width z.bits) ≡ false = sym (ap illegal wide) ∙ b in e ∙ (rw (a, k))
+    index_chunk a b e = let k : illegal (width z.bits) ≡ false = sym (ap illegal wide) ∙ b in e ∙ (rw (a, k))
 
 -- the rows 16, 17 and 19
 three : (a b c a' b' c' : Bool) → a ≡ a' → b ≡ b' → c ≡ c' → first_fitting ((a, 16) ∷ (b, 17) ∷ (c, 19) ∷ []) ≡ first_fitting ((a', 16) ∷ (b', 17) ∷ (c', 19) ∷ [])
@@ -93,25 +93,25 @@ later_is z i modules flat chunks w wide a b e = e ∙ three _ _ _ _ _ _ a (b ∙
 
 -- what row 14 and 15 say of the lists
 module _ (z : Sizes) (i : ℕ) (starts modules flat chunks effects : List ℕ) where
-  pub many-initial : z.chunks < i → over_load z (lent i starts modules flat chunks effects 0) ≡ true
+  pub many_initial : z.chunks < i → over_load z (lent i starts modules flat chunks effects 0) ≡ true
   unfolding over_load
-  many-initial h = or_left (ltb z.chunks i) _ (lt-ltb _ _ h)
+  many_initial h = or_left (ltb z.chunks i) _ (lt-ltb _ _ h)
 
-  pub many-pairs : z.chunks < length chunks → over_load z (lent i starts modules flat chunks effects 0) ≡ true
+  pub many_pairs : z.chunks < length chunks → over_load z (lent i starts modules flat chunks effects 0) ≡ true
   unfolding over_load
-  many-pairs h = or_right (ltb z.chunks i) _ (lt-ltb _ _ h)
+  many_pairs h = or_right (ltb z.chunks i) _ (lt-ltb _ _ h)
 
-  pub few-both : i ≤ z.chunks → length chunks ≤ z.chunks → over_load z (lent i starts modules flat chunks effects 0) ≡ false
+  pub few_both : i ≤ z.chunks → length chunks ≤ z.chunks → over_load z (lent i starts modules flat chunks effects 0) ≡ false
   unfolding over_load
-  few-both h k = or_false (ltb z.chunks i) _ (le-ltb _ _ h) (le-ltb _ _ k)
+  few_both h k = or_false (ltb z.chunks i) _ (le-ltb _ _ h) (le-ltb _ _ k)
 
-  pub bad-same : {r : Bool} → r ≡ (bad_starts i starts (length modules) || (not (eqb (length flat) (length chunks * width z.bits)) || not (eqb (length effects) z.modules))) → r ≡ bad_load z (lent i starts modules flat chunks effects 0)
+  pub bad_same : {r : Bool} → r ≡ (bad_starts i starts (length modules) || (not (eqb (length flat) (length chunks * width z.bits)) || not (eqb (length effects) z.modules))) → r ≡ bad_load z (lent i starts modules flat chunks effects 0)
   unfolding bad_load
-  bad-same h = h
+  bad_same h = h
 
-  pub bad-full : bad_load z (lent i starts modules flat chunks effects 0) ≡ false → length flat ≡ length chunks * width z.bits
+  pub bad_full : bad_load z (lent i starts modules flat chunks effects 0) ≡ false → length flat ≡ length chunks * width z.bits
   unfolding bad_load
-  bad-full h = eqb-true _ _ (not-false _ (or_false_left (not (eqb (length flat) (length chunks * width z.bits))) _ (or_false_right (bad_starts i starts (length modules)) _ h)))
+  bad_full h = eqb-true _ _ (not-false _ (or_false_left (not (eqb (length flat) (length chunks * width z.bits))) _ (or_false_right (bad_starts i starts (length modules)) _ h)))
 
   -- the later rows read neither starts nor side effects
   pub later_same : {q : ℕ} → q ≡ first_fitting (later_load z (lent i [] modules flat chunks [] 0)) → q ≡ first_fitting (later_load z (lent i starts modules flat chunks effects 0))

@@ -29,18 +29,18 @@ module _ (z : Sizes) (m : ℕ) (a : List ℕ) where
   abbrev unmerged : List ℕ
   unmerged = patch (into z 0) (replicate z.chunks None) a
 
-  pub mode-long : length (mode_area z m a) ≡ length a
+  pub mode_long : length (mode_area z m a) ≡ length a
   unfolding mode_area
-  mode-long = rw length-set (patch_long (into z 0) (replicate z.chunks None) a)
+  mode_long = rw length-set (patch_long (into z 0) (replicate z.chunks None) a)
 
   module _ (long : room z ≤ length a) where
-    pub mode-head : cell (mode_area z m a) (head z 5) ≡ ind (state.yes m)
+    pub mode_head : cell (mode_area z m a) (head z 5) ≡ ind (state.yes m)
     unfolding mode_area
-    mode-head = get_or-set_same unmerged (head z 5) (ind (state.yes m)) 0 (omega (arith, patch_long (into z 0) (replicate z.chunks None) a))
+    mode_head = get_or-set_same unmerged (head z 5) (ind (state.yes m)) 0 (omega (arith, patch_long (into z 0) (replicate z.chunks None) a))
 
-    pub mode-into : (x : ℕ) → x < z.chunks → cell (mode_area z m a) (into z x) ≡ None
+    pub mode_into : (x : ℕ) → x < z.chunks → cell (mode_area z m a) (into z x) ≡ None
     unfolding mode_area
-    mode-into x h =
+    mode_into x h =
         let e : into z x ≡ into z 0 + x = omega arith in
         get_or-set_other unmerged (head z 5) (into z x) (ind (state.yes m)) 0 (omega arith) ∙ ap (cell unmerged) e
         ∙ patch_in (into z 0) (replicate z.chunks None) a x (rw length-replicate h) (omega arith) ∙ get_or-replicate {A = ℕ} z.chunks x None 0 h
@@ -59,25 +59,25 @@ module _ (z : Sizes) (i : ℕ) (a : List ℕ) where
   flags_long : length flags ≡ length a
   flags_long = patch_long 0 (replicate (z.chunks * z.chunks) 0) a
 
-  sides-long : length sides ≡ length a
-  sides-long = patch_long (side z 0) (replicate (2 * z.chunks) 0) flags ∙ flags_long
+  sides_long : length sides ≡ length a
+  sides_long = patch_long (side z 0) (replicate (2 * z.chunks) 0) flags ∙ flags_long
 
-  keys-long : length keys ≡ length a
-  keys-long = patch_long (key z 0) (tab (first_key i) z.chunks) sides ∙ sides-long
+  keys_long : length keys ≡ length a
+  keys_long = patch_long (key z 0) (tab (first_key i) z.chunks) sides ∙ sides_long
 
-  pub cleared-long : length (cleared_area z i a) ≡ length a
+  pub cleared_long : length (cleared_area z i a) ≡ length a
   unfolding cleared_area
-  cleared-long = patch_long (home z 0) (replicate z.modules None) keys ∙ keys-long
+  cleared_long = patch_long (home z 0) (replicate z.modules None) keys ∙ keys_long
 
   module _ (long : room z ≤ length a) where
     -- before the modules' chunks
     low : (k : ℕ) → k < home z 0 → cell (cleared_area z i a) k ≡ cell keys k
     unfolding cleared_area
-    low k h = patch-out (home z 0) (replicate z.modules None) keys k (omega (arith, keys-long)) (λ b. absurd (omega arith))
+    low k h = patch-out (home z 0) (replicate z.modules None) keys k (omega (arith, keys_long)) (λ b. absurd (omega arith))
 
     -- before the keys
     lower : (k : ℕ) → k < key z 0 → cell (cleared_area z i a) k ≡ cell sides k
-    lower k h = low k (omega arith) ∙ patch-out (key z 0) (tab (first_key i) z.chunks) sides k (omega (arith, sides-long)) (λ b. absurd (omega arith))
+    lower k h = low k (omega arith) ∙ patch-out (key z 0) (tab (first_key i) z.chunks) sides k (omega (arith, sides_long)) (λ b. absurd (omega arith))
 
     -- header and merges aren't cleared
     pub cleared-head : (k : ℕ) → k < 32 → cell (cleared_area z i a) (head z k) ≡ cell a (head z k)
@@ -87,7 +87,7 @@ module _ (z : Sizes) (i : ℕ) (a : List ℕ) where
 
     pub cleared-into : (x : ℕ) → x < z.chunks → cell (cleared_area z i a) (into z x) ≡ cell a (into z x)
     cleared-into x h =
-        low (into z x) (omega arith) ∙ patch-out (key z 0) (tab (first_key i) z.chunks) sides (into z x) (omega (arith, sides-long)) (λ b. rw tab-length (omega arith))
+        low (into z x) (omega arith) ∙ patch-out (key z 0) (tab (first_key i) z.chunks) sides (into z x) (omega (arith, sides_long)) (λ b. rw tab-length (omega arith))
         ∙ patch-out (side z 0) (replicate (2 * z.chunks) 0) flags (into z x) (omega (arith, flags_long)) (λ b. rw length-replicate (omega arith))
         ∙ patch-out 0 (replicate (z.chunks * z.chunks) 0) a (into z x) (omega arith) (λ b. rw length-replicate (omega arith))
 
@@ -109,13 +109,13 @@ module _ (z : Sizes) (i : ℕ) (a : List ℕ) where
     cleared-key k h =
         let e : key z k ≡ key z 0 + k = omega arith in
         low (key z k) (omega arith) ∙ ap (cell keys) e
-        ∙ patch_in (key z 0) (tab (first_key i) z.chunks) sides k (rw tab-length h) (omega (arith, sides-long)) ∙ tab-at (first_key i) z.chunks k h
+        ∙ patch_in (key z 0) (tab (first_key i) z.chunks) sides k (rw tab-length h) (omega (arith, sides_long)) ∙ tab-at (first_key i) z.chunks k h
 
     pub cleared-home : (m : ℕ) → m < z.modules → cell (cleared_area z i a) (home z m) ≡ None
     unfolding cleared_area
     cleared-home m h =
         let e : home z m ≡ home z 0 + m = omega arith in
-        ap (cell (cleared_area z i a)) e ∙ patch_in (home z 0) (replicate z.modules None) keys m (rw length-replicate h) (omega (arith, keys-long)) ∙ get_or-replicate {A = ℕ} z.modules m None 0 h
+        ap (cell (cleared_area z i a)) e ∙ patch_in (home z 0) (replicate z.modules None) keys m (rw length-replicate h) (omega (arith, keys_long)) ∙ get_or-replicate {A = ℕ} z.modules m None 0 h
 
 -- the header
 module _ (z : Sizes) (i p : ℕ) (a : List ℕ) where
@@ -131,41 +131,41 @@ module _ (z : Sizes) (i p : ℕ) (a : List ℕ) where
   abbrev h₃ : List ℕ
   h₃ = set h₂ (head z 3) p
 
-  pub headed-long : length (headed_area z i p a) ≡ length a
+  pub headed_long : length (headed_area z i p a) ≡ length a
   unfolding headed_area
-  headed-long = simp length-set
+  headed_long = simp length-set
 
-  pub headed-far : (k : ℕ) → ((j : ℕ) → j < 5 → k ≡ head z j → ⊥) → cell (headed_area z i p a) k ≡ cell a k
+  pub headed_far : (k : ℕ) → ((j : ℕ) → j < 5 → k ≡ head z j → ⊥) → cell (headed_area z i p a) k ≡ cell a k
   unfolding headed_area
-  headed-far k h =
+  headed_far k h =
       get_or-set_other h₃ (head z 4) k 0 0 (h 4 (omega arith)) ∙ get_or-set_other h₂ (head z 3) k p 0 (h 3 (omega arith)) ∙ get_or-set_other h₁ (head z 2) k 0 0 (h 2 (omega arith))
       ∙ get_or-set_other h₀ (head z 1) k i 0 (h 1 (omega arith)) ∙ get_or-set_other a (head z 0) k i 0 (h 0 (omega arith))
 
   module _ (long : room z ≤ length a) where
-    pub headed-initial : cell (headed_area z i p a) (head z 0) ≡ i
+    pub headed_initial : cell (headed_area z i p a) (head z 0) ≡ i
     unfolding headed_area
-    headed-initial =
+    headed_initial =
         get_or-set_other h₃ (head z 4) (head z 0) 0 0 (omega arith) ∙ get_or-set_other h₂ (head z 3) (head z 0) p 0 (omega arith) ∙ get_or-set_other h₁ (head z 2) (head z 0) 0 0 (omega arith)
         ∙ get_or-set_other h₀ (head z 1) (head z 0) i 0 (omega arith) ∙ get_or-set_same a (head z 0) i 0 (omega arith)
 
-    pub headed-made : cell (headed_area z i p a) (head z 1) ≡ i
+    pub headed_made : cell (headed_area z i p a) (head z 1) ≡ i
     unfolding headed_area
-    headed-made =
+    headed_made =
         get_or-set_other h₃ (head z 4) (head z 1) 0 0 (omega arith) ∙ get_or-set_other h₂ (head z 3) (head z 1) p 0 (omega arith) ∙ get_or-set_other h₁ (head z 2) (head z 1) 0 0 (omega arith)
         ∙ get_or-set_same h₀ (head z 1) i 0 (simp length-set (omega arith))
 
-    pub headed-created : cell (headed_area z i p a) (head z 2) ≡ 0
+    pub headed_created : cell (headed_area z i p a) (head z 2) ≡ 0
     unfolding headed_area
-    headed-created =
+    headed_created =
         get_or-set_other h₃ (head z 4) (head z 2) 0 0 (omega arith) ∙ get_or-set_other h₂ (head z 3) (head z 2) p 0 (omega arith) ∙ get_or-set_same h₁ (head z 2) 0 0 (simp length-set (omega arith))
 
-    pub headed-sets : cell (headed_area z i p a) (head z 3) ≡ p
+    pub headed_sets : cell (headed_area z i p a) (head z 3) ≡ p
     unfolding headed_area
-    headed-sets = get_or-set_other h₃ (head z 4) (head z 3) 0 0 (omega arith) ∙ get_or-set_same h₂ (head z 3) p 0 (simp length-set (omega arith))
+    headed_sets = get_or-set_other h₃ (head z 4) (head z 3) 0 0 (omega arith) ∙ get_or-set_same h₂ (head z 3) p 0 (simp length-set (omega arith))
 
-    pub headed-used : cell (headed_area z i p a) (head z 4) ≡ 0
+    pub headed_used : cell (headed_area z i p a) (head z 4) ≡ 0
     unfolding headed_area
-    headed-used = get_or-set_same h₃ (head z 4) 0 0 (simp length-set (omega arith))
+    headed_used = get_or-set_same h₃ (head z 4) 0 0 (simp length-set (omega arith))
 
 -- the sets of the pairs, and their chunks
 module _ (z : Sizes) (flat chunks a : List ℕ) where
@@ -175,13 +175,13 @@ module _ (z : Sizes) (flat chunks a : List ℕ) where
   abbrev laid : ℕ → List ℕ
   laid k = set_lanes (named_area z flat chunks a k) (set_place z k) 1 (nth k)
 
-  laid-long : (k : ℕ) → length (laid k) ≡ length (named_area z flat chunks a k)
-  laid-long k = length-set_strided (named_area z flat chunks a k) (set_place z k) 1 (parts 32 8 (nth k))
+  laid_long : (k : ℕ) → length (laid k) ≡ length (named_area z flat chunks a k)
+  laid_long k = length-set_strided (named_area z flat chunks a k) (set_place z k) 1 (parts 32 8 (nth k))
 
-  pub named-long : (k : ℕ) → length (named_area z flat chunks a k) ≡ length a
+  pub named_long : (k : ℕ) → length (named_area z flat chunks a k) ≡ length a
   unfolding named_area
-  named-long zero = refl
-  named-long (suc k) = length-set (laid k) (set_chunk z k) (get_or chunks k 0) ∙ laid-long k ∙ named-long k
+  named_long zero = refl
+  named_long (suc k) = length-set (laid k) (set_chunk z k) (get_or chunks k 0) ∙ laid_long k ∙ named_long k
 
   -- one pair more leaves the numbers that aren't its own
   other : (k j : ℕ) → ((x : ℕ) → x < 8 → j ≡ set_place z k + x * 1 → ⊥) → (j ≡ set_chunk z k → ⊥) → cell (named_area z flat chunks a (suc k)) j ≡ cell (named_area z flat chunks a k) j
@@ -190,19 +190,19 @@ module _ (z : Sizes) (flat chunks a : List ℕ) where
       get_or-set_other (laid k) (set_chunk z k) j (get_or chunks k 0) 0 q
       ∙ set_strided-other (named_area z flat chunks a k) (set_place z k) 1 (parts 32 8 (nth k)) j (λ x h. p x (omega (arith, h, length-parts 32 8 (nth k))))
 
-  pub named-far : (k j : ℕ) → k ≤ 2 * z.chunks → (z.chunks * z.chunks + 32 ≤ j → z.chunks * z.chunks + 32 + 18 * z.chunks ≤ j) → cell (named_area z flat chunks a k) j ≡ cell a j
+  pub named_far : (k j : ℕ) → k ≤ 2 * z.chunks → (z.chunks * z.chunks + 32 ≤ j → z.chunks * z.chunks + 32 + 18 * z.chunks ≤ j) → cell (named_area z flat chunks a k) j ≡ cell a j
   unfolding named_area
-  named-far zero j h f = refl
-  named-far (suc k) j h f =
-      other k j (λ x b e. let g = f (omega arith) in omega arith) (λ e. let g = f (omega arith) in omega arith) ∙ named-far k j (omega arith) f
+  named_far zero j h f = refl
+  named_far (suc k) j h f =
+      other k j (λ x b e. let g = f (omega arith) in omega arith) (λ e. let g = f (omega arith) in omega arith) ∙ named_far k j (omega arith) f
 
   module _ (long : room z ≤ length a) where
-    pub named-chunk : (k i : ℕ) → k ≤ 2 * z.chunks → i < k → cell (named_area z flat chunks a k) (set_chunk z i) ≡ get_or chunks i 0
+    pub named_chunk : (k i : ℕ) → k ≤ 2 * z.chunks → i < k → cell (named_area z flat chunks a k) (set_chunk z i) ≡ get_or chunks i 0
     unfolding named_area
-    named-chunk zero i h b = absurd (omega arith)
-    named-chunk (suc k) i h b = elim (ℕ_discrete i k) [
-      | yes q ↦ rw q (get_or-set_same (laid k) (set_chunk z k) (get_or chunks k 0) 0 (omega (arith, laid-long k, named-long k)))
-      | no q ↦ other k (set_chunk z i) (λ x c e. omega arith) (λ e. omega arith) ∙ named-chunk k i (omega arith) (omega arith)
+    named_chunk zero i h b = absurd (omega arith)
+    named_chunk (suc k) i h b = elim (ℕ_discrete i k) [
+      | yes q ↦ rw q (get_or-set_same (laid k) (set_chunk z k) (get_or chunks k 0) 0 (omega (arith, laid_long k, named_long k)))
+      | no q ↦ other k (set_chunk z i) (λ x c e. omega arith) (λ e. omega arith) ∙ named_chunk k i (omega arith) (omega arith)
     ]
 
     pub named_value : (k i : ℕ) → k ≤ 2 * z.chunks → ((j : ℕ) → j < k → nth j < 2 ^ 256) → i < k → lanes (named_area z flat chunks a k) (set_place z i) 1 ≡ nth i
@@ -210,7 +210,7 @@ module _ (z : Sizes) (flat chunks a : List ℕ) where
     named_value zero i h s b = absurd (omega arith)
     named_value (suc k) i h s b = elim (ℕ_discrete i k) [
       | yes q ↦ rw q (lanes-same (named_area z flat chunks a (suc k)) (laid k) (set_place z k) 1 (λ x c. get_or-set_other (laid k) (set_chunk z k) (set_place z k + x * 1) (get_or chunks k 0) 0 (λ e. omega arith))
-          ∙ lanes-set (named_area z flat chunks a k) (set_place z k) 1 (nth k) (omega arith) (omega (arith, named-long k)) (s k (omega arith)))
+          ∙ lanes-set (named_area z flat chunks a k) (set_place z k) 1 (nth k) (omega arith) (omega (arith, named_long k)) (s k (omega arith)))
       | no q ↦ lanes-same (named_area z flat chunks a (suc k)) (named_area z flat chunks a k) (set_place z i) 1 (λ x c. other k (set_place z i + x * 1) (λ y d e. omega arith) (λ e. omega arith))
           ∙ named_value k i (omega arith) (λ j c. s j (omega arith)) (omega arith)
     ]
@@ -228,17 +228,17 @@ pub record Named (z : Sizes) (flat chunks a₀ : List ℕ) (k : ℕ) (a : List �
   pub area : a ≡ named_area z flat chunks a₀ k
 
 module _ {z : Sizes} {flat chunks a₀ : List ℕ} where
-  pub name-none : Named z flat chunks a₀ 0 a₀
+  pub name_none : Named z flat chunks a₀ 0 a₀
   unfolding named_area
-  name-none = record { most = omega arith; area = refl }
+  name_none = record { most = omega arith; area = refl }
 
   module _ {k : ℕ} {a : List ℕ} (n : Named z flat chunks a₀ k a) where
-    pub name-long : length a ≡ length a₀
-    name-long = ap length n.area ∙ named-long z flat chunks a₀ k
+    pub name_long : length a ≡ length a₀
+    name_long = ap length n.area ∙ named_long z flat chunks a₀ k
 
-    pub name-more : {v : ℕ} {b : List ℕ} → k < length chunks → v ≡ value (set_at (width z.bits) flat k) → b ≡ set (set_lanes a (set_place z k) 1 v) (set_chunk z k) (get_or chunks k 0) → Named z flat chunks a₀ (k + 1) b
+    pub name_more : {v : ℕ} {b : List ℕ} → k < length chunks → v ≡ value (set_at (width z.bits) flat k) → b ≡ set (set_lanes a (set_place z k) 1 v) (set_chunk z k) (get_or chunks k 0) → Named z flat chunks a₀ (k + 1) b
     unfolding named_area
-    name-more {v} {b} h e q = record {
+    name_more {v} {b} h e q = record {
       most = omega arith;
       area = rw add-one (q ∙ ap (λ u. set (set_lanes u (set_place z k) 1 v) (set_chunk z k) (get_or chunks k 0)) n.area
           ∙ ap (λ u. set (set_lanes (named_area z flat chunks a₀ k) (set_place z k) 1 u) (set_chunk z k) (get_or chunks k 0)) e);
@@ -252,17 +252,17 @@ module _ (z : Sizes) (i : ℕ) (flat chunks a : List ℕ) (few : length chunks �
   abbrev base : List ℕ
   base = headed_area z i (length chunks) (cleared_area z i a)
 
-  pub base-long : length base ≡ length a
-  base-long = headed-long z i (length chunks) (cleared_area z i a) ∙ cleared-long z i a
+  pub base_long : length base ≡ length a
+  base_long = headed_long z i (length chunks) (cleared_area z i a) ∙ cleared_long z i a
 
-  pub bare-long : length (bare_area z i flat chunks a) ≡ length a
+  pub bare_long : length (bare_area z i flat chunks a) ≡ length a
   unfolding bare_area
-  bare-long = named-long z flat chunks base (length chunks) ∙ base-long
+  bare_long = named_long z flat chunks base (length chunks) ∙ base_long
 
   -- a number that no pair's place is
-  pub bare-far : (j : ℕ) → (z.chunks * z.chunks + 32 ≤ j → z.chunks * z.chunks + 32 + 18 * z.chunks ≤ j) → cell (bare_area z i flat chunks a) j ≡ cell base j
+  pub bare_far : (j : ℕ) → (z.chunks * z.chunks + 32 ≤ j → z.chunks * z.chunks + 32 + 18 * z.chunks ≤ j) → cell (bare_area z i flat chunks a) j ≡ cell base j
   unfolding bare_area
-  bare-far j f = named-far z flat chunks base (length chunks) j (omega arith) f
+  bare_far j f = named_far z flat chunks base (length chunks) j (omega arith) f
 
   pub bare-used : room z ≤ length a → cell (bare_area z i flat chunks a) (head z 4) ≡ 0
-  bare-used long = bare-far (head z 4) (λ h. absurd (omega arith)) ∙ headed-used z i (length chunks) (cleared_area z i a) (omega (arith, cleared-long z i a))
+  bare-used long = bare_far (head z 4) (λ h. absurd (omega arith)) ∙ headed_used z i (length chunks) (cleared_area z i a) (omega (arith, cleared_long z i a))

@@ -17,7 +17,7 @@ use Rattle.merge_area.specs.Layout.{room, cell, head}
 use Rattle.merge_area.specs.Writes.{append_area}
 use Rattle.merge_area.specs.Within.{Within}
 use Rattle.merge_laws.specs.Can.{CanAppend}
-use Rattle.merge_reads.specs.Reads.{append-length, append-used}
+use Rattle.merge_reads.specs.Reads.{append_length, append_used}
 use Rattle.merge_loading.specs.Loading.{listed_area}
 
 -- the lists of the chunks below x end at or before k
@@ -55,8 +55,8 @@ all_yes p (suc x) h = rw (all_yes p x (λ y b. h y (omega arith)), h x (omega ar
 
 module _ {starts : List ℕ} {n k : ℕ} {x : ℕ} (can : CanSeek starts n x k) where
   -- a list is left
-  pub seek-in : x < n
-  seek-in = go n refl
+  pub seek_in : x < n
+  seek_in = go n refl
     where
       go : (m : ℕ) → m ≡ n → x < n
       go zero e = absurd (omega (arith, can.within, can.begin, ap (λ i. get_or starts i 0) e))
@@ -70,16 +70,16 @@ module _ {starts : List ℕ} {n k : ℕ} {x : ℕ} (can : CanSeek starts n x k) 
   up (suc j) h = omega (arith, up j (omega arith), can.rising (x + j + 1) (omega arith), ap (λ i. get_or starts i 0) (let q : x + j + 1 + 1 ≡ x + suc j + 1 = omega arith in q))
 
   -- the list of x ends at or before k
-  pub seek-more : get_or starts (x + 1) 0 ≤ k → CanSeek starts n (x + 1) k
-  seek-more h = record { count = can.count; begin = can.begin; rising = can.rising; within = can.within; passed = passed-more starts n k can.passed h }
+  pub seek_more : get_or starts (x + 1) 0 ≤ k → CanSeek starts n (x + 1) k
+  seek_more h = record { count = can.count; begin = can.begin; rising = can.rising; within = can.within; passed = passed-more starts n k can.passed h }
 
   -- it ends beyond k
-  pub seek-done : k < get_or starts (x + 1) 0 → Sought starts n k x
+  pub seek_done : k < get_or starts (x + 1) 0 → Sought starts n k x
   unfolding lister
-  seek-done h =
+  seek_done h =
       record {
         is = sym (ap (count p) whole ∙ count_add p x (n - x) ∙ omega (arith, all_yes p x before, count-all_no (λ j. p (x + j)) (n - x) after));
-        below = seek-in;
+        below = seek_in;
         passed = can.passed;
       }
     where
@@ -87,7 +87,7 @@ module _ {starts : List ℕ} {n k : ℕ} {x : ℕ} (can : CanSeek starts n x k) 
       p y = leb (get_or starts (y + 1) 0) k
 
       whole : n ≡ x + (n - x)
-      whole = omega (arith, seek-in)
+      whole = omega (arith, seek_in)
 
       before : (y : ℕ) → y < x → p y ≡ true
       before y b = le-leb (get_or starts (y + 1) 0) k (can.passed y b)
@@ -100,16 +100,16 @@ module _ (z : Sizes) (i : ℕ) (starts modules effects a : List ℕ) where
   abbrev listed : ℕ → List ℕ
   listed = listed_area z i starts modules effects a
 
-  pub listed-long : (k : ℕ) → length (listed k) ≡ length a
+  pub listed_long : (k : ℕ) → length (listed k) ≡ length a
   unfolding listed_area
-  listed-long zero = refl
-  listed-long (suc k) = append-length z (listed k) (lister starts i k) (get_or modules k 0) (flag effects (get_or modules k 0)) ∙ listed-long k
+  listed_long zero = refl
+  listed_long (suc k) = append_length z (listed k) (lister starts i k) (get_or modules k 0) (flag effects (get_or modules k 0)) ∙ listed_long k
 
   pub listed-used : (k : ℕ) → room z ≤ length a → cell (listed k) (head z 4) ≡ cell a (head z 4) + k
   unfolding listed_area
   listed-used zero long = omega arith
   listed-used (suc k) long =
-      omega (arith, append-used z (listed k) (lister starts i k) (get_or modules k 0) (flag effects (get_or modules k 0)) (omega (arith, listed-long k)), listed-used k long)
+      omega (arith, append_used z (listed k) (lister starts i k) (get_or modules k 0) (flag effects (get_or modules k 0)) (omega (arith, listed_long k)), listed-used k long)
 
 -- every entry of the module list can be listed
 pub record CanList (z : Sizes) (i : ℕ) (starts modules effects a : List ℕ) : Type 0 where
@@ -137,28 +137,28 @@ module _ {z : Sizes} {i : ℕ} {starts modules effects a₀ : List ℕ} (can : C
   listed-none = record { most = omega arith; passed = passed_none starts i 0; area = refl }
 
   -- entry k can be listed with its chunk
-  pub entry-can : {r : ℕ} (k : ℕ) → k < length modules → r < i → CanAppend z (listed_area z i starts modules effects a₀ k) r (get_or modules k 0)
-  entry-can k h b = record {
+  pub entry_can : {r : ℕ} (k : ℕ) → k < length modules → r < i → CanAppend z (listed_area z i starts modules effects a₀ k) r (get_or modules k 0)
+  entry_can k h b = record {
     within = can.within;
-    long = omega (arith, can.long, listed-long z i starts modules effects a₀ k);
+    long = omega (arith, can.long, listed_long z i starts modules effects a₀ k);
     chunk = omega (arith, can.few);
     listed = can.listed k h;
     left = omega (arith, listed-used z i starts modules effects a₀ k can.long, can.empty, can.room);
   }
 
   module _ {x k : ℕ} {a : List ℕ} (l : Listed z i starts modules effects a₀ x k a) where
-    pub list-long : length a ≡ length a₀
-    list-long = ap length l.area ∙ listed-long z i starts modules effects a₀ k
+    pub list_long : length a ≡ length a₀
+    list_long = ap length l.area ∙ listed_long z i starts modules effects a₀ k
 
-    pub list-seek : k < length modules → CanSeek starts i x k
-    list-seek h = record { count = can.count; begin = can.begin; rising = can.rising; within = omega (arith, can.end); passed = l.passed }
+    pub list_seek : k < length modules → CanSeek starts i x k
+    list_seek h = record { count = can.count; begin = can.begin; rising = can.rising; within = omega (arith, can.end); passed = l.passed }
 
-    pub list-can : {r : ℕ} → k < length modules → Sought starts i k r → CanAppend z a r (get_or modules k 0)
-    list-can h s = rw l.area (entry-can k h s.below)
+    pub list_can : {r : ℕ} → k < length modules → Sought starts i k r → CanAppend z a r (get_or modules k 0)
+    list_can h s = rw l.area (entry_can k h s.below)
 
-    pub list-more : {r : ℕ} {b : List ℕ} → Sought starts i k r → k < length modules → b ≡ append_area z a r (get_or modules k 0) (flag effects (get_or modules k 0)) → Listed z i starts modules effects a₀ r (k + 1) b
+    pub list_more : {r : ℕ} {b : List ℕ} → Sought starts i k r → k < length modules → b ≡ append_area z a r (get_or modules k 0) (flag effects (get_or modules k 0)) → Listed z i starts modules effects a₀ r (k + 1) b
     unfolding listed_area
-    list-more {r} {b} s h q = record {
+    list_more {r} {b} s h q = record {
       most = omega arith;
       passed = passed_later starts i k s.passed;
       area = rw add-one (q ∙ ap (λ u. append_area z u r (get_or modules k 0) (flag effects (get_or modules k 0))) l.area

@@ -13,7 +13,7 @@ use Rattle.merge_area.specs.Consistent.{over, short}
 use Rattle.merge_area.specs.Within.{Within, within, longs}
 use Rattle.merge_laws.specs.Rows.{fits_here, fits_next, turned_refused, turned-free}
 use Rattle.merge_loading.specs.Loading.{lent, mode_area, bare_area, loaded_area, load_refusal, load_step, Loaded}
-use Rattle.merge_loading.specs.Bare.{CanName, mode-long, bare-long, bare-used}
+use Rattle.merge_loading.specs.Bare.{CanName, mode_long, bare_long, bare-used}
 use Rattle.merge_loading.specs.Listing.{CanList}
 
 -- no row fits
@@ -35,13 +35,13 @@ can_load z n a e h =
 
 -- the list entries can then be written
 module _ {z : Sizes} {n : Lent} {a : List ℕ} (can : CanLoad z n a) where
-  pub load-name : {b : List ℕ} → b ≡ mode_area z n.mode a → CanName z n.flat n.chunks b
-  load-name e = rw e (record { within = can.within; long = omega (arith, can.long, mode-long z n.mode a); few = can.allowed.few_pairs; full = can.allowed.flat })
+  pub load_name : {b : List ℕ} → b ≡ mode_area z n.mode a → CanName z n.flat n.chunks b
+  load_name e = rw e (record { within = can.within; long = omega (arith, can.long, mode_long z n.mode a); few = can.allowed.few_pairs; full = can.allowed.flat })
 
-  pub load-list : {b : List ℕ} → b ≡ bare_area z n.initial n.flat n.chunks (mode_area z n.mode a) → CanList z n.initial n.starts n.modules n.effects b
-  load-list {b} e =
-      let k = mode-long z n.mode a in
-      let l = bare-long z n.initial n.flat n.chunks (mode_area z n.mode a) can.allowed.few_pairs in
+  pub load_list : {b : List ℕ} → b ≡ bare_area z n.initial n.flat n.chunks (mode_area z n.mode a) → CanList z n.initial n.starts n.modules n.effects b
+  load_list {b} e =
+      let k = mode_long z n.mode a in
+      let l = bare_long z n.initial n.flat n.chunks (mode_area z n.mode a) can.allowed.few_pairs in
       let u = bare-used z n.initial n.flat n.chunks (mode_area z n.mode a) can.allowed.few_pairs (omega (arith, can.long, k)) in
       rw e (record {
         within = can.within;
@@ -68,27 +68,27 @@ module _ (z : Sizes) (n : Lent) (a : List ℕ) where
   unfolding load_refusal
   over-sizes h = fits_here _ 14 _ (or_left (over z) _ h)
 
-  pub over-lists : over_load z n ≡ true → 14 ≡ load_refusal z n a
+  pub over_lists : over_load z n ≡ true → 14 ≡ load_refusal z n a
   unfolding load_refusal
-  over-lists h = fits_here _ 14 _ (or_right (over z) _ h)
+  over_lists h = fits_here _ 14 _ (or_right (over z) _ h)
 
   module _ (k : over z ≡ false) (l : over_load z n ≡ false) where
-    pub bad-lists : bad_load z n ≡ true → 15 ≡ load_refusal z n a
+    pub bad_lists : bad_load z n ≡ true → 15 ≡ load_refusal z n a
     unfolding load_refusal
-    bad-lists h = fits_next _ 14 15 _ (or_false (over z) _ k l) (fits_here _ 15 _ (or_left (bad_load z n) _ h))
+    bad_lists h = fits_next _ 14 15 _ (or_false (over z) _ k l) (fits_here _ 15 _ (or_left (bad_load z n) _ h))
 
-    pub short-area : short z a ≡ true → 15 ≡ load_refusal z n a
+    pub short_area : short z a ≡ true → 15 ≡ load_refusal z n a
     unfolding load_refusal
-    short-area h = fits_next _ 14 15 _ (or_false (over z) _ k l) (fits_here _ 15 _ (or_right (bad_load z n) _ h))
+    short_area h = fits_next _ 14 15 _ (or_false (over z) _ k l) (fits_here _ 15 _ (or_right (bad_load z n) _ h))
 
     pub later_rows : (q : ℕ) → bad_load z n ≡ false → short z a ≡ false → q ≡ first_fitting (later_load z n) → q ≡ load_refusal z n a
     unfolding load_refusal
     later_rows q b s e = fits_next _ 14 q _ (or_false (over z) _ k l) (fits_next _ 15 q _ (or_false (bad_load z n) _ b s) e)
 
 module _ (z : Sizes) (n : Lent) (a : List ℕ) where
-  pub refused-load : {q : ℕ} {r : Answer} {b : List ℕ} → q ≡ load_refusal z n a → (q ≡ 0 → ⊥) → r ≡ refused q → b ≡ a → Loaded z n a r b
+  pub refused_load : {q : ℕ} {r : Answer} {b : List ℕ} → q ≡ load_refusal z n a → (q ≡ 0 → ⊥) → r ≡ refused q → b ≡ a → Loaded z n a r b
   unfolding load_step
-  refused-load {q} {r} {b} e h p s =
+  refused_load {q} {r} {b} e h p s =
       let t = turned_refused (load_refusal z n a) a (done, loaded_area z n a) (λ k. h (e ∙ k)) in
       record { answer = p ∙ ap refused e ∙ sym (ap (λ x. x.0) t); area = s ∙ sym (ap (λ x. x.1) t) }
 

@@ -14,9 +14,9 @@ use Rattle.merge_area.specs.Layout.{cell, head}
 use Rattle.merge_area.specs.Read.{read}
 use Rattle.merge_area.specs.Writes.{candidate_area, pass_area}
 use Rattle.merge_laws.specs.Ordering.{ordered}
-use Rattle.merge_reads.specs.Pass.{Holds, stood_again, can-place, pass-holds}
+use Rattle.merge_reads.specs.Pass.{Holds, stood_again, can_place, pass_holds}
 use Rattle.merge_pass.specs.Turns.{kind_of, number_of, CanTurn, TurnedIn, CanPass, PassedIn}
-use Rattle.merge_pass.specs.Lists.{kinds-listed, numbers-listed, list-none, list-more, list_same, list_done}
+use Rattle.merge_pass.specs.Lists.{kinds-listed, numbers-listed, list_none, list_more, list_same, list_done}
 
 pub record Going (z : Sizes) (a ps bs ks₀ ns₀ : List ℕ) (k j : ℕ) (r ks ns : List ℕ) : Type 0 where
   pub few : k ≤ cell a (head z 1)
@@ -31,8 +31,8 @@ going_none z a ps bs ks ns = record {
   few = omega arith;
   place = sym (count_none (waits (read z a)));
   area = refl;
-  kinds = list-none (λ r. r.kinds) kind_of kinds-listed (read z a) ps bs ks;
-  numbers = list-none (λ r. r.numbers) number_of numbers-listed (read z a) ps bs ns;
+  kinds = list_none (λ r. r.kinds) kind_of kinds-listed (read z a) ps bs ks;
+  numbers = list_none (λ r. r.numbers) number_of numbers-listed (read z a) ps bs ns;
 }
 
 module _ {z : Sizes} {a ps bs ks₀ ns₀ : List ℕ} (c : CanPass z a ps bs ks₀ ns₀) {k j : ℕ} {r ks ns : List ℕ} (v : Going z a ps bs ks₀ ns₀ k j r ks ns) where
@@ -43,7 +43,7 @@ module _ {z : Sizes} {a ps bs ks₀ ns₀ : List ℕ} (c : CanPass z a ps bs ks�
   waiting = waits (read z a)
 
   holds : Holds z a r R.graph
-  holds = rw v.area (pass-holds z a c.stood c.left ps bs c.proper c.unmerged k v.few)
+  holds = rw v.area (pass_holds z a c.stood c.left ps bs c.proper c.unmerged k v.few)
 
   passing : Passing z (read z a) k R
   passing = passed-kept (ordered z a c.stood) c.left ps bs c.proper c.unmerged k v.few
@@ -56,17 +56,17 @@ module _ {z : Sizes} {a ps bs ks₀ ns₀ : List ℕ} (c : CanPass z a ps bs ks�
   below : k < cell a (head z 1) → waiting k ≡ true → count waiting k < count waiting (cell a (head z 1))
   below l n = omega (arith, count_yes waiting k n, count_mono waiting (k + 1) (cell a (head z 1)) (omega arith))
 
-  pub going-length : length r ≡ length a
-  going-length = holds.same
+  pub going_length : length r ≡ length a
+  going_length = holds.same
 
-  pub going-kinds : length ks ≡ length ks₀
-  going-kinds = list_same (λ r. r.kinds) kind_of kinds-listed (read z a) ps bs ks₀ ks k v.kinds
+  pub going_kinds : length ks ≡ length ks₀
+  going_kinds = list_same (λ r. r.kinds) kind_of kinds-listed (read z a) ps bs ks₀ ks k v.kinds
 
-  pub going-numbers : length ns ≡ length ns₀
-  going-numbers = list_same (λ r. r.numbers) number_of numbers-listed (read z a) ps bs ns₀ ns k v.numbers
+  pub going_numbers : length ns ≡ length ns₀
+  going_numbers = list_same (λ r. r.numbers) number_of numbers-listed (read z a) ps bs ns₀ ns k v.numbers
 
-  pub going-can : k < cell a (head z 1) → CanTurn z r ps bs ks ns k j
-  going-can l =
+  pub going_can : k < cell a (head z 1) → CanTurn z r ps bs ks ns k j
+  going_can l =
       record {
         stood = stood_again z a r R.graph c.stood holds passing.ordered;
         source = omega (arith, ap (λ g. g.made) holds.graph, passing.made);
@@ -74,11 +74,11 @@ module _ {z : Sizes} {a ps bs ks₀ ns₀ : List ℕ} (c : CanPass z a ps bs ks�
             let q : waiting k ≡ true = sym same-waits ∙ n in
             let less = below l q in
             record {
-              place = can-place z a c.stood c.left r R holds k passing l q (get_or ps j None) (rw v.place (proposal (read z a) ps c.proper (count waiting k)));
+              place = can_place z a c.stood c.left r R holds k passing l q (get_or ps j None) (rw v.place (proposal (read z a) ps c.proper (count waiting k)));
               proposals = omega (arith, v.place, c.proposals);
               bars = omega (arith, v.place, c.bars);
-              kinds = omega (arith, v.place, going-kinds, c.kinds);
-              numbers = omega (arith, v.place, going-numbers, c.numbers);
+              kinds = omega (arith, v.place, going_kinds, c.kinds);
+              numbers = omega (arith, v.place, going_numbers, c.numbers);
             };
       }
 
@@ -89,10 +89,10 @@ module _ {z : Sizes} {a ps bs ks₀ ns₀ : List ℕ} (c : CanPass z a ps bs ks�
     place = t.next ∙ ap₂ (λ i f. i + ind f) v.place same-waits ∙ sym (count-more waiting k);
     area = t.area ∙ ap₂ (λ f x. cond f (candidate_area z x k (get_or ps j None) (get_or bs j 0)) x) same-waits v.area
         ∙ ap (λ i. cond (waiting k) (candidate_area z (pass_area z a ps bs k) k (get_or ps i None) (get_or bs i 0)) (pass_area z a ps bs k)) v.place ∙ sym (ap (pass_area z a ps bs) (add-one k));
-    kinds = list-more (λ r. r.kinds) kind_of kinds-listed (read z a) ps bs ks₀ ks _ k v.kinds (λ n. omega (arith, below l n, c.kinds))
+    kinds = list_more (λ r. r.kinds) kind_of kinds-listed (read z a) ps bs ks₀ ks _ k v.kinds (λ n. omega (arith, below l n, c.kinds))
         (t.kinds ∙ ap₂ (λ f g. cond f (set ks j (kind_of g k (get_or ps j None) (get_or bs j 0))) ks) same-waits holds.graph
         ∙ ap (λ i. cond (waiting k) (set ks i (kind_of R.graph k (get_or ps i None) (get_or bs i 0))) ks) v.place);
-    numbers = list-more (λ r. r.numbers) number_of numbers-listed (read z a) ps bs ns₀ ns _ k v.numbers (λ n. omega (arith, below l n, c.numbers))
+    numbers = list_more (λ r. r.numbers) number_of numbers-listed (read z a) ps bs ns₀ ns _ k v.numbers (λ n. omega (arith, below l n, c.numbers))
         (t.numbers ∙ ap₂ (λ f g. cond f (set ns j (number_of g k (get_or ps j None) (get_or bs j 0))) ns) same-waits holds.graph
         ∙ ap (λ i. cond (waiting k) (set ns i (number_of R.graph k (get_or ps i None) (get_or bs i 0))) ns) v.place);
   }

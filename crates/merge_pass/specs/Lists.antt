@@ -45,32 +45,32 @@ module _ (f : Passed → List ℕ) (v : Graph → ℕ → ℕ → ℕ → ℕ) (
   abbrev b : ℕ → ℕ
   b k = get_or bars (count (waits g) k) 0
 
-  list-begin : f (so_far 0) ≡ []
+  list_begin : f (so_far 0) ≡ []
   unfolding passed
-  list-begin = w.none g
+  list_begin = w.none g
 
-  list-next : (k : ℕ) → f (so_far (k + 1)) ≡ cond (waits g k) (f (so_far k) ++ (v (so_far k).graph k (p k) (b k) ∷ [])) (f (so_far k))
+  list_next : (k : ℕ) → f (so_far (k + 1)) ≡ cond (waits g k) (f (so_far k) ++ (v (so_far k).graph k (p k) (b k) ∷ [])) (f (so_far k))
   unfolding passed
-  list-next k = ap (λ n. f (so_far n)) (add-one k) ∙ go (waits g k)
+  list_next k = ap (λ n. f (so_far n)) (add-one k) ∙ go (waits g k)
     where
       go : (t : Bool) → f (cond t (candidate (so_far k) k (p k) (b k)) (so_far k)) ≡ cond t (f (so_far k) ++ (v (so_far k).graph k (p k) (b k) ∷ [])) (f (so_far k))
       go true = w.more (so_far k) k (p k) (b k)
       go false = refl
 
   pub list_length : (k : ℕ) → length (f (so_far k)) ≡ count (waits g) k
-  list_length zero = ap length list-begin ∙ sym (count_none (waits g))
-  list_length (suc k) = subst (λ n. length (f (so_far n)) ≡ count (waits g) n) (add-one k) (ap length (list-next k) ∙ go (waits g k) refl (list_length k))
+  list_length zero = ap length list_begin ∙ sym (count_none (waits g))
+  list_length (suc k) = subst (λ n. length (f (so_far n)) ≡ count (waits g) n) (add-one k) (ap length (list_next k) ∙ go (waits g k) refl (list_length k))
     where
       go : (t : Bool) → waits g k ≡ t → length (f (so_far k)) ≡ count (waits g) k → length (cond t (f (so_far k) ++ (v (so_far k).graph k (p k) (b k) ∷ [])) (f (so_far k))) ≡ count (waits g) (k + 1)
       go true q e = omega (arith, length-append (f (so_far k)) (v (so_far k).graph k (p k) (b k) ∷ []), count_yes (waits g) k q)
       go false q e = omega (arith, count_no (waits g) k q)
 
-  pub list-none : (l : List ℕ) → l ≡ patch 0 (f (so_far 0)) l
-  list-none l = sym (ap (λ r. patch 0 r l) list-begin ∙ patch-none 0 l)
+  pub list_none : (l : List ℕ) → l ≡ patch 0 (f (so_far 0)) l
+  list_none l = sym (ap (λ r. patch 0 r l) list_begin ∙ patch-none 0 l)
 
-  pub list-more : (l m m' : List ℕ) (k : ℕ) → m ≡ patch 0 (f (so_far k)) l → (waits g k ≡ true → count (waits g) k < length l)
+  pub list_more : (l m m' : List ℕ) (k : ℕ) → m ≡ patch 0 (f (so_far k)) l → (waits g k ≡ true → count (waits g) k < length l)
       → m' ≡ cond (waits g k) (set m (count (waits g) k) (v (so_far k).graph k (p k) (b k))) m → m' ≡ patch 0 (f (so_far (k + 1))) l
-  list-more l m m' k e h d = d ∙ go (waits g k) refl ∙ ap (λ r. patch 0 r l) (sym (list-next k))
+  list_more l m m' k e h d = d ∙ go (waits g k) refl ∙ ap (λ r. patch 0 r l) (sym (list_next k))
     where
       go : (t : Bool) → waits g k ≡ t → cond t (set m (count (waits g) k) (v (so_far k).graph k (p k) (b k))) m ≡ patch 0 (cond t (f (so_far k) ++ (v (so_far k).graph k (p k) (b k) ∷ [])) (f (so_far k))) l
       go true q =

@@ -18,9 +18,9 @@ use Rattle.merge_pass.specs.Turns.{kind_of, number_of, PlacedIn, CanAnswer, CanT
 
 -- "Merged if proposed, unwarned and unbarred", test by test
 module _ (g : Graph) (x p b : ℕ) where
-  pub not-proposed : p ≡ None → false ≡ merges g x p b
+  pub not_proposed : p ≡ None → false ≡ merges g x p b
   unfolding merges
-  not-proposed h = rw (eq-eqb p None h)
+  not_proposed h = rw (eq-eqb p None h)
 
   pub barred : (p ≡ None → ⊥) → (b ≡ 0 → ⊥) → false ≡ merges g x p b
   unfolding merges
@@ -38,9 +38,9 @@ module _ (z : Sizes) (a : List ℕ) (x p b : ℕ) {t : Bool} (e : t ≡ merges (
       let f : merges (read z a) x p b ≡ true = sym e ∙ h in
       record { kind = rw f k; number = rw f n; area = rw f d }
 
-  pub placed-created : t ≡ false → r.kind ≡ 1 → r.number ≡ cell a (head z 0) + cell a (head z 2) → after ≡ create_area z a x → PlacedIn z a x p b r after
+  pub placed_created : t ≡ false → r.kind ≡ 1 → r.number ≡ cell a (head z 0) + cell a (head z 2) → after ≡ create_area z a x → PlacedIn z a x p b r after
   unfolding kind_of number_of candidate_area
-  placed-created h k n d =
+  placed_created h k n d =
       let f : merges (read z a) x p b ≡ false = sym e ∙ h in
       record { kind = rw f k; number = rw f n; area = rw f d }
 
@@ -50,13 +50,13 @@ module _ {z : Sizes} {a ps bs ks ns : List ℕ} {k j : ℕ} (c : CanTurn z a ps 
   turn-none f = record { next = rw f (omega arith); area = rw f refl; kinds = rw f refl; numbers = rw f refl }
 
   module _ (f : waits (read z a) k ≡ true) where
-    pub can-answer : CanAnswer z a ps bs ks ns k j
-    can-answer = c.answer f
+    pub can_answer : CanAnswer z a ps bs ks ns k j
+    can_answer = c.answer f
 
     pub turn-place : CanPlace z a k (get_or ps j 0)
-    turn-place = rw (← default_in ps j None can-answer.proposals) can-answer.place
+    turn-place = rw (← default_in ps j None can_answer.proposals) can_answer.place
 
     pub turn-done : {r : Placed} {after : List ℕ} → PlacedIn z a k (get_or ps j 0) (get_or bs j 0) r after → TurnedIn z a ps bs ks ns k j (j + 1) after (set ks j r.kind) (set ns j r.number)
     turn-done {r} v =
-        let d = default_in ps j None can-answer.proposals in
+        let d = default_in ps j None can_answer.proposals in
         record { next = rw f refl; area = rw (f, d) v.area; kinds = rw (f, d) (ap (set ks j) v.kind); numbers = rw (f, d) (ap (set ns j) v.number) }

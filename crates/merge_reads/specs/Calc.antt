@@ -24,8 +24,8 @@ use Rattle.merge_state.specs.Pairs.{pairs-length, pairs-at}
 use Rattle.merge_area.specs.Writes.{link, linked, calc_area}
 use Rattle.merge_laws.specs.Can.{CanLink, CanLinked, CanCalc}
 use Rattle.merge_laws.specs.Ordering.{depends-parts}
-use Rattle.merge_laws.specs.Keeps.{Kept, linked-can, linked-all, calc-can, calc-same}
-use Rattle.merge_reads.specs.Fields.{home_at, depends_on, effects-same, needs-same, log-same, sets_same, home_same, keys-same, mode-same, into-same}
+use Rattle.merge_laws.specs.Keeps.{Kept, linked_can, linked-all, calc_can, calc_same}
+use Rattle.merge_reads.specs.Fields.{home_at, depends_on, effects_same, needs_same, log_same, sets_same, home_same, keys-same, mode_same, into-same}
 
 -- the flag of chunks u and w is set
 abbrev On : Sizes → List ℕ → ℕ → ℕ → Type 0
@@ -45,9 +45,9 @@ module _ (z : Sizes) (a : List ℕ) (x y : ℕ) (can : CanLink z a x y) where
         | no e ↦ inl (λ k. h (get_or-set_other a (x * z.chunks + y) (u * z.chunks + w) 1 0 e ∙ k))
       ]
 
-  link-cases : (u w : ℕ) → u < z.chunks → w < z.chunks → On z (link z a x y) u w → On z a u w ⊎ ((u ≡ x) × (w ≡ y) × Linked x y)
+  link_cases : (u w : ℕ) → u < z.chunks → w < z.chunks → On z (link z a x y) u w → On z a u w ⊎ ((u ≡ x) × (w ≡ y) × Linked x y)
   unfolding link
-  link-cases = split (eqb y None || eqb x y) refl
+  link_cases = split (eqb y None || eqb x y) refl
 
   link_stays : (i : ℕ) → (cell a i ≡ 0 → ⊥) → cell (link z a x y) i ≡ 0 → ⊥
   unfolding link
@@ -82,19 +82,19 @@ module _ (z : Sizes) (deps : List ℕ) (x from : ℕ) (a : List ℕ) (n : ℕ) (
   to_same j h i = (kept j h).beyond (home z (get_or deps (from + i) 0)) (omega arith)
 
   next : (j : ℕ) → j < n → CanLink z (linked z deps x from a j) x (cell (linked z deps x from a j) (home z (get_or deps (from + j) 0)))
-  next j h = linked-can z deps x from a n can (linked z deps x from a j) j refl h
+  next j h = linked_can z deps x from a n can (linked z deps x from a j) j refl h
 
-  linked-cases : (j : ℕ) → j ≤ n → (u w : ℕ) → u < z.chunks → w < z.chunks → On z (linked z deps x from a j) u w → On z a u w ⊎ ((u ≡ x) × Linked x w × ((i : ℕ) × (i < j) × (to i ≡ w)))
+  linked_cases : (j : ℕ) → j ≤ n → (u w : ℕ) → u < z.chunks → w < z.chunks → On z (linked z deps x from a j) u w → On z a u w ⊎ ((u ≡ x) × Linked x w × ((i : ℕ) × (i < j) × (to i ≡ w)))
   unfolding linked
-  linked-cases zero l u w b c h = inl h
-  linked-cases (suc j) l u w b c h =
+  linked_cases zero l u w b c h = inl h
+  linked_cases (suc j) l u w b c h =
       let r = linked z deps x from a j in
       let y = cell r (home z (get_or deps (from + j) 0)) in
       let e : y ≡ to j = to_same j (omega arith) j in
       ⊎_elim
-      (λ (k : On z r u w). ⊎_elim (λ m. inl m) (λ m. inr (m.0, m.1, (m.2.0, omega (arith, m.2.1), m.2.2))) (linked-cases j (omega arith) u w b c k))
+      (λ (k : On z r u w). ⊎_elim (λ m. inl m) (λ m. inr (m.0, m.1, (m.2.0, omega (arith, m.2.1), m.2.2))) (linked_cases j (omega arith) u w b c k))
       (λ (k : (u ≡ x) × (w ≡ y) × Linked x y). inr (k.0, ((λ q. k.2.0 (sym k.1 ∙ q)), λ q. k.2.1 (q ∙ k.1)), (j, omega arith, sym e ∙ sym k.1)))
-      (link-cases z r x y (next j (omega arith)) u w b c h)
+      (link_cases z r x y (next j (omega arith)) u w b c h)
 
   linked-stays : (j : ℕ) → j ≤ n → (i : ℕ) → (cell a i ≡ 0 → ⊥) → cell (linked z deps x from a j) i ≡ 0 → ⊥
   unfolding linked
@@ -140,7 +140,7 @@ module _ (z : Sizes) (starts deps a : List ℕ) (used : ℕ) (can : CanCalc z a 
   sofar i = calc_area z starts deps a i
 
   same : (i : ℕ) → i ≤ used → Kept z a (sofar i)
-  same i h = calc-same z starts deps a used can (sofar i) i refl h
+  same i h = calc_same z starts deps a used can (sofar i) i refl h
 
   abbrev size : ℕ → ℕ
   size i = start (member i + 1) - start (member i)
@@ -149,17 +149,17 @@ module _ (z : Sizes) (starts deps a : List ℕ) (used : ℕ) (can : CanCalc z a 
   unfolding calc_area
   turn i h = let k = same i (omega arith) in rw (k.beyond (entry_module z i) (omega arith), k.beyond (entry_chunk z i) (omega arith))
 
-  turn-can : (i : ℕ) → i < used → CanLinked z (sofar i) deps (lister i) (start (member i)) (size i)
-  turn-can i h =
+  turn_can : (i : ℕ) → i < used → CanLinked z (sofar i) deps (lister i) (start (member i)) (size i)
+  turn_can i h =
       let k = same i (omega arith) in
-      rw (k.beyond (entry_module z i) (omega arith), k.beyond (entry_chunk z i) (omega arith)) at (calc-can z starts deps a used can (sofar i) i refl h)
+      rw (k.beyond (entry_module z i) (omega arith), k.beyond (entry_chunk z i) (omega arith)) at (calc_can z starts deps a used can (sofar i) i refl h)
 
-  calc-cases : (i : ℕ) → i ≤ used → (u w : ℕ) → u < z.chunks → w < z.chunks → On z (sofar i) u w → On z a u w ⊎ ((k : ℕ) × (k < i) × (u ≡ lister k) × Linked u w × Gives k w)
+  calc_cases : (i : ℕ) → i ≤ used → (u w : ℕ) → u < z.chunks → w < z.chunks → On z (sofar i) u w → On z a u w ⊎ ((k : ℕ) × (k < i) × (u ≡ lister k) × Linked u w × Gives k w)
   unfolding calc_area
-  calc-cases zero l u w b c h = inl h
-  calc-cases (suc i) l u w b c h =
+  calc_cases zero l u w b c h = inl h
+  calc_cases (suc i) l u w b c h =
       ⊎_elim
-      (λ (k : On z (sofar i) u w). ⊎_elim (λ m. inl m) (λ m. inr (m.0, omega (arith, m.1), m.2, m.3, m.4)) (calc-cases i (omega arith) u w b c k))
+      (λ (k : On z (sofar i) u w). ⊎_elim (λ m. inl m) (λ m. inr (m.0, omega (arith, m.1), m.2, m.3, m.4)) (calc_cases i (omega arith) u w b c k))
       (λ (k : (u ≡ lister i) × Linked (lister i) w × ((j : ℕ) × (j < size i) × (cell (sofar i) (home z (get_or deps (start (member i) + j) 0)) ≡ w))).
       inr (
         i,
@@ -173,24 +173,24 @@ module _ (z : Sizes) (starts deps a : List ℕ) (used : ℕ) (can : CanCalc z a 
           there = sym ((same i (omega arith)).beyond (home z (get_or deps (start (member i) + k.2.0) 0)) (omega arith)) ∙ k.2.2;
         },
       ))
-      (linked-cases z deps (lister i) (start (member i)) (sofar i) (size i) (turn-can i (omega arith)) (size i) (omega arith) u w b c (rw (turn i (omega arith)) at h))
+      (linked_cases z deps (lister i) (start (member i)) (sofar i) (size i) (turn_can i (omega arith)) (size i) (omega arith) u w b c (rw (turn i (omega arith)) at h))
 
-  calc-stays : (i : ℕ) → i ≤ used → (j : ℕ) → (cell a j ≡ 0 → ⊥) → cell (sofar i) j ≡ 0 → ⊥
+  calc_stays : (i : ℕ) → i ≤ used → (j : ℕ) → (cell a j ≡ 0 → ⊥) → cell (sofar i) j ≡ 0 → ⊥
   unfolding calc_area
-  calc-stays zero l j h = h
-  calc-stays (suc i) l j h =
-      rw (turn i (omega arith)) (linked-stays z deps (lister i) (start (member i)) (sofar i) (size i) (turn-can i (omega arith)) (size i) (omega arith) j (calc-stays i (omega arith) j h))
+  calc_stays zero l j h = h
+  calc_stays (suc i) l j h =
+      rw (turn i (omega arith)) (linked-stays z deps (lister i) (start (member i)) (sofar i) (size i) (turn_can i (omega arith)) (size i) (omega arith) j (calc_stays i (omega arith) j h))
 
-  calc-new : (i : ℕ) → i ≤ used → (k w : ℕ) → k < i → Linked (lister k) w → Gives k w → On z (sofar i) (lister k) w
-  calc-new zero l k w h n g = absurd (omega arith)
-  calc-new (suc i) l k w h n g = rw (turn i (omega arith)) (elim (ℕ_discrete k i) [
+  calc_new : (i : ℕ) → i ≤ used → (k w : ℕ) → k < i → Linked (lister k) w → Gives k w → On z (sofar i) (lister k) w
+  calc_new zero l k w h n g = absurd (omega arith)
+  calc_new (suc i) l k w h n g = rw (turn i (omega arith)) (elim (ℕ_discrete k i) [
     | yes q ↦
         let e : start (member i) + (g.place - start (member i)) ≡ g.place = rw (← q) (omega (arith, g.after)) in
         let f : cell (sofar i) (home z (get_or deps (start (member i) + (g.place - start (member i))) 0)) ≡ w =
         rw e ((same i (omega arith)).beyond (home z (get_or deps g.place 0)) (omega arith) ∙ g.there) in
-        rw q (linked-new z deps (lister i) (start (member i)) (sofar i) (size i) (turn-can i (omega arith)) (size i) (omega arith) w (g.place - start (member i))
+        rw q (linked-new z deps (lister i) (start (member i)) (sofar i) (size i) (turn_can i (omega arith)) (size i) (omega arith) w (g.place - start (member i))
         (rw (← q) (omega (arith, g.after, g.before))) f (rw q at n))
-    | no q ↦ linked-stays z deps (lister i) (start (member i)) (sofar i) (size i) (turn-can i (omega arith)) (size i) (omega arith) (lister k * z.chunks + w) (calc-new i (omega arith) k w (omega arith) n g)
+    | no q ↦ linked-stays z deps (lister i) (start (member i)) (sofar i) (size i) (turn_can i (omega arith)) (size i) (omega arith) (lister k * z.chunks + w) (calc_new i (omega arith) k w (omega arith) n g)
   ])
 
 module _ (z : Sizes) (starts deps a : List ℕ) (can : CanCalc z a starts deps (cell a (head z 4))) where
@@ -247,8 +247,8 @@ module _ (z : Sizes) (starts deps a : List ℕ) (can : CanCalc z a starts deps (
           let t = found (cell a (entry_module z k)) y (and_right (eqb (cell a (entry_chunk z k)) x) _ f) in
           (k, b, sym (eqb-true _ x (and_left (eqb (cell a (entry_chunk z k)) x) _ f)), record { place = t.0; after = t.1; before = t.2; there = t.3 })
 
-  depends-calc : (x y : ℕ) → depends_in z end x y ≡ (depends_in z a x y || ((not (eqb y None) && not (eqb x y)) && listed_on (read z a) starts deps x y))
-  depends-calc x y = alike _ _ there back
+  depends_calc : (x y : ℕ) → depends_in z end x y ≡ (depends_in z a x y || ((not (eqb y None) && not (eqb x y)) && listed_on (read z a) starts deps x y))
+  depends_calc x y = alike _ _ there back
     where
       there : depends_in z end x y ≡ true → (depends_in z a x y || ((not (eqb y None) && not (eqb x y)) && listed_on (read z a) starts deps x y)) ≡ true
       there h =
@@ -256,40 +256,40 @@ module _ (z : Sizes) (starts deps a : List ℕ) (can : CanCalc z a starts deps (
           ⊎_elim (λ k. or_left _ _ (depends_on z a x y p.0 p.1 k))
           (λ (k : (k : ℕ) × (k < used) × (x ≡ cell a (entry_chunk z k)) × Linked x y × Gives z starts deps a used can k y).
           or_right (depends_in z a x y) _ (and_both _ _ (and_both _ _ (ap not (ne_eqb y None k.3.0)) (ap not (ne_eqb x y k.3.1))) (lists x y (k.0, k.1, k.2, k.4))))
-          (calc-cases z starts deps a used can used (omega arith) x y p.0 p.1 p.2)
+          (calc_cases z starts deps a used can used (omega arith) x y p.0 p.1 p.2)
 
       new : (y ≡ None → ⊥) → (x ≡ y → ⊥) → Listed x y → depends_in z end x y ≡ true
       new n d g =
           let t : y < z.chunks = rw g.3.there at (can.homed (get_or deps g.3.place 0) (can.modules g.3.place (omega (arith, g.3.before, can.ends (cell a (entry_module z g.0) + 1) (omega (arith, can.listed g.0 g.1))))) (λ q. n (sym g.3.there ∙ q))) in
           depends_on z end x y (rw g.2 (can.chunks g.0 g.1)) t
-          (rw g.2 (calc-new z starts deps a used can used (omega arith) g.0 y g.1 (n, λ q. d (g.2 ∙ q)) g.3))
+          (rw g.2 (calc_new z starts deps a used can used (omega arith) g.0 y g.1 (n, λ q. d (g.2 ∙ q)) g.3))
 
       back : (depends_in z a x y || ((not (eqb y None) && not (eqb x y)) && listed_on (read z a) starts deps x y)) ≡ true → depends_in z end x y ≡ true
       back h =
-          ⊎_elim (λ k. let p = depends-parts z a x y k in depends_on z end x y p.0 p.1 (calc-stays z starts deps a used can used (omega arith) (x * z.chunks + y) p.2))
+          ⊎_elim (λ k. let p = depends-parts z a x y k in depends_on z end x y p.0 p.1 (calc_stays z starts deps a used can used (omega arith) (x * z.chunks + y) p.2))
           (λ k. let d = and_left (not (eqb y None) && not (eqb x y)) _ k in
           new (eqb-false y None (not-true _ (and_left (not (eqb y None)) _ d))) (eqb-false x y (not-true _ (and_right (not (eqb y None)) _ d))) (listed x y (and_right (not (eqb y None) && not (eqb x y)) _ k)))
           (or_cases (depends_in z a x y) _ h)
 
-  pub calc-length : length end ≡ length a
-  calc-length = (calc-same z starts deps a used can end used refl (omega arith)).same
+  pub calc_length : length end ≡ length a
+  calc_length = (calc_same z starts deps a used can end used refl (omega arith)).same
 
-  pub read-calc : read z end ≡ calculated (read z a) starts deps
+  pub read_calc : read z end ≡ calculated (read z a) starts deps
   unfolding calculated
-  read-calc = λ i. record {
+  read_calc = λ i. record {
     initial = stay (head z 0) (omega arith) i;
     made = stay (head z 1) (omega arith) i;
     created = stay (head z 2) (omega arith) i;
-    depends = λ x y. depends-calc x y i;
-    effects = effects-same z a end (λ x l. stay (side z x) (omega arith)) i;
-    needs = needs-same z a end (λ x l. stay (need z x) (omega arith)) i;
-    log = log-same z a end (stay (head z 4) (omega arith)) (λ x l. (stay (entry_chunk z x) (omega arith), stay (entry_module z x) (omega arith))) i;
+    depends = λ x y. depends_calc x y i;
+    effects = effects_same z a end (λ x l. stay (side z x) (omega arith)) i;
+    needs = needs_same z a end (λ x l. stay (need z x) (omega arith)) i;
+    log = log_same z a end (stay (head z 4) (omega arith)) (λ x l. (stay (entry_chunk z x) (omega arith), stay (entry_module z x) (omega arith))) i;
     sets = sets_same z a end (stay (head z 3) (omega arith)) (λ x l. (lanes-same end a (set_place z x) 1 (λ j k. stay (set_place z x + j * 1) (omega arith)), stay (set_chunk z x) (omega arith))) i;
     home = home_same z a end (λ x l. stay (home z x) (omega arith)) i;
     keys = keys-same z a end (λ x l. stay (key z x) (omega arith)) i;
-    mode = mode-same z a end (stay (head z 5) (omega arith)) i;
+    mode = mode_same z a end (stay (head z 5) (omega arith)) i;
     into = into-same z a end (stay (head z 5) (omega arith)) (λ x l. stay (into z x) (omega arith)) i;
   }
     where
       stay : (i : ℕ) → z.chunks * z.chunks ≤ i → cell end i ≡ cell a i
-      stay i h = (calc-same z starts deps a used can end used refl (omega arith)).beyond i h
+      stay i h = (calc_same z starts deps a used can end used refl (omega arith)).beyond i h

@@ -22,7 +22,7 @@ use Rattle.merge_area.specs.Read.{depends_in, effects_in, mode_in, into_in, read
 use Rattle.merge_area.specs.Writes.{union_cell, merging, merged_rows, absorb_area, record_area, merge_area}
 use Rattle.merge_laws.specs.Can.{CanMerge, CanMergeArea}
 use Rattle.merge_laws.specs.Merging.{rows_apart, at_target, at_source, at_none, rows-kept, merged-length}
-use Rattle.merge_reads.specs.Fields.{yes-ind, effects-put, needs-same, log-same, sets_same, home_same, keys-same, mode-same, into-same, into-put}
+use Rattle.merge_reads.specs.Fields.{yes-ind, effects_put, needs_same, log_same, sets_same, home_same, keys-same, mode_same, into-same, into-put}
 
 -- the dependencies that an area holds
 pub depends-at : (z : Sizes) (a : List ℕ) (x y : ℕ) → x < z.chunks → y < z.chunks → depends_in z a x y ≡ state.yes (cell a (x * z.chunks + y))
@@ -47,13 +47,13 @@ module _ (z : Sizes) (a : List ℕ) (t s : ℕ) (can : CanMergeArea z a t s) whe
   unfolding absorb_area
   rowed-length = rw (length-set, merged-length a z.chunks t s)
 
-  rowed-mode : mode_in z rowed ≡ mode_in z a
+  rowed_mode : mode_in z rowed ≡ mode_in z a
   unfolding absorb_area
-  rowed-mode = mode-same z a rowed (get_or-set_other (merged_rows a z.chunks t s) (side z t) (head z 5) _ 0 (omega arith) ∙ rows-kept rows (head z 5) (omega arith))
+  rowed_mode = mode_same z a rowed (get_or-set_other (merged_rows a z.chunks t s) (side z t) (head z 5) _ 0 (omega arith) ∙ rows-kept rows (head z 5) (omega arith))
 
-  pub area-length : length (merge_area z a t s) ≡ length a
+  pub area_length : length (merge_area z a t s) ≡ length a
   unfolding merge_area record_area
-  area-length = go (mode_in z rowed)
+  area_length = go (mode_in z rowed)
     where
       go : (m : Bool) → length (cond m (set rowed (into z s) t) rowed) ≡ length a
       go true = rw length-set rowed-length
@@ -69,41 +69,41 @@ module _ (z : Sizes) (a : List ℕ) (t s : ℕ) (can : CanMergeArea z a t s) whe
       go false = refl
 
   -- in the mode the merge is recorded, else nothing is
-  pub area-into : mode_in z a ≡ true → cell (merge_area z a t s) (into z s) ≡ t
+  pub area_into : mode_in z a ≡ true → cell (merge_area z a t s) (into z s) ≡ t
   unfolding merge_area record_area
-  area-into m = rw (rowed-mode ∙ m) (get_or-set_same rowed (into z s) t 0 (omega (arith, rowed-length, can.long, can.source)))
+  area_into m = rw (rowed_mode ∙ m) (get_or-set_same rowed (into z s) t 0 (omega (arith, rowed-length, can.long, can.source)))
 
-  pub area-unmarked : mode_in z a ≡ false → cell (merge_area z a t s) (into z s) ≡ cell a (into z s)
+  pub area_unmarked : mode_in z a ≡ false → cell (merge_area z a t s) (into z s) ≡ cell a (into z s)
   unfolding merge_area record_area absorb_area
-  area-unmarked m = rw (rowed-mode ∙ m) (get_or-set_other (merged_rows a z.chunks t s) (side z t) (into z s) _ 0 (omega (arith, can.target)) ∙ rows-kept rows (into z s) (omega arith))
+  area_unmarked m = rw (rowed_mode ∙ m) (get_or-set_other (merged_rows a z.chunks t s) (side z t) (into z s) _ 0 (omega (arith, can.target)) ∙ rows-kept rows (into z s) (omega arith))
 
-  area-row : (i : ℕ) → i < z.chunks * z.chunks → cell (merge_area z a t s) i ≡ merging a z.chunks t s z.chunks i
+  area_row : (i : ℕ) → i < z.chunks * z.chunks → cell (merge_area z a t s) i ≡ merging a z.chunks t s z.chunks i
   unfolding absorb_area merged_rows
-  area-row i b = unrecorded i (omega arith) ∙ get_or-set_other (merged_rows a z.chunks t s) (side z t) i _ 0 (omega arith) ∙ tab-at (merging a z.chunks t s z.chunks) (length a) i (omega (arith, can.long))
+  area_row i b = unrecorded i (omega arith) ∙ get_or-set_other (merged_rows a z.chunks t s) (side z t) i _ 0 (omega arith) ∙ tab-at (merging a z.chunks t s z.chunks) (length a) i (omega (arith, can.long))
 
   -- "target gets the union without itself"
-  pub area-target : (y : ℕ) → y < z.chunks → cell (merge_area z a t s) (t * z.chunks + y) ≡ union_cell (cell a (t * z.chunks + y)) (cell a (s * z.chunks + y)) y t
-  area-target y b = area-row (t * z.chunks + y) (omega (arith, sets-room {i = t} {n = z.chunks} z.chunks can.target)) ∙ at_target rows y z.chunks b (omega arith)
+  pub area_target : (y : ℕ) → y < z.chunks → cell (merge_area z a t s) (t * z.chunks + y) ≡ union_cell (cell a (t * z.chunks + y)) (cell a (s * z.chunks + y)) y t
+  area_target y b = area_row (t * z.chunks + y) (omega (arith, sets-room {i = t} {n = z.chunks} z.chunks can.target)) ∙ at_target rows y z.chunks b (omega arith)
 
   -- "source's set empties"
-  pub area-source : (y : ℕ) → y < z.chunks → cell (merge_area z a t s) (s * z.chunks + y) ≡ 0
-  area-source y b = area-row (s * z.chunks + y) (omega (arith, sets-room {i = s} {n = z.chunks} z.chunks can.source)) ∙ at_source rows y z.chunks b (omega arith)
+  pub area_source : (y : ℕ) → y < z.chunks → cell (merge_area z a t s) (s * z.chunks + y) ≡ 0
+  area_source y b = area_row (s * z.chunks + y) (omega (arith, sets-room {i = s} {n = z.chunks} z.chunks can.source)) ∙ at_source rows y z.chunks b (omega arith)
 
-  pub area-other : (x y : ℕ) → x < z.chunks → y < z.chunks → (x ≡ t → ⊥) → (x ≡ s → ⊥) → cell (merge_area z a t s) (x * z.chunks + y) ≡ cell a (x * z.chunks + y)
-  area-other x y xc b n m =
-      area-row (x * z.chunks + y) (omega (arith, sets-room {i = x} {n = z.chunks} z.chunks xc))
+  pub area_other : (x y : ℕ) → x < z.chunks → y < z.chunks → (x ≡ t → ⊥) → (x ≡ s → ⊥) → cell (merge_area z a t s) (x * z.chunks + y) ≡ cell a (x * z.chunks + y)
+  area_other x y xc b n m =
+      area_row (x * z.chunks + y) (omega (arith, sets-room {i = x} {n = z.chunks} z.chunks xc))
       ∙ at_none rows z.chunks (x * z.chunks + y) (rows_apart z.chunks t x z.chunks (x * z.chunks + y) (λ i. n (sym i)) (omega arith) (omega arith) (omega arith))
       (rows_apart z.chunks s x z.chunks (x * z.chunks + y) (λ i. m (sym i)) (omega arith) (omega arith) (omega arith))
 
   -- "side effects are or-ed"
-  pub area-side : cell (merge_area z a t s) (side z t) ≡ ind (state.yes (cell a (side z t)) || state.yes (cell a (side z s)))
+  pub area_side : cell (merge_area z a t s) (side z t) ≡ ind (state.yes (cell a (side z t)) || state.yes (cell a (side z s)))
   unfolding absorb_area
-  area-side = unrecorded (side z t) (omega (arith, can.target)) ∙ get_or-set_same (merged_rows a z.chunks t s) (side z t) _ 0 (omega (arith, merged-length a z.chunks t s, can.long, can.target))
+  area_side = unrecorded (side z t) (omega (arith, can.target)) ∙ get_or-set_same (merged_rows a z.chunks t s) (side z t) _ 0 (omega (arith, merged-length a z.chunks t s, can.long, can.target))
 
   -- beyond the rows nothing else changes
-  pub area-rest : (i : ℕ) → z.chunks * z.chunks ≤ i → (i ≡ side z t → ⊥) → (i ≡ into z s → ⊥) → cell (merge_area z a t s) i ≡ cell a i
+  pub area_rest : (i : ℕ) → z.chunks * z.chunks ≤ i → (i ≡ side z t → ⊥) → (i ≡ into z s → ⊥) → cell (merge_area z a t s) i ≡ cell a i
   unfolding absorb_area
-  area-rest i h n r = unrecorded i r ∙ get_or-set_other (merged_rows a z.chunks t s) (side z t) i _ 0 n ∙ rows-kept rows i h
+  area_rest i h n r = unrecorded i r ∙ get_or-set_other (merged_rows a z.chunks t s) (side z t) i _ 0 n ∙ rows-kept rows i h
 
   depends-merged : (x y : ℕ) → depends_in z (merge_area z a t s) x y ≡ absorbed (depends_in z a) t s x y
   unfolding union_cell
@@ -117,14 +117,14 @@ module _ (z : Sizes) (a : List ℕ) (t s : ℕ) (can : CanMergeArea z a t s) whe
     where
       from-source : depends_in z (merge_area z a t s) s y ≡ false
       from-source = elim (dec_lt y z.chunks) [
-        | yes b ↦ depends-at z (merge_area z a t s) s y can.source b ∙ ap state.yes (area-source y b)
+        | yes b ↦ depends-at z (merge_area z a t s) s y can.source b ∙ ap state.yes (area_source y b)
         | no b ↦ depends-out z (merge_area z a t s) s y (λ c. omega arith)
       ]
 
       from-target : depends_in z (merge_area z a t s) t y ≡ union (depends_in z a t) (depends_in z a s) t y
       from-target = elim (dec_lt y z.chunks) [
         | yes b ↦
-            depends-at z (merge_area z a t s) t y can.target b ∙ ap state.yes (area-target y b) ∙ yes-ind _
+            depends-at z (merge_area z a t s) t y can.target b ∙ ap state.yes (area_target y b) ∙ yes-ind _
             ∙ sym (ap₂ (λ u v. (u || v) && not (eqb y t)) (depends-at z a t y can.target b) (depends-at z a s y can.source b))
         | no b ↦
             depends-out z (merge_area z a t s) t y (λ c. omega arith)
@@ -134,7 +134,7 @@ module _ (z : Sizes) (a : List ℕ) (t s : ℕ) (can : CanMergeArea z a t s) whe
       from-other : (x ≡ s → ⊥) → (x ≡ t → ⊥) → depends_in z (merge_area z a t s) x y ≡ depends_in z a x y
       from-other q p = elim (dec_lt x z.chunks) [
         | yes b ↦ elim (dec_lt y z.chunks) [
-          | yes c ↦ depends-at z (merge_area z a t s) x y b c ∙ ap state.yes (area-other x y b c p q) ∙ sym (depends-at z a x y b c)
+          | yes c ↦ depends-at z (merge_area z a t s) x y b c ∙ ap state.yes (area_other x y b c p q) ∙ sym (depends-at z a x y b c)
           | no c ↦ depends-out z (merge_area z a t s) x y (λ d. omega arith) ∙ sym (depends-out z a x y (λ d. omega arith))
         ]
         | no b ↦ depends-out z (merge_area z a t s) x y (λ d. omega arith) ∙ sym (depends-out z a x y (λ d. omega arith))
@@ -148,33 +148,33 @@ module _ (z : Sizes) (a : List ℕ) (t s : ℕ) (can : CanMergeArea z a t s) whe
       b = merge_area z a t s
 
       same-mode : cell b (head z 5) ≡ cell a (head z 5)
-      same-mode = area-rest (head z 5) (omega arith) (omega arith) (omega arith)
+      same-mode = area_rest (head z 5) (omega arith) (omega arith) (omega arith)
 
       far : (x : ℕ) → x < z.chunks → (x ≡ s → ⊥) → cell b (into z x) ≡ cell a (into z x)
-      far x l n = area-rest (into z x) (omega arith) (omega (arith, can.target)) (omega arith)
+      far x l n = area_rest (into z x) (omega arith) (omega (arith, can.target)) (omega arith)
 
       go : (m : Bool) → mode_in z a ≡ m → into_in z b ≡ cond m (state.put (into_in z a) s t) (into_in z a)
-      go true m = into-put z a b s t m same-mode can.source (area-into m) far
-      go false m = into-same z a b same-mode (λ x l. elim (ℕ_discrete x s) [ yes q ↦ rw q (area-unmarked m) | no q ↦ far x l q ])
+      go true m = into-put z a b s t m same-mode can.source (area_into m) far
+      go false m = into-same z a b same-mode (λ x l. elim (ℕ_discrete x s) [ yes q ↦ rw q (area_unmarked m) | no q ↦ far x l q ])
 
   pub read-merge : cell a (head z 3) ≤ 2 * z.chunks → read z (merge_area z a t s) ≡ merged (read z a) t s
   unfolding merged effects_in
   read-merge few = λ i. record {
-    initial = area-rest (head z 0) (omega arith) (omega arith) (omega (arith, can.source)) i;
-    made = area-rest (head z 1) (omega arith) (omega arith) (omega (arith, can.source)) i;
-    created = area-rest (head z 2) (omega arith) (omega arith) (omega (arith, can.source)) i;
+    initial = area_rest (head z 0) (omega arith) (omega arith) (omega (arith, can.source)) i;
+    made = area_rest (head z 1) (omega arith) (omega arith) (omega (arith, can.source)) i;
+    created = area_rest (head z 2) (omega arith) (omega arith) (omega (arith, can.source)) i;
     depends = λ x y. depends-merged x y i;
-    effects = effects-put z a b t (effects_in z a t || effects_in z a s) can.target
-        (rw (lt-ltb t z.chunks can.target, lt-ltb s z.chunks can.source) area-side) (λ x l n. area-rest (side z x) (omega arith) (omega arith) (omega (arith, can.source))) i;
-    needs = needs-same z a b (λ x l. area-rest (need z x) (omega arith) (omega (arith, can.target)) (omega (arith, can.source))) i;
-    log = log-same z a b (area-rest (head z 4) (omega arith) (omega arith) (omega (arith, can.source)))
-        (λ k l. (area-rest (entry_chunk z k) (omega arith) (omega (arith, can.target)) (omega (arith, can.source)), area-rest (entry_module z k) (omega arith) (omega (arith, can.target)) (omega (arith, can.source)))) i;
-    sets = sets_same z a b (area-rest (head z 3) (omega arith) (omega arith) (omega (arith, can.source)))
-        (λ k l. (lanes-same b a (set_place z k) 1 (λ j h. area-rest (set_place z k + j * 1) (omega arith) (omega arith) (omega (arith, can.source))), area-rest (set_chunk z k) (omega arith) (omega arith) (omega (arith, can.source)))) i;
-    home = home_same z a b (λ m l. area-rest (home z m) (omega arith) (omega (arith, can.target)) (omega (arith, can.source))) i;
-    mode = mode-same z a b (area-rest (head z 5) (omega arith) (omega arith) (omega arith)) i;
+    effects = effects_put z a b t (effects_in z a t || effects_in z a s) can.target
+        (rw (lt-ltb t z.chunks can.target, lt-ltb s z.chunks can.source) area_side) (λ x l n. area_rest (side z x) (omega arith) (omega arith) (omega (arith, can.source))) i;
+    needs = needs_same z a b (λ x l. area_rest (need z x) (omega arith) (omega (arith, can.target)) (omega (arith, can.source))) i;
+    log = log_same z a b (area_rest (head z 4) (omega arith) (omega arith) (omega (arith, can.source)))
+        (λ k l. (area_rest (entry_chunk z k) (omega arith) (omega (arith, can.target)) (omega (arith, can.source)), area_rest (entry_module z k) (omega arith) (omega (arith, can.target)) (omega (arith, can.source)))) i;
+    sets = sets_same z a b (area_rest (head z 3) (omega arith) (omega arith) (omega (arith, can.source)))
+        (λ k l. (lanes-same b a (set_place z k) 1 (λ j h. area_rest (set_place z k + j * 1) (omega arith) (omega arith) (omega (arith, can.source))), area_rest (set_chunk z k) (omega arith) (omega arith) (omega (arith, can.source)))) i;
+    home = home_same z a b (λ m l. area_rest (home z m) (omega arith) (omega (arith, can.target)) (omega (arith, can.source))) i;
+    mode = mode_same z a b (area_rest (head z 5) (omega arith) (omega arith) (omega arith)) i;
     into = into-merged i;
-    keys = keys-same z a b (λ k l. area-rest (key z k) (omega arith) (omega (arith, can.target)) (omega (arith, can.source))) i;
+    keys = keys-same z a b (λ k l. area_rest (key z k) (omega arith) (omega (arith, can.target)) (omega (arith, can.source))) i;
   }
     where
       b : List ℕ

@@ -54,13 +54,13 @@ module _ (z : Sizes) (a b : List ℕ) where
     | no p ↦ rw (le-ltb x z.chunks (omega arith))
   ]))
 
-  pub effects-same : ((x : ℕ) → x < z.chunks → cell b (side z x) ≡ cell a (side z x)) → effects_in z b ≡ effects_in z a
+  pub effects_same : ((x : ℕ) → x < z.chunks → cell b (side z x) ≡ cell a (side z x)) → effects_in z b ≡ effects_in z a
   unfolding effects_in
-  effects-same h = fun_ext (λ x. flagged z.chunks x (h x))
+  effects_same h = fun_ext (λ x. flagged z.chunks x (h x))
 
-  pub needs-same : ((x : ℕ) → x < z.chunks → cell b (need z x) ≡ cell a (need z x)) → needs_in z b ≡ needs_in z a
+  pub needs_same : ((x : ℕ) → x < z.chunks → cell b (need z x) ≡ cell a (need z x)) → needs_in z b ≡ needs_in z a
   unfolding needs_in
-  needs-same h = fun_ext (λ x. flagged z.chunks x (h x))
+  needs_same h = fun_ext (λ x. flagged z.chunks x (h x))
 
   pub home_same : ((m : ℕ) → m < z.modules → cell b (home z m) ≡ cell a (home z m)) → home_in z b ≡ home_in z a
   unfolding home_in
@@ -70,13 +70,13 @@ module _ (z : Sizes) (a b : List ℕ) where
   unfolding keys_in
   keys-same h = fun_ext (λ k. numbered z.chunks k (h k))
 
-  pub mode-same : cell b (head z 5) ≡ cell a (head z 5) → mode_in z b ≡ mode_in z a
+  pub mode_same : cell b (head z 5) ≡ cell a (head z 5) → mode_in z b ≡ mode_in z a
   unfolding mode_in
-  mode-same e = ap state.yes e
+  mode_same e = ap state.yes e
 
   pub into-same : cell b (head z 5) ≡ cell a (head z 5) → ((x : ℕ) → x < z.chunks → cell b (into z x) ≡ cell a (into z x)) → into_in z b ≡ into_in z a
   unfolding into_in
-  into-same e h = fun_ext (λ x. masked (λ t v. cond (mode_in z b && t) v None) (out (mode_in z b)) z.chunks x (h x) ∙ ap (λ m. cond (m && ltb x z.chunks) (cell a (into z x)) None) (mode-same e))
+  into-same e h = fun_ext (λ x. masked (λ t v. cond (mode_in z b && t) v None) (out (mode_in z b)) z.chunks x (h x) ∙ ap (λ m. cond (m && ltb x z.chunks) (cell a (into z x)) None) (mode_same e))
     where
       out : (m : Bool) (i j : ℕ) → cond (m && false) i None ≡ cond (m && false) j None
       out true i j = refl
@@ -86,14 +86,14 @@ module _ (z : Sizes) (a b : List ℕ) where
       → pairs (entry z b) (cell a (head z 4)) ≡ log_in z a
   entries-same h = pairs-same (entry z b) (entry z a) (cell a (head z 4)) (λ i l. ap₂ (λ u v. (u, v)) (h i l).0 (h i l).1)
 
-  pub log-same : cell b (head z 4) ≡ cell a (head z 4)
+  pub log_same : cell b (head z 4) ≡ cell a (head z 4)
       → ((i : ℕ) → i < cell a (head z 4) → (cell b (entry_chunk z i) ≡ cell a (entry_chunk z i)) × (cell b (entry_module z i) ≡ cell a (entry_module z i))) → log_in z b ≡ log_in z a
-  log-same e h = ap (pairs (entry z b)) e ∙ entries-same h
+  log_same e h = ap (pairs (entry z b)) e ∙ entries-same h
 
-  pub log-more : (x m : ℕ) → cell b (head z 4) ≡ cell a (head z 4) + 1
+  pub log_more : (x m : ℕ) → cell b (head z 4) ≡ cell a (head z 4) + 1
       → ((i : ℕ) → i < cell a (head z 4) → (cell b (entry_chunk z i) ≡ cell a (entry_chunk z i)) × (cell b (entry_module z i) ≡ cell a (entry_module z i)))
       → cell b (entry_chunk z (cell a (head z 4))) ≡ x → cell b (entry_module z (cell a (head z 4))) ≡ m → log_in z b ≡ log_in z a ++ ((x, m) ∷ [])
-  log-more x m e h p q =
+  log_more x m e h p q =
       ap (pairs (entry z b)) e ∙ pairs-more (entry z b) (cell a (head z 4)) ∙ ap₂ (λ l f. l ++ (f ∷ [])) (entries-same h) (ap₂ (λ u v. (u, v)) p q)
 
   named-same : ((i : ℕ) → i < cell a (head z 3) → (lanes b (set_place z i) 1 ≡ lanes a (set_place z i) 1) × (cell b (set_chunk z i) ≡ cell a (set_chunk z i)))
@@ -115,13 +115,13 @@ but : {A : Type 0} {f g : ℕ → A} (i : ℕ) (v : A) → f i ≡ v → ((x : �
 but {f = f} {g = g} i v e h = fun_ext (λ x. elim (ℕ_discrete x i) [ yes q ↦ rw q (e ∙ sym (put_same g i v)) | no q ↦ h x q ∙ sym (put_other g i v x q) ])
 
 module _ (z : Sizes) (a b : List ℕ) where
-  pub effects-put : (x : ℕ) (e : Bool) → x < z.chunks → cell b (side z x) ≡ ind e → ((y : ℕ) → y < z.chunks → (y ≡ x → ⊥) → cell b (side z y) ≡ cell a (side z y)) → effects_in z b ≡ put (effects_in z a) x e
+  pub effects_put : (x : ℕ) (e : Bool) → x < z.chunks → cell b (side z x) ≡ ind e → ((y : ℕ) → y < z.chunks → (y ≡ x → ⊥) → cell b (side z y) ≡ cell a (side z y)) → effects_in z b ≡ put (effects_in z a) x e
   unfolding effects_in
-  effects-put x e l p h = but x e (rw (lt-ltb x z.chunks l, p) (yes-ind e)) (λ y n. flagged z.chunks y (λ c. h y c n))
+  effects_put x e l p h = but x e (rw (lt-ltb x z.chunks l, p) (yes-ind e)) (λ y n. flagged z.chunks y (λ c. h y c n))
 
-  pub needs-put : (x : ℕ) (e : Bool) → x < z.chunks → cell b (need z x) ≡ ind e → ((y : ℕ) → y < z.chunks → (y ≡ x → ⊥) → cell b (need z y) ≡ cell a (need z y)) → needs_in z b ≡ put (needs_in z a) x e
+  pub needs_put : (x : ℕ) (e : Bool) → x < z.chunks → cell b (need z x) ≡ ind e → ((y : ℕ) → y < z.chunks → (y ≡ x → ⊥) → cell b (need z y) ≡ cell a (need z y)) → needs_in z b ≡ put (needs_in z a) x e
   unfolding needs_in
-  needs-put x e l p h = but x e (rw (lt-ltb x z.chunks l, p) (yes-ind e)) (λ y n. flagged z.chunks y (λ c. h y c n))
+  needs_put x e l p h = but x e (rw (lt-ltb x z.chunks l, p) (yes-ind e)) (λ y n. flagged z.chunks y (λ c. h y c n))
 
   pub home-put : (m x : ℕ) → m < z.modules → cell b (home z m) ≡ x → ((k : ℕ) → k < z.modules → (k ≡ m → ⊥) → cell b (home z k) ≡ cell a (home z k)) → home_in z b ≡ put (home_in z a) m x
   unfolding home_in
@@ -135,5 +135,5 @@ module _ (z : Sizes) (a b : List ℕ) where
       → into_in z b ≡ put (into_in z a) x v
   unfolding into_in
   into-put x v m e l p h =
-      let n : mode_in z b ≡ true = mode-same z a b e ∙ m in
+      let n : mode_in z b ≡ true = mode_same z a b e ∙ m in
       but x v (rw (n, lt-ltb x z.chunks l) p) (λ y q. rw (n, m) (numbered z.chunks y (λ c. h y c q)))

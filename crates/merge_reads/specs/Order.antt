@@ -12,7 +12,7 @@ use Rattle.graphs.specs.Bools.{or_false, and_both, fails}
 use Rattle.graphs.specs.Count.{count-all_no}
 use Rattle.graphs.specs.Lists.{some_below, below, some_take}
 use Rattle.graphs.specs.Walk.{cyclic}
-use Rattle.graphs.specs.Walks.{sources-below, acyclic-walk}
+use Rattle.graphs.specs.Walks.{sources-below, acyclic_walk}
 use Rattle.entry_set.specs.Lanes.{lanes}
 use Rattle.merge_state.specs.declared.Sizes.{Sizes}
 use Rattle.merge_state.specs.State.{None, misfit}
@@ -138,9 +138,9 @@ module _ (z : Sizes) (a : List ℕ) (o : Ordered z (read z a)) where
       let e = into-at z a x m b in
       elim (ℕ_discrete (cell a (into z x)) None) [ yes q ↦ inl q | no q ↦ let r = o.merges.range x (λ k. q (sym e ∙ k)) in inr (r.0, omega (arith, r.1, e)) ]
 
-  lane-right : mode_in z a ≡ true → lane_faults z a ≤ 0
+  lane_right : mode_in z a ≡ true → lane_faults z a ≤ 0
   unfolding lane_faults
-  lane-right m = omega (
+  lane_right m = omega (
     arith,
     part (z.chunks * z.chunks + 32 + 21 * z.chunks) made made true (λ x b. free-fits made (cell a (into z x)) (at_into m x (omega (arith, o.fits)))),
     faultless a (into z made) (z.chunks - made) 0 true (λ i b.
@@ -148,25 +148,25 @@ module _ (z : Sizes) (a : List ℕ) (o : Ordered z (read z a)) where
         rw e (free-fits 0 (cell a (into z (made + i))) {P = made < made} (⊎_elim (λ q. inl q) (λ q. absurd (omega (arith, q.0))) (at_into m (made + i) (omega arith))))),
   )
 
-  merges-right : merges_fault z a ≡ false
+  merges_right : merges_fault z a ≡ false
   unfolding merges_fault
-  merges-right = go (mode_in z a) refl
+  merges_right = go (mode_in z a) refl
     where
       go : (m : Bool) → mode_in z a ≡ m → (m && (ltb 0 (lane_faults z a) || cyclic (merged_into (into_in z a)) (below made))) ≡ false
       go true m =
-          or_false _ _ (le-ltb 0 (lane_faults z a) (lane-right m))
-          ((acyclic-walk (merged_into (into_in z a)) (below made) (sources-below (λ x y q. (o.merges.range x (step-take (into_in z a) x y q).0).0))).1 o.merges.no_ring)
+          or_false _ _ (le-ltb 0 (lane_faults z a) (lane_right m))
+          ((acyclic_walk (merged_into (into_in z a)) (below made) (sources-below (λ x y q. (o.merges.range x (step-take (into_in z a) x y q).0).0))).1 o.merges.no_ring)
       go false m = refl
 
   -- row 21 doesn't fit
-  pub ordered-consistent : inconsistent z a ≡ false
+  pub ordered_consistent : inconsistent z a ≡ false
   unfolding inconsistent head_fault sets_fault out_of_range twice came_before
-  ordered-consistent =
+  ordered_consistent =
       or_false _ _
       (or_false _ _ (le-ltb _ _ o.begun) (or_false _ _ (le-ltb _ _ o.fits)
       (or_false _ _ (le-ltb (z.chunks + made) sets (omega (arith, pairs-length (named_set z a) sets, o.room))) (le-ltb z.entries used (omega (arith, pairs-length (entry z a) used, o.used))))))
       (or_false _ _ (clear_flags a z.chunks made o.fits clear)
       (or_false _ _ (le-ltb 0 (index_faults z a) in_range)
-      (or_false _ _ merges-right
+      (or_false _ _ merges_right
       (or_false _ _ (none_below (out_of_range z a) sets (λ i b. ap not (lt-ltb _ _ (at_set i b).0)))
       (none_below (came_before (λ i. lanes a (set_place z i) 1)) sets (λ j c. none_below (λ i. eqb (lanes a (set_place z i) 1) (lanes a (set_place z j) 1)) j (λ i b. apart i j b c)))))))

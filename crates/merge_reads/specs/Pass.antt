@@ -22,9 +22,9 @@ use Rattle.merge_area.specs.Writes.{merge_area, create_area, candidate_area, pas
 use Rattle.merge_laws.specs.Can.{CanMergeArea, CanCreate}
 use Rattle.merge_laws.specs.Rows.{Stood}
 use Rattle.merge_laws.specs.Ordering.{ordered}
-use Rattle.merge_reads.specs.Order.{ordered-consistent}
-use Rattle.merge_reads.specs.Cells.{area-length, read-merge}
-use Rattle.merge_reads.specs.Reads.{create-length, read-create}
+use Rattle.merge_reads.specs.Order.{ordered_consistent}
+use Rattle.merge_reads.specs.Cells.{area_length, read-merge}
+use Rattle.merge_reads.specs.Reads.{create_length, read_create}
 
 -- area r holds graph g, and is as long as a
 pub record Holds (z : Sizes) (a r : List ℕ) (g : Graph) : Type 0 where
@@ -44,7 +44,7 @@ stood_again z a r g s h o =
         named = omega (arith, pairs-length (named_set z r) (cell r (head z 3)), p.room);
         used = omega (arith, pairs-length (entry z r) (cell r (head z 4)), p.used);
       };
-      consistent = ordered-consistent z r p;
+      consistent = ordered_consistent z r p;
     }
 
 -- what is merged was proposed
@@ -70,16 +70,16 @@ module _ {z : Sizes} {a : List ℕ} {x p : ℕ} (c : CanPlace z a x p) where
     differ = λ e. never _ c.needs ((ordered z a c.stood).initial_needs_none x (omega (arith, c.target n)));
   }
 
-  pub place-create : CanCreate z a
-  place-create = record { within = c.stood.headed.within; long = c.stood.headed.long; left = c.left }
+  pub place_create : CanCreate z a
+  place_create = record { within = c.stood.headed.within; long = c.stood.headed.long; left = c.left }
 
   pub candidate-length : (b : ℕ) → length (candidate_area z a x p b) ≡ length a
   unfolding candidate_area
   candidate-length b = go (merges (read z a) x p b) refl
     where
       go : (t : Bool) → merges (read z a) x p b ≡ t → length (cond t (merge_area z a p x) (create_area z a x)) ≡ length a
-      go true q = area-length z a p x (place-merge (proposed (read z a) x p b q))
-      go false q = create-length z a x place-create
+      go true q = area_length z a p x (place-merge (proposed (read z a) x p b q))
+      go false q = create_length z a x place_create
 
   candidate-read : (b : ℕ) (kinds numbers : List ℕ) → read z (candidate_area z a x p b) ≡ (candidate (record { graph = read z a; kinds = kinds; numbers = numbers }) x p b).graph
   unfolding candidate_area candidate
@@ -93,13 +93,13 @@ module _ {z : Sizes} {a : List ℕ} {x p : ℕ} (c : CanPlace z a x p) where
           (record { graph = merged (read z a) p x; kinds = kinds ++ (0 ∷ []); numbers = numbers ++ (p ∷ []) })
           (record { graph = created_chunk (read z a) x; kinds = kinds ++ (1 ∷ []); numbers = numbers ++ ((cell a (head z 0) + cell a (head z 2)) ∷ []) })).graph
       go true q = read-merge z a p x (place-merge (proposed (read z a) x p b q)) few
-      go false q = read-create z a x place-create few
+      go false q = read_create z a x place_create few
 
 module _ (z : Sizes) (a : List ℕ) (s : Stood z a) (left : cell a (head z 0) + cell a (head z 2) + count (waits (read z a)) (cell a (head z 1)) ≤ z.chunks) where
   -- the area so far, before candidate k
   module _ (r : List ℕ) (R : Passed) (h : Holds z a r R.graph) (k : ℕ) (v : Passing z (read z a) k R) (l : k < cell a (head z 1)) (n : waits (read z a) k ≡ true) where
-    pub can-place : (p : ℕ) → ((p ≡ None → ⊥) → p < cell a (head z 0)) → CanPlace z r k p
-    can-place p f = record {
+    pub can_place : (p : ℕ) → ((p ≡ None → ⊥) → p < cell a (head z 0)) → CanPlace z r k p
+    can_place p f = record {
       stood = stood_again z a r R.graph s h v.ordered;
       source = omega (arith, ap (λ g. g.made) h.graph, v.made);
       needs = ap (λ g. g.needs k) h.graph ∙ ap (λ g. g k) v.needs ∙ and_left (needs_in z a k) _ n;
@@ -117,14 +117,14 @@ module _ (z : Sizes) (a : List ℕ) (s : Stood z a) (left : cell a (head z 0) + 
 
     candidate-holds : (p b : ℕ) → ((p ≡ None → ⊥) → p < cell a (head z 0)) → Holds z a (candidate_area z r k p b) (candidate R k p b).graph
     candidate-holds p b f =
-        let c = can-place p f in record { graph = candidate-read c b R.kinds R.numbers ∙ ap (λ g. (candidate (record { graph = g; kinds = R.kinds; numbers = R.numbers }) k p b).graph) h.graph; same = candidate-length c b ∙ h.same }
+        let c = can_place p f in record { graph = candidate-read c b R.kinds R.numbers ∙ ap (λ g. (candidate (record { graph = g; kinds = R.kinds; numbers = R.numbers }) k p b).graph) h.graph; same = candidate-length c b ∙ h.same }
 
   -- after the chunks below k
-  pub pass-holds : (props bars : List ℕ) → any_misfit (cell a (head z 0)) true props ≡ false → any_gone (read z a) props ≡ false → (k : ℕ) → k ≤ cell a (head z 1)
+  pub pass_holds : (props bars : List ℕ) → any_misfit (cell a (head z 0)) true props ≡ false → any_gone (read z a) props ≡ false → (k : ℕ) → k ≤ cell a (head z 1)
       → Holds z a (pass_area z a props bars k) (passed (read z a) props bars k).graph
   unfolding pass_area passed
-  pass-holds props bars f u zero h = record { graph = refl; same = refl }
-  pass-holds props bars f u (suc k) h = go (waits (read z a) k) refl (pass-holds props bars f u k (omega arith)) (passed-kept (ordered z a s) left props bars f u k (omega arith))
+  pass_holds props bars f u zero h = record { graph = refl; same = refl }
+  pass_holds props bars f u (suc k) h = go (waits (read z a) k) refl (pass_holds props bars f u k (omega arith)) (passed-kept (ordered z a s) left props bars f u k (omega arith))
     where
       p : ℕ
       p = get_or props (count (waits (read z a)) k) None

@@ -17,7 +17,7 @@ use Rattle.entry_set.specs.Sets.{value, number, Holds, legal}
 use Rattle.merge_state.specs.declared.Sizes.{Sizes}
 use Rattle.merge_state.specs.State.{None, chunk_of, misfit, pairs}
 use Rattle.merge_state.specs.Merges.{waits}
-use Rattle.merge_state.specs.Kept.{no-misfit}
+use Rattle.merge_state.specs.Kept.{no_misfit}
 use Rattle.merge_state.specs.Table.{any_misfit, any_gone, falling, bad_starts, over_lists, bad_lists, calc_chunk_dependencies, init_module_assignment, pass, later, first_fitting, other_length, no_module, full}
 use Rattle.merge_area.specs.Layout.{cell, head}
 use Rattle.merge_area.specs.Read.{read, named_set, sets-in}
@@ -50,7 +50,7 @@ excess_is l top {r} d = go (any_misfit top false l) refl r d
     go : (m : Bool) → any_misfit top false l ≡ m → (r : Bool) → Decides (PartBelow l 0 (length l) top) r → not r ≡ any_misfit top false l
     go m e true d = sym (all_fit l top (λ i b. subst (λ j. get_or l j 0 < top) (omega arith) (d.right refl i b)))
     go true e false d = sym e
-    go false e false d = absurd (d.wrong refl (λ i b. subst (λ j. get_or l j 0 < top) (omega arith) (no-misfit top l e i b)))
+    go false e false d = absurd (d.wrong refl (λ i b. subst (λ j. get_or l j 0 < top) (omega arith) (no_misfit top l e i b)))
 
 -- one number more of a test of them all
 pub some_more : (p : ℕ → Bool) (x : ℕ) {r t : Bool} → r ≡ some_below p x → t ≡ p x → (r || t) ≡ some_below p (x + 1)
@@ -58,21 +58,21 @@ some_more p x e f = ap₂ ◌||◌ e f ∙ or_comm (some_below p x) (p x) ∙ sy
 
 -- the tests of `bad_starts`, in order
 module _ (n : ℕ) (l : List ℕ) (d : ℕ) where
-  pub bad-count : (length l ≡ n + 1 → ⊥) → true ≡ bad_starts n l d
+  pub bad_count : (length l ≡ n + 1 → ⊥) → true ≡ bad_starts n l d
   unfolding bad_starts
-  bad-count h = rw (ne_eqb (length l) (n + 1) h)
+  bad_count h = rw (ne_eqb (length l) (n + 1) h)
 
-  pub bad-begin : length l ≡ n + 1 → (get_or l 0 0 ≡ 0 → ⊥) → true ≡ bad_starts n l d
+  pub bad_begin : length l ≡ n + 1 → (get_or l 0 0 ≡ 0 → ⊥) → true ≡ bad_starts n l d
   unfolding bad_starts
-  bad-begin e h = rw (eq-eqb (length l) (n + 1) e, ne_eqb (get_or l 0 0) 0 h)
+  bad_begin e h = rw (eq-eqb (length l) (n + 1) e, ne_eqb (get_or l 0 0) 0 h)
 
-  pub bad-end : length l ≡ n + 1 → get_or l 0 0 ≡ 0 → (get_or l n 0 ≡ d → ⊥) → true ≡ bad_starts n l d
+  pub bad_end : length l ≡ n + 1 → get_or l 0 0 ≡ 0 → (get_or l n 0 ≡ d → ⊥) → true ≡ bad_starts n l d
   unfolding bad_starts
-  bad-end e f h = rw (eq-eqb (length l) (n + 1) e, eq-eqb (get_or l 0 0) 0 f, ne_eqb (get_or l n 0) d h)
+  bad_end e f h = rw (eq-eqb (length l) (n + 1) e, eq-eqb (get_or l 0 0) 0 f, ne_eqb (get_or l n 0) d h)
 
-  pub bad-fall : {r : Bool} → length l ≡ n + 1 → get_or l 0 0 ≡ 0 → get_or l n 0 ≡ d → r ≡ falling n l → r ≡ bad_starts n l d
+  pub bad_fall : {r : Bool} → length l ≡ n + 1 → get_or l 0 0 ≡ 0 → get_or l n 0 ≡ d → r ≡ falling n l → r ≡ bad_starts n l d
   unfolding bad_starts
-  bad-fall e f g h = h ∙ (rw (eq-eqb (length l) (n + 1) e, eq-eqb (get_or l 0 0) 0 f, eq-eqb (get_or l n 0) d g))
+  bad_fall e f g h = h ∙ (rw (eq-eqb (length l) (n + 1) e, eq-eqb (get_or l 0 0) 0 f, eq-eqb (get_or l n 0) d g))
 
 -- the rows of `calc_chunk_dependencies` before 21
 pub calc_stand : (z : Sizes) (starts deps a : List ℕ) {b : Bool} {q : ℕ} → b ≡ bad_starts z.modules starts (length deps) → q ≡ standing z (ltb 8192 (length deps)) b a
@@ -89,9 +89,9 @@ module _ (z : Sizes) (a : List ℕ) (m : ℕ) (set effs : List ℕ) (q x : ℕ) 
   lacks : r ≡ (eqb (chunk_of (value set) (sets-in z a)) None && leb z.chunks (cell a (head z 1)))
   lacks = rw (← f) k
 
-  pub init-room : (v : ℕ) {g : Bool} → g ≡ full z (read z a) → v ≡ first_fitting ((r, 18) ∷ (g, 19) ∷ []) → v ≡ refusal z a (init_module_assignment m set effs)
+  pub init_room : (v : ℕ) {g : Bool} → g ≡ full z (read z a) → v ≡ first_fitting ((r, 18) ∷ (g, 19) ∷ []) → v ≡ refusal z a (init_module_assignment m set effs)
   unfolding over_lists bad_lists later
-  init-room v {g} w y =
+  init_room v {g} w y =
       late z a (init_module_assignment m set effs) q v e h (fits_next _ 16 v _ (or_false _ _ t l) (y ∙ ap₂ (λ b d. first_fitting ((b, 18) ∷ (d, 19) ∷ [])) lacks w))
 
 pub few_candidates : (z : Sizes) (a : List ℕ) {n : ℕ} → Headed z a → n ≡ count (waits (read z a)) (cell a (head z 1)) → n ≤ z.chunks
@@ -106,35 +106,35 @@ module _ (z : Sizes) (a props bars kinds numbers : List ℕ) (q n : ℕ) {r : Bo
   listed : r ≡ (other_length props candidates || (other_length bars candidates || (other_length kinds candidates || other_length numbers candidates)))
   listed = rw (← m) f
 
-  pub pass-lists : r ≡ true → 15 ≡ refusal z a (pass props bars kinds numbers)
+  pub pass_lists : r ≡ true → 15 ≡ refusal z a (pass props bars kinds numbers)
   unfolding over_lists bad_lists later
-  pass-lists w = late z a (pass props bars kinds numbers) q 15 e h (fits_here _ 15 _ (sym listed ∙ w))
+  pass_lists w = late z a (pass props bars kinds numbers) q 15 e h (fits_here _ 15 _ (sym listed ∙ w))
 
-  pass-rest : (v : ℕ) → r ≡ false
+  pass_rest : (v : ℕ) → r ≡ false
       → v ≡ first_fitting ((any_misfit (cell a (head z 0)) true props, 16) ∷ (any_gone (read z a) props, 28) ∷ (ltb z.chunks (cell a (head z 0) + cell a (head z 2) + candidates), 18) ∷ [])
       → v ≡ refusal z a (pass props bars kinds numbers)
   unfolding over_lists bad_lists later
-  pass-rest v w y = late z a (pass props bars kinds numbers) q v e h (fits_next _ 15 v _ (sym listed ∙ w) y)
+  pass_rest v w y = late z a (pass props bars kinds numbers) q v e h (fits_next _ 15 v _ (sym listed ∙ w) y)
 
   module _ (i : ℕ) {s : Bool} (w : r ≡ false) (k : i ≡ cell a (head z 0)) (g : s ≡ any_misfit i true props) where
     misfit-by : {b : Bool} → s ≡ b → any_misfit (cell a (head z 0)) true props ≡ b
     misfit-by t = ap (λ j. any_misfit j true props) (sym k) ∙ sym g ∙ t
 
-    pub pass-misfit : s ≡ true → 16 ≡ refusal z a (pass props bars kinds numbers)
-    pass-misfit t = pass-rest 16 w (fits_here _ 16 _ (misfit-by t))
+    pub pass_misfit : s ≡ true → 16 ≡ refusal z a (pass props bars kinds numbers)
+    pass_misfit t = pass_rest 16 w (fits_here _ 16 _ (misfit-by t))
 
     module _ {o : Bool} (t : s ≡ false) (u : o ≡ any_gone (read z a) props) where
-      pub pass-gone : o ≡ true → 28 ≡ refusal z a (pass props bars kinds numbers)
-      pass-gone y = pass-rest 28 w (fits_next _ 16 28 _ (misfit-by t) (fits_here _ 28 _ (sym u ∙ y)))
+      pub pass_gone : o ≡ true → 28 ≡ refusal z a (pass props bars kinds numbers)
+      pass_gone y = pass_rest 28 w (fits_next _ 16 28 _ (misfit-by t) (fits_here _ 28 _ (sym u ∙ y)))
 
-      pub pass-room : (v : ℕ) {l : Bool} → o ≡ false → l ≡ ltb z.chunks (cell a (head z 0) + cell a (head z 2) + n) → v ≡ first_fitting ((l, 18) ∷ []) → v ≡ refusal z a (pass props bars kinds numbers)
-      pass-room v x p y =
-          pass-rest v w (fits_next _ 16 v _ (misfit-by t)
+      pub pass_room : (v : ℕ) {l : Bool} → o ≡ false → l ≡ ltb z.chunks (cell a (head z 0) + cell a (head z 2) + n) → v ≡ first_fitting ((l, 18) ∷ []) → v ≡ refusal z a (pass props bars kinds numbers)
+      pass_room v x p y =
+          pass_rest v w (fits_next _ 16 v _ (misfit-by t)
           (fits_next _ 28 v _ (sym u ∙ x) (y ∙ ap (λ b. first_fitting ((b, 18) ∷ [])) (p ∙ ap (λ j. ltb z.chunks (cell a (head z 0) + cell a (head z 2) + j)) m))))
 
 -- counting chunks that wait
-pub waiting_more : (z : Sizes) (a : List ℕ) (x : ℕ) {n m : ℕ} → n ≡ count (waits (read z a)) x → m ≡ ind (waits (read z a) x) → n + m ≡ count (waits (read z a)) (x + 1)
-waiting_more z a x {n} {m} e q = omega (arith, count-more (waits (read z a)) x, e, q)
+pub waiting-more : (z : Sizes) (a : List ℕ) (x : ℕ) {n m : ℕ} → n ≡ count (waits (read z a)) x → m ≡ ind (waits (read z a) x) → n + m ≡ count (waits (read z a)) (x + 1)
+waiting-more z a x {n} {m} e q = omega (arith, count-more (waits (read z a)) x, e, q)
 
 pub one_waits : {b r : Bool} → r ≡ b → r ≡ true → 1 ≡ ind b
 one_waits e h = ap ind (sym h ∙ e)

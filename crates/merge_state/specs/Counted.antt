@@ -11,9 +11,9 @@ use Rattle.graphs.specs.Walk.{Walk, one, more}
 use Rattle.graphs.specs.Walks.{join}
 use Rattle.graphs.specs.Walks as walks
 use Rattle.merge_state.specs.State.{None, Graph, put, put_same, put_other}
-use Rattle.graph_walks.specs.Counted.{counted, without, counted-give, counted-take}
+use Rattle.graph_walks.specs.Counted.{counted, without, counted_give, counted-take}
 use Rattle.merge_state.specs.Methods.{absorbed, warns}
-use Rattle.merge_state.specs.Warning.{fused, fuse, fuse-ends, fuse-cases, Sound, Looped, warning-exactly}
+use Rattle.merge_state.specs.Warning.{fused, fuse, fuse_ends, fuse_cases, Sound, Looped, warning_exactly}
 use Rattle.merge_state.specs.Absorbed.{union, absorbed-source, absorbed-target, absorbed-other}
 
 -- an edge between equal nodes
@@ -28,8 +28,8 @@ counted-ends d e f n q = fun_ext (λ x. fun_ext (λ y. alike _ _ (go e f q x y) 
     go e f q x y h =
         let r = counted-take d e n x y h in
         let a : f r.source ≡ x = sym (q r.source r.source_in) ∙ r.from in
-        let b : f r.target ≡ y = sym (q r.target r.target-in) ∙ r.to in
-        moved (counted d f n) a b (counted-give d f n r.source r.target r.source_in r.target-in r.edge (λ g. r.differ (sym a ∙ g ∙ b)))
+        let b : f r.target ≡ y = sym (q r.target r.target_in) ∙ r.to in
+        moved (counted d f n) a b (counted_give d f n r.source r.target r.source_in r.target_in r.edge (λ g. r.differ (sym a ∙ g ∙ b)))
 
 -- A merge of s into t, both at the end of their merges: what is counted after it is the fused graph of what was counted before.
 module _ (d : ℕ → ℕ → Bool) (end : ℕ → ℕ) (n s t : ℕ) (apart : s ≡ t → ⊥) (s-end : end s ≡ s) (t-end : end t ≡ t) (s-in : s < n) (t-in : t < n) where
@@ -40,8 +40,8 @@ module _ (d : ℕ → ℕ → Bool) (end : ℕ → ℕ) (n s t : ℕ) (apart : s
   abbrev after : ℕ → ℕ
   after i = stands (end i)
 
-  not-s : (z : ℕ) → stands z ≡ s → ⊥
-  not-s z h = elim (ℕ_discrete z s) [
+  not_s : (z : ℕ) → stands z ≡ s → ⊥
+  not_s z h = elim (ℕ_discrete z s) [
     | yes q ↦ apart (sym h ∙ ap stands q ∙ put_same (λ x. x) s t)
     | no q ↦ q (sym (put_other (λ x. x) s t z q) ∙ h)
   ]
@@ -101,8 +101,8 @@ module _ (d : ℕ → ℕ → Bool) (end : ℕ → ℕ) (n s t : ℕ) (apart : s
       let j = r.target in
       let kx : after k ≡ x = e.3 ∙ r.from in
       let ne : end k ≡ end j → ⊥ = λ q. r.differ (sym kx ∙ ap stands q ∙ r.to) in
-      let c : old (end k) (end j) ≡ true = counted-give d end n k j e.1 r.target-in e.2 ne in
-      and_both _ _ (and_both _ _ (ap not (ne_eqb x y r.differ)) (and_both _ _ (ap not (ne_eqb x s (λ q. not-s (end k) (kx ∙ q)))) (ap not (ne_eqb y s (λ q. not-s (end j) (r.to ∙ q))))))
+      let c : old (end k) (end j) ≡ true = counted_give d end n k j e.1 r.target_in e.2 ne in
+      and_both _ _ (and_both _ _ (ap not (ne_eqb x y r.differ)) (and_both _ _ (ap not (ne_eqb x s (λ q. not_s (end k) (kx ∙ q)))) (ap not (ne_eqb y s (λ q. not_s (end j) (r.to ∙ q))))))
       (go k j kx r.to c)
     where
       go : (k j : ℕ) → after k ≡ x → after j ≡ y → old (end k) (end j) ≡ true → (old x y || ((eqb x t && old s y) || (eqb y t && old x s))) ≡ true
@@ -127,16 +127,16 @@ module _ (d : ℕ → ℕ → Bool) (end : ℕ → ℕ) (n s t : ℕ) (apart : s
       let jy : after j ≡ y = ap stands r.to ∙ b in
       let e = later i j r.edge r.source_in (λ q. ne (sym ix ∙ q ∙ jy)) in
       let kx : after e.0 ≡ x = e.3 ∙ ix in
-      moved new kx jy (counted-give (absorbed d t s) after n e.0 j e.1 r.target-in e.2 (λ q. ne (sym kx ∙ q ∙ jy)))
+      moved new kx jy (counted_give (absorbed d t s) after n e.0 j e.1 r.target_in e.2 (λ q. ne (sym kx ∙ q ∙ jy)))
 
   fused-merged : (x y : ℕ) → fused old s t x y ≡ true → new x y ≡ true
   fused-merged x y h =
-      let e = fuse-ends old s t x y h in
+      let e = fuse_ends old s t x y h in
       let stay-x : stands x ≡ x = stays x e.1 in
       let stay-y : stands y ≡ y = stays y e.2 in
       ⊎_elim (λ a. kept x y x y a stay-x stay-y e.0)
       (λ b. ⊎_elim (λ p. kept x y s y p.1 (put_same (λ z. z) s t ∙ sym p.0) stay-y e.0) (λ p. kept x y x s p.1 stay-x (put_same (λ z. z) s t ∙ sym p.0) e.0) b)
-      (fuse-cases old s t x y h)
+      (fuse_cases old s t x y h)
 
   -- what is counted after a merge
   pub counted-merged : (x y : ℕ) → counted (absorbed d t s) (λ i. put (λ z. z) s t (end i)) n x y ≡ fused (counted d end n) s t x y
@@ -147,7 +147,7 @@ pub fused_acyclic : (d : ℕ → ℕ → Bool) (s t : ℕ) → ((x : ℕ) → Wa
 fused_acyclic d s t none unwarned x w = ⊎_elim (none x) (λ p. unwarned (join p.1 p.0)) (walks.closed t keep x w)
   where
     keep : (x y : ℕ) → (x ≡ t → ⊥) → (y ≡ t → ⊥) → fused d s t x y ≡ true → d x y ≡ true
-    keep x y a b h = ⊎_elim (λ c. c) (λ c. ⊎_elim (λ p. absurd (a p.0)) (λ p. absurd (b p.0)) c) (fuse-cases d s t x y h)
+    keep x y a b h = ⊎_elim (λ c. c) (λ c. ⊎_elim (λ p. absurd (a p.0)) (λ p. absurd (b p.0)) c) (fuse_cases d s t x y h)
 
 -- The warning of the mode: the old one's rule, with the direct dependency of source on target left out.
 module _ (d : ℕ → ℕ → Bool) (n s t : ℕ) (self : (x : ℕ) → d x x ≡ false) (from : (x y : ℕ) → d x y ≡ true → x < n) (to : (x y : ℕ) → d x y ≡ true → y < n) (apart : s ≡ t → ⊥) where
@@ -181,30 +181,30 @@ module _ (d : ℕ → ℕ → Bool) (n s t : ℕ) (self : (x : ℕ) → d x x �
   -- the fused graph is the same
   fused-drop : (x y : ℕ) → fused fewer s t x y ≡ true → fused d s t x y ≡ true
   fused-drop x y h =
-      let e = fuse-ends fewer s t x y h in
+      let e = fuse_ends fewer s t x y h in
       fuse d s t x y e.0 e.1 e.2
       (⊎_elim (λ a. or_left _ _ (drop x y a))
       (λ b. or_right (d x y) _ (⊎_elim (λ p. or_left _ _ (and_both _ _ (eq-eqb x t p.0) (drop s y p.1))) (λ p. or_right (eqb x t && d s y) _ (and_both _ _ (eq-eqb y t p.0) (drop x s p.1))) b))
-      (fuse-cases fewer s t x y h))
+      (fuse_cases fewer s t x y h))
 
-  fused-keep : (x y : ℕ) → fused d s t x y ≡ true → fused fewer s t x y ≡ true
-  fused-keep x y h =
-      let e = fuse-ends d s t x y h in
+  fused_keep : (x y : ℕ) → fused d s t x y ≡ true → fused fewer s t x y ≡ true
+  fused_keep x y h =
+      let e = fuse_ends d s t x y h in
       fuse fewer s t x y e.0 e.1 e.2
       (⊎_elim (λ a. or_left _ _ (keep x y (λ q r. e.1 q) a))
       (λ b. or_right (fewer x y) _ (⊎_elim (λ p. or_left _ _ (and_both _ _ (eq-eqb x t p.0) (keep s y (λ q r. e.0 (p.0 ∙ sym r)) p.1)))
       (λ p. or_right (eqb x t && fewer s y) _ (and_both _ _ (eq-eqb y t p.0) (keep x s (λ q r. e.1 q) p.1))) b))
-      (fuse-cases d s t x y h))
+      (fuse_cases d s t x y h))
 
   along : {f g : ℕ → ℕ → Bool} → ((x y : ℕ) → f x y ≡ true → g x y ≡ true) → {x y : ℕ} → Walk f x y → Walk g x y
   along k (one h) = one (k _ _ h)
   along k (more h w) = more (k _ _ h) (along k w)
 
   looped : {x y : ℕ} → x ≡ t → y ≡ t → Walk (fused fewer s t) x y → Looped holder s t
-  looped p q (one {x} {y} h) = absurd ((fuse-ends fewer s t x y h).0 (p ∙ sym q))
+  looped p q (one {x} {y} h) = absurd ((fuse_ends fewer s t x y h).0 (p ∙ sym q))
   looped p q (more {x} {y = z} h w) = record {
     other = z;
-    differs = λ r. (fuse-ends fewer s t x z h).0 (p ∙ sym r);
+    differs = λ r. (fuse_ends fewer s t x z h).0 (p ∙ sym r);
     out = one (moved (fused fewer s t) p refl h);
     back = subst (λ e. Walk (fused fewer s t) z e) q w;
   }
@@ -214,7 +214,7 @@ module _ (d : ℕ → ℕ → Bool) (n s t : ℕ) (self : (x : ℕ) → d x x �
   direct h = true≢false (sym (and_right (d s t) _ h) ∙ ap not (and_both _ _ (eq-eqb s s refl) (eq-eqb t t refl)))
 
   -- "The warning is then yes exactly when the fused chunk lies on a cycle with another; a direct dependency alone no longer warns."
-  pub mode-warning : (warns (without d s t) n s t ≡ true) ↔ Walk (fused d s t) t t
-  mode-warning =
-      let w = warning-exactly holder sound s t apart in
-      (λ h. ⊎_elim (λ a. absurd (direct a)) (λ (l : Looped holder s t). along fused-drop (join l.out l.back)) (w.0 h), λ c. w.1 (inr (looped refl refl (along fused-keep c))))
+  pub mode_warning : (warns (without d s t) n s t ≡ true) ↔ Walk (fused d s t) t t
+  mode_warning =
+      let w = warning_exactly holder sound s t apart in
+      (λ h. ⊎_elim (λ a. absurd (direct a)) (λ (l : Looped holder s t). along fused-drop (join l.out l.back)) (w.0 h), λ c. w.1 (inr (looped refl refl (along fused_keep c))))

@@ -14,16 +14,16 @@ use Rattle.graphs.specs.Walks as walks
 use Rattle.merge_state.specs.State.{None, put, put_same, put_other}
 use Rattle.merge_state.specs.Merges.{ending, merged_into}
 
-fewer_whites : (n x : ℕ) (c : ℕ → ℕ) → x < n → c x ≡ 0 → whites n (put c x 1) + 1 ≡ whites n c
+fewer-whites : (n x : ℕ) (c : ℕ → ℕ) → x < n → c x ≡ 0 → whites n (put c x 1) + 1 ≡ whites n c
 unfolding whites
-fewer_whites n x c b p =
+fewer-whites n x c b p =
     let e = total_change (λ y. is0 (c y)) (λ y. is0 (put c x 1 y)) n x b (λ j b r. ap is0 (put_other c x 1 j r)) in
     omega (arith, e, ap is0 p, ap is0 (put_same c x 1))
 
 module _ (into : ℕ → ℕ) where
-  pub step-give : (x : ℕ) → (into x ≡ None → ⊥) → merged_into into x (into x) ≡ true
+  pub step_give : (x : ℕ) → (into x ≡ None → ⊥) → merged_into into x (into x) ≡ true
   unfolding merged_into
-  step-give x h = and_both _ _ (ap not (ne_eqb (into x) None h)) (eq-eqb (into x) (into x) refl)
+  step_give x h = and_both _ _ (ap not (ne_eqb (into x) None h)) (eq-eqb (into x) (into x) refl)
 
   pub step-take : (x y : ℕ) → merged_into into x y ≡ true → (into x ≡ None → ⊥) × (into x ≡ y)
   unfolding merged_into
@@ -42,15 +42,15 @@ module _ (into : ℕ → ℕ) where
   unfolding ending
   none_yet x = refl
 
-  add-zero-left : (b : ℕ) → zero + b ≡ b
-  add-zero-left b = omega arith
+  add_zero_left : (b : ℕ) → zero + b ≡ b
+  add_zero_left b = omega arith
 
   suc-left : (a b : ℕ) → suc a + b ≡ suc (a + b)
   suc-left a b = omega arith
 
   -- a followed by b steps; so a doubled list of ends is one of twice the steps
   pub further : (a b x : ℕ) → ending into b (ending into a x) ≡ ending into (a + b) x
-  further zero b x = ap (ending into b) (none_yet x) ∙ ap (λ k. ending into k x) (sym (add-zero-left b))
+  further zero b x = ap (ending into b) (none_yet x) ∙ ap (λ k. ending into k x) (sym (add_zero_left b))
   further (suc a) b x = elim (ℕ_discrete (into x) None) [
     | yes q ↦ ap (ending into b) (stop (suc a) x q) ∙ stop b x q ∙ sym (stop (suc a + b) x q)
     | no q ↦ ap (ending into b) (go_on a x q) ∙ further a b (into x) ∙ sym (ap (λ k. ending into k x) (suc-left a b) ∙ go_on (a + b) x q)
@@ -68,43 +68,43 @@ module _ (into : ℕ → ℕ) where
 
     carried : (c : ℕ → ℕ) (x : ℕ) → Passed c x → (into x ≡ None → ⊥) → Passed (put c x 1) (into x)
     carried c x passed q y h = elim (ℕ_discrete y x) [
-      | yes p ↦ subst (λ z. Walk (merged_into into) z (into x)) (sym p) (one (step-give x q))
-      | no p ↦ join (passed y (λ e. h (put_other c x 1 y p ∙ e))) (one (step-give x q))
+      | yes p ↦ subst (λ z. Walk (merged_into into) z (into x)) (sym p) (one (step_give x q))
+      | no p ↦ join (passed y (λ e. h (put_other c x 1 y p ∙ e))) (one (step_give x q))
     ]
 
     unmet : (c : ℕ → ℕ) (x : ℕ) → Passed c x → c x ≡ 0
     unmet c x passed = elim (ℕ_discrete (c x) 0) [ yes p ↦ p | no p ↦ absurd (none x (passed x p)) ]
 
-    ended-from : (k x : ℕ) (c : ℕ → ℕ) → Passed c x → whites n c ≤ k → into (ending into k x) ≡ None
-    ended-from zero x c passed w = elim (ℕ_discrete (into x) None) [
+    ended_from : (k x : ℕ) (c : ℕ → ℕ) → Passed c x → whites n c ≤ k → into (ending into k x) ≡ None
+    ended_from zero x c passed w = elim (ℕ_discrete (into x) None) [
       | yes q ↦ ap into (stop zero x q) ∙ q
-      | no q ↦ absurd (omega (arith, fewer_whites n x c (range x q).0 (unmet c x passed)))
+      | no q ↦ absurd (omega (arith, fewer-whites n x c (range x q).0 (unmet c x passed)))
     ]
-    ended-from (suc k) x c passed w = elim (ℕ_discrete (into x) None) [
+    ended_from (suc k) x c passed w = elim (ℕ_discrete (into x) None) [
       | yes q ↦ ap into (stop (suc k) x q) ∙ q
-      | no q ↦ ap into (go_on k x q) ∙ ended-from k (into x) (put c x 1) (carried c x passed q) (omega (arith, fewer_whites n x c (range x q).0 (unmet c x passed)))
+      | no q ↦ ap into (go_on k x q) ∙ ended_from k (into x) (put c x 1) (carried c x passed q) (omega (arith, fewer-whites n x c (range x q).0 (unmet c x passed)))
     ]
 
     -- "the chunk at the end of its merges" isn't merged
     pub ended : (x : ℕ) → into (ending into n x) ≡ None
     unfolding whites
-    ended x = ended-from n x (λ y. 0) (λ y h. absurd (h refl)) (total_le (λ y. 1) n (λ i. omega arith))
+    ended x = ended_from n x (λ y. 0) (λ y h. absurd (h refl)) (total_le (λ y. 1) n (λ i. omega arith))
 
 -- a further merge, of s into t, neither merged yet
 module _ (into : ℕ → ℕ) (s t : ℕ) (apart : s ≡ t → ⊥) (s-free : into s ≡ None) (t-free : into t ≡ None) where
   abbrev onward : ℕ → ℕ
   onward = put into s t
 
-  t-stops : onward t ≡ None
-  t-stops = put_other into s t t (λ e. apart (sym e)) ∙ t-free
+  t_stops : onward t ≡ None
+  t_stops = put_other into s t t (λ e. apart (sym e)) ∙ t-free
 
   -- no ring comes of it
   pub no_ring : ((x : ℕ) → Walk (merged_into into) x x → ⊥) → (x : ℕ) → Walk (merged_into onward) x x → ⊥
   no_ring none x w = ⊎_elim (none x) (λ p. stuck p.1) (walks.closed t keep x w)
     where
       stuck : {y : ℕ} → Walk (merged_into onward) t y → ⊥
-      stuck (one h) = (step-take onward _ _ h).0 t-stops
-      stuck (more h w) = (step-take onward _ _ h).0 t-stops
+      stuck (one h) = (step-take onward _ _ h).0 t_stops
+      stuck (more h w) = (step-take onward _ _ h).0 t_stops
 
       keep : (x y : ℕ) → (x ≡ t → ⊥) → (y ≡ t → ⊥) → merged_into onward x y ≡ true → merged_into into x y ≡ true
       keep x y a b h = elim (ℕ_discrete x s) [
@@ -112,7 +112,7 @@ module _ (into : ℕ → ℕ) (s t : ℕ) (apart : s ≡ t → ⊥) (s-free : in
         | no q ↦
             let e = put_other into s t x q in
             let r = step-take onward x y h in
-            subst (λ z. merged_into into x z ≡ true) (sym e ∙ r.1) (step-give into x (λ i. r.0 (e ∙ i)))
+            subst (λ z. merged_into into x z ≡ true) (sym e ∙ r.1) (step_give into x (λ i. r.0 (e ∙ i)))
       ]
 
   module _ (real : None ≡ t → ⊥) where
@@ -120,7 +120,7 @@ module _ (into : ℕ → ℕ) (s t : ℕ) (apart : s ≡ t → ⊥) (s-free : in
     here k x q = elim (ℕ_discrete x s) [
       | yes p ↦
           let at-s : onward s ≡ t = put_same into s t in
-          ap (ending onward (suc k)) p ∙ go_on onward k s (λ e. real (sym e ∙ at-s)) ∙ ap (ending onward k) at-s ∙ stop onward k t t-stops
+          ap (ending onward (suc k)) p ∙ go_on onward k s (λ e. real (sym e ∙ at-s)) ∙ ap (ending onward k) at-s ∙ stop onward k t t_stops
           ∙ sym (ap (put (λ z. z) s t) p ∙ put_same (λ z. z) s t)
       | no p ↦ stop onward (suc k) x (put_other into s t x p ∙ q) ∙ sym (put_other (λ z. z) s t x p)
     ]
@@ -160,9 +160,9 @@ module _ (into : ℕ → ℕ) where
       let q : into x ≡ z = (step-take into x z h).1 in
       subst (λ v. Walk (merged_into into) v v) (sym q) (join (subst (λ v. Walk (merged_into into) z v) (sym e) w) (one h))
 
-  pub ring-goes-on : (k x : ℕ) → Walk (merged_into into) x x → into (ending into k x) ≡ None → ⊥
-  ring-goes-on zero x w h = first w (ap into (sym (none_yet into x)) ∙ h)
-  ring-goes-on (suc k) x w h = ring-goes-on k (into x) (turned refl w) (ap into (sym (go_on into k x (first w))) ∙ h)
+  pub ring_goes_on : (k x : ℕ) → Walk (merged_into into) x x → into (ending into k x) ≡ None → ⊥
+  ring_goes_on zero x w h = first w (ap into (sym (none_yet into x)) ∙ h)
+  ring_goes_on (suc k) x w h = ring_goes_on k (into x) (turned refl w) (ap into (sym (go_on into k x (first w))) ∙ h)
 
 -- The merges of the first `made` chunks: all in range, no ring, and none in the old mode.
 pub record Merges (mode : Bool) (into : ℕ → ℕ) (made : ℕ) : Type 0 where
@@ -171,8 +171,8 @@ pub record Merges (mode : Bool) (into : ℕ → ℕ) (made : ℕ) : Type 0 where
   pub off : mode ≡ false → (x : ℕ) → into x ≡ None
 
 module _ {into : ℕ → ℕ} {made : ℕ} where
-  pub merges-grown : {mode : Bool} → Merges mode into made → Merges mode into (made + 1)
-  merges-grown v = record { range = λ x h. (omega (arith, (v.range x h).0), omega (arith, (v.range x h).1)); no_ring = v.no_ring; off = v.off }
+  pub merges_grown : {mode : Bool} → Merges mode into made → Merges mode into (made + 1)
+  merges_grown v = record { range = λ x h. (omega (arith, (v.range x h).0), omega (arith, (v.range x h).1)); no_ring = v.no_ring; off = v.off }
 
   pub merges-more : (mode : Bool) (s t : ℕ) → Merges mode into made → (s ≡ t → ⊥) → s < made → t < made → into s ≡ None → into t ≡ None
       → Merges mode (cond mode (put into s t) into) made

@@ -17,7 +17,7 @@ use Rattle.merge_state.specs.State.{None, Graph, put, put_other, misfit}
 use Rattle.merge_state.specs.Merges.{gone, waits}
 use Rattle.merge_state.specs.Methods.{Passed, merged, created_chunk, warn, merges, candidate, passed}
 use Rattle.merge_state.specs.Table.{Call, init_module_assignment, add_module_to_chunk, register_chunk_graph_index, to_temp_idx, calc_chunk_dependencies, would_create_circular_dependency, is_reachable, merge_chunk_dependencies, pass, first_fitting, any_misfit, any_gone, later, acted}
-use Rattle.merge_state.specs.Ordered.{Ordered, never, appended-kept, registered-kept, created-chunk-kept, merged-kept, calculated-kept, assigned-kept}
+use Rattle.merge_state.specs.Ordered.{Ordered, never, appended-kept, registered-kept, created_chunk-kept, merged-kept, calculated-kept, assigned-kept}
 
 -- no row fits: the first doesn't, nor a later one
 pub none-fits : (b : Bool) (n : ℕ) (l : List (Bool × ℕ)) → 0 < n → first_fitting ((b, n) ∷ l) ≡ 0 → (b ≡ false) × (first_fitting l ≡ 0)
@@ -32,19 +32,19 @@ default_in (a ∷ l) (suc i) d h = default_in l i d (omega arith)
 
 -- no number of a list misfits
 module _ (top : ℕ) (l : List ℕ) where
-  pub no-misfit : any_misfit top false l ≡ false → (i : ℕ) → i < length l → get_or l i 0 < top
+  pub no_misfit : any_misfit top false l ≡ false → (i : ℕ) → i < length l → get_or l i 0 < top
   unfolding any_misfit misfit
-  no-misfit h i b = leb-false top (get_or l i 0) (fails _ (λ q. never _ (and_both _ _ q refl) (some_none (λ i. misfit top false (get_or l i 0)) (length l) h i b)))
+  no_misfit h i b = leb-false top (get_or l i 0) (fails _ (λ q. never _ (and_both _ _ q refl) (some_none (λ i. misfit top false (get_or l i 0)) (length l) h i b)))
 
-  pub no-misfit-but : any_misfit top true l ≡ false → (i : ℕ) → i < length l → (get_or l i 0 ≡ None → ⊥) → get_or l i 0 < top
+  pub no_misfit_but : any_misfit top true l ≡ false → (i : ℕ) → i < length l → (get_or l i 0 ≡ None → ⊥) → get_or l i 0 < top
   unfolding any_misfit misfit
-  no-misfit-but h i b n =
+  no_misfit_but h i b n =
       leb-false top (get_or l i 0) (fails _ (λ q. never _ (and_both _ _ q (ap not (ne_eqb (get_or l i 0) None n))) (some_none (λ i. misfit top true (get_or l i 0)) (length l) h i b)))
 
 -- a proposal is None or initial
 pub proposal : (g : Graph) (l : List ℕ) → any_misfit g.initial true l ≡ false → (i : ℕ) → (get_or l i None ≡ None → ⊥) → get_or l i None < g.initial
 proposal g l h i n = elim (dec_lt i (length l)) [
-  | yes b ↦ let e = default_in l i None b in rw e (no-misfit-but g.initial l h i b (rw e at n))
+  | yes b ↦ let e = default_in l i None b in rw e (no_misfit_but g.initial l h i b (rw e at n))
   | no b ↦ absurd (n (get_or-eq_default l None {n = i} (omega arith)))
 ]
 
@@ -73,8 +73,8 @@ pub record Proper (g : Graph) (k p : ℕ) : Type 0 where
 
 module _ {z : Sizes} {g : Graph} (o : Ordered z g) (room : g.initial + g.created + count (waits g) g.made ≤ z.chunks) where
   -- a chunk that waits isn't initial, nor merged
-  later-than : (k : ℕ) → waits g k ≡ true → g.initial ≤ k
-  later-than k w = elim (dec_lt k g.initial) [
+  later_than : (k : ℕ) → waits g k ≡ true → g.initial ≤ k
+  later_than k w = elim (dec_lt k g.initial) [
     | yes b ↦ absurd (never _ (and_left (g.needs k) _ w) (o.initial_needs_none k b))
     | no b ↦ omega arith
   ]
@@ -101,7 +101,7 @@ module _ {z : Sizes} {g : Graph} (o : Ordered z g) (room : g.initial + g.created
       from x h = ⊎_elim (λ a. inl a) (λ a. inr (omega arith)) h
 
       other : (x : ℕ) → (x < g.initial) ⊎ (suc k ≤ x) → x ≡ k → ⊥
-      other x h q = ⊎_elim (λ a. omega (arith, later-than k n)) (λ a. omega arith) h
+      other x h q = ⊎_elim (λ a. omega (arith, later_than k n)) (λ a. omega arith) h
 
       go : (t : Bool) → ((not (eqb p None) && eqb b 0) && not (warn r.graph k p)) ≡ t
           → Passing z g (suc k) (cond t
@@ -110,7 +110,7 @@ module _ {z : Sizes} {g : Graph} (o : Ordered z g) (room : g.initial + g.created
       go true q =
           let c = f (eqb-false p None (not-true _ (and_left (not (eqb p None)) _ (and_left (not (eqb p None) && eqb b 0) _ q)))) in
           record {
-            ordered = merged-kept v.ordered p k (omega (arith, c.initial, v.initial, v.made, v.ordered.begun)) (omega (arith, v.made)) (λ e. omega (arith, c.initial, later-than k n))
+            ordered = merged-kept v.ordered p k (omega (arith, c.initial, v.initial, v.made, v.ordered.begun)) (omega (arith, v.made)) (λ e. omega (arith, c.initial, later_than k n))
                 (v.into p (inl c.initial) ∙ c.unmerged) (v.into k (inr (omega arith)) ∙ free k n);
             initial = v.initial;
             made = v.made;
@@ -121,7 +121,7 @@ module _ {z : Sizes} {g : Graph} (o : Ordered z g) (room : g.initial + g.created
           }
       go false q =
           record {
-            ordered = created-chunk-kept v.ordered k there (omega (arith, v.made));
+            ordered = created_chunk-kept v.ordered k there (omega (arith, v.made));
             initial = v.initial;
             made = v.made;
             created = omega (arith, next, v.created);

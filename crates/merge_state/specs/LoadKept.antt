@@ -18,9 +18,9 @@ use Rattle.merge_state.specs.Methods.{appended}
 use Rattle.merge_state.specs.Ends.{step-take}
 use Rattle.merge_state.specs.Table.{first_fitting, falling, bad_starts, any_misfit}
 use Rattle.merge_state.specs.Loading.{Lent, lister, set_at, lent_pair, lent_pairs, loaded, came_before, twice, over_load, bad_load, later_load, load}
-use Rattle.merge_state.specs.Ordered.{Ordered, one-longer, appended-kept}
+use Rattle.merge_state.specs.Ordered.{Ordered, one_longer, appended-kept}
 use Rattle.merge_state.specs.Pairs.{pairs-length, pairs-at}
-use Rattle.merge_state.specs.Kept.{none-fits, no-misfit}
+use Rattle.merge_state.specs.Kept.{none-fits, no_misfit}
 
 lister_in : (starts : List ℕ) (n k d : ℕ) → get_or starts n 0 ≡ d → get_or starts 0 0 ≡ 0 → k < d → lister starts n k < n
 unfolding lister count
@@ -80,9 +80,9 @@ allowed z n a b c =
       rising = λ i h. ltb-false _ _ (some_none (λ i. ltb (get_or n.starts (i + 1) 0) (get_or n.starts i 0)) n.initial st₃ i h);
       flat = eqb-true _ _ (not-false _ (or_false_left (not (eqb (length n.flat) (p * w))) _ rest));
       effects = eqb-true _ _ (not-false _ (or_false_right (not (eqb (length n.flat) (p * w))) _ rest));
-      modules = no-misfit z.modules n.modules (or_false_left (any_misfit z.modules false n.modules) _ h₁.0);
+      modules = no_misfit z.modules n.modules (or_false_left (any_misfit z.modules false n.modules) _ h₁.0);
       sets = λ i h. ltb-true _ _ (and_right (eqb (length (set_at w n.flat i)) w) _ (not-false _ (some_none (λ i. not (legal z.bits (set_at w n.flat i))) p (or_false_left (some_below (λ i. not (legal z.bits (set_at w n.flat i))) p) _ indices) i h)));
-      chunks = no-misfit n.initial n.chunks (or_false_right (some_below (λ i. not (legal z.bits (set_at w n.flat i))) p) _ indices);
+      chunks = no_misfit n.initial n.chunks (or_false_right (some_below (λ i. not (legal z.bits (set_at w n.flat i))) p) _ indices);
       distinct = λ i j l h. eqb-false _ _ (some_none (λ i. eqb (value (set_at w n.flat i)) (value (set_at w n.flat j))) j (some_none (came_before (λ i. value (set_at w n.flat i))) p h₂.0 j h) i l);
       room = ltb-false _ _ h₃.0;
     }
@@ -137,7 +137,7 @@ module _ (z : Sizes) (n : Lent) (small : z.chunks ≤ 1024) (ok : Allowed z n) w
       record {
         ordered = appended-kept r.ordered n.effects (lister n.starts n.initial k) (get_or n.modules k 0) (omega (arith, listed_in k (omega arith), r.made)) (ok.modules k (omega arith)) (omega (arith, r.log, ok.room));
         made = r.made;
-        log = omega (arith, one-longer g.log (lister n.starts n.initial k, get_or n.modules k 0), r.log);
+        log = omega (arith, one_longer g.log (lister n.starts n.initial k, get_or n.modules k 0), r.log);
       }
 
   pub load_kept : Ordered z (load z n)

@@ -15,7 +15,7 @@ use Rattle.merge_state.specs.declared.Sizes.{Sizes}
 use Rattle.merge_state.specs.State.{None, Graph, put, put_same, put_other, chunk_of, at}
 use Rattle.merge_state.specs.Methods.{appended, opened, assigned_to, registered, module_on, listed_on, calculated, absorbed, merged, created_chunk}
 use Rattle.merge_state.specs.Warning.{Sound}
-use Rattle.merge_state.specs.Ends.{Merges, merges-grown, merges-more}
+use Rattle.merge_state.specs.Ends.{Merges, merges_grown, merges-more}
 use Rattle.merge_state.specs.Absorbed.{absorbed-source, absorbed-target, absorbed-other}
 
 -- "A merge area: every index in range, no self-dependency, sets distinct, no initial chunk needing creation, used entries within L." And (vii) of
@@ -41,8 +41,8 @@ never b p q = true≢false (sym p ∙ q)
 
 -- a list with one more entry
 module _ (l : List (ℕ × ℕ)) (e : ℕ × ℕ) where
-  pub one-longer : length (l ++ (e ∷ [])) ≡ length l + 1
-  one-longer = length-append l (e ∷ [])
+  pub one_longer : length (l ++ (e ∷ [])) ≡ length l + 1
+  one_longer = length-append l (e ∷ [])
 
   pub at_old : (i : ℕ) → i < length l → at (l ++ (e ∷ [])) i ≡ at l i
   at_old i h = get_or-append l (e ∷ []) (0, 0) i h
@@ -53,7 +53,7 @@ module _ (l : List (ℕ × ℕ)) (e : ℕ × ℕ) where
   pub each_more : (P : ℕ × ℕ → Type 0) → ((i : ℕ) → i < length l → P (at l i)) → P e → (i : ℕ) → i < length (l ++ (e ∷ [])) → P (at (l ++ (e ∷ [])) i)
   each_more P f p i h = elim (dec_lt i (length l)) [
     | yes b ↦ rw (at_old i b) (f i b)
-    | no b ↦ let q : i ≡ length l = omega (arith, one-longer) in rw (q, at_new) p
+    | no b ↦ let q : i ≡ length l = omega (arith, one_longer) in rw (q, at_new) p
   ]
 
 pub unseen : (v : ℕ) (l : List (ℕ × ℕ)) → ((i : ℕ) → i < length l → (at l i).1 < None) → chunk_of v l ≡ None → (i : ℕ) → i < length l → (at l i).0 ≡ v → ⊥
@@ -100,7 +100,7 @@ module _ {z : Sizes} {g : Graph} (o : Ordered z g) where
         sound = record { self = o.sound.self; from = o.sound.from; to = o.sound.to };
         homes = put_range o.homes b a;
         logged = each_more g.log (x, k) (λ e. (e.0 < g.made) × (e.1 < z.modules)) o.logged (a, b);
-        used = omega (arith, one-longer g.log (x, k));
+        used = omega (arith, one_longer g.log (x, k));
         merges = o.merges;
       }
 
@@ -120,17 +120,17 @@ module _ {z : Sizes} {g : Graph} (o : Ordered z g) where
         keyed = λ k. grown (o.keyed k);
         named = each_more g.sets (v, g.made) (λ e. (e.0 < 2 ^ z.bits) × (e.1 < g.made + 1)) (λ i h. ((o.named i h).0, omega (arith, (o.named i h).1))) (b, omega arith);
         distinct = λ i j l h q. apart i j l h q;
-        room = omega (arith, one-longer g.sets (v, g.made), o.room);
+        room = omega (arith, one_longer g.sets (v, g.made), o.room);
         logged = λ i h. (omega (arith, (o.logged i h).0), (o.logged i h).1);
         used = o.used;
-        merges = merges-grown o.merges;
+        merges = merges_grown o.merges;
       }
     where
       apart : (i j : ℕ) → i < j → j < length (g.sets ++ ((v, g.made) ∷ [])) → (at (g.sets ++ ((v, g.made) ∷ [])) i).0 ≡ (at (g.sets ++ ((v, g.made) ∷ [])) j).0 → ⊥
       apart i j l h q = elim (dec_lt j (length g.sets)) [
         | yes b ↦ o.distinct i j l b (rw (at_old g.sets (v, g.made) i (omega arith), at_old g.sets (v, g.made) j b) at q)
         | no b ↦
-            let e : j ≡ length g.sets = omega (arith, one-longer g.sets (v, g.made)) in
+            let e : j ≡ length g.sets = omega (arith, one_longer g.sets (v, g.made)) in
             let f : i < length g.sets = omega arith in
             unseen v g.sets (λ k r. omega (arith, (o.named k r).1, o.fits, o.small)) c i f (rw (e, at_new g.sets (v, g.made), at_old g.sets (v, g.made) i f) at q)
       ]
@@ -154,9 +154,9 @@ module _ {z : Sizes} {g : Graph} (o : Ordered z g) where
         keyed = put_range o.keyed a b;
       }
 
-  pub created-chunk-kept : (x : ℕ) → g.initial + g.created < z.chunks → x < g.made → Ordered z (created_chunk g x)
+  pub created_chunk-kept : (x : ℕ) → g.initial + g.created < z.chunks → x < g.made → Ordered z (created_chunk g x)
   unfolding created_chunk
-  created-chunk-kept x a b =
+  created_chunk-kept x a b =
       record {
         small = o.small;
         begun = o.begun;
@@ -257,9 +257,9 @@ module _ {z : Sizes} {g : Graph} (o : Ordered z g) where
           inr (n, eqb-false x y (not-true _ (and_right (not (eqb y None)) _ t)), f.0, f.1))
           (or_cases (g.depends x y) _ h)
 
-pub opened_made : (g : Graph) (v : ℕ) → g.made < (opened g v).made
+pub opened-made : (g : Graph) (v : ℕ) → g.made < (opened g v).made
 unfolding opened
-opened_made g v = omega arith
+opened-made g v = omega arith
 
 pub opened_log : (g : Graph) (v : ℕ) {n : ℕ} → length g.log < n → length (opened g v).log < n
 unfolding opened
@@ -274,7 +274,7 @@ assigned-kept {z} {g} o effs k v a b c l = go (eqb (chunk_of v g.sets) None) ref
     made-new q = leb-false z.chunks g.made (rw q at c)
 
     go : (t : Bool) → eqb (chunk_of v g.sets) None ≡ t → Ordered z (cond t (appended effs (opened g v) g.made k) (appended effs g (chunk_of v g.sets) k))
-    go true q = appended-kept (opened-kept o v (made-new q) b (eqb-true (chunk_of v g.sets) None q)) effs g.made k (opened_made g v) a (opened_log g v l)
+    go true q = appended-kept (opened-kept o v (made-new q) b (eqb-true (chunk_of v g.sets) None q)) effs g.made k (opened-made g v) a (opened_log g v l)
     go false q =
         let s = seen v g.sets (eqb-false (chunk_of v g.sets) None q) in
         appended-kept o effs (chunk_of v g.sets) k (rw s.2 at (o.named s.0 s.1).1) a l

@@ -5,12 +5,12 @@ use Rattle.std.proofs.Math.Decide.{ℕ_discrete}
 use Rattle.std.proofs.Math.Path.{sym, ap}
 use mathlib.Core.List.{List, [], ◌∷◌, ◌++◌, append_assoc}
 use Rattle.merge_state.specs.State.{None, chunk_of, at, pairs}
-use Rattle.merge_state.specs.Ordered.{one-longer, at_old, at_new}
+use Rattle.merge_state.specs.Ordered.{one_longer, at_old, at_new}
 
 pub pairs-length : (f : ℕ → ℕ × ℕ) (n : ℕ) → length (pairs f n) ≡ n
 unfolding pairs
 pairs-length f zero = refl
-pairs-length f (suc n) = omega (arith, one-longer (pairs f n) (f n), pairs-length f n)
+pairs-length f (suc n) = omega (arith, one_longer (pairs f n) (f n), pairs-length f n)
 
 pub pairs-at : (f : ℕ → ℕ × ℕ) (n i : ℕ) → i < n → at (pairs f n) i ≡ f i
 unfolding pairs

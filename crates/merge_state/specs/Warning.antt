@@ -1,4 +1,4 @@
--- `warning-exactly`: what the warning says of the fused graph (demand 2), where merged chunks don't stand for their target. Assumes nothing.
+-- `warning_exactly`: what the warning says of the fused graph (demand 2), where merged chunks don't stand for their target. Assumes nothing.
 use Rattle.std.specs.Prelude.{ℕ, ◌<◌, ◌≡◌, ◌⊎◌, ◌↔◌, Bool, false, ◌&&◌, ◌||◌, eqb}
 use Rattle.std.proofs.Math.Decide.{ℕ_discrete}
 use Rattle.std.proofs.Math.Path.{refl, sym}
@@ -38,16 +38,16 @@ module _ (d : ℕ → ℕ → Bool) (s t x y : ℕ) where
   unfolding fused
   fuse a b c h = and_both _ _ (and_both _ _ (ap not (ne_eqb x y a)) (and_both _ _ (ap not (ne_eqb x s b)) (ap not (ne_eqb y s c)))) h
 
-  pub fuse-ends : fused d s t x y ≡ true → (x ≡ y → ⊥) × (x ≡ s → ⊥) × (y ≡ s → ⊥)
+  pub fuse_ends : fused d s t x y ≡ true → (x ≡ y → ⊥) × (x ≡ s → ⊥) × (y ≡ s → ⊥)
   unfolding fused
-  fuse-ends h =
+  fuse_ends h =
       let k = and_left (not (eqb x y) && (not (eqb x s) && not (eqb y s))) _ h in
       let l = and_right (not (eqb x y)) _ k in
       (eqb-false x y (not-true _ (and_left (not (eqb x y)) _ k)), eqb-false x s (not-true _ (and_left (not (eqb x s)) _ l)), eqb-false y s (not-true _ (and_right (not (eqb x s)) _ l)))
 
-  pub fuse-cases : fused d s t x y ≡ true → (d x y ≡ true) ⊎ (((x ≡ t) × (d s y ≡ true)) ⊎ ((y ≡ t) × (d x s ≡ true)))
+  pub fuse_cases : fused d s t x y ≡ true → (d x y ≡ true) ⊎ (((x ≡ t) × (d s y ≡ true)) ⊎ ((y ≡ t) × (d x s ≡ true)))
   unfolding fused
-  fuse-cases h =
+  fuse_cases h =
       ⊎_elim (λ a. inl a)
       (λ b. inr (⊎_elim (λ p. inl (eqb-true x t (and_left (eqb x t) _ p), and_right (eqb x t) _ p)) (λ p. inr (eqb-true y t (and_left (eqb y t) _ p), and_right (eqb y t) _ p)) (or_cases (eqb x t && d s y) _ b)))
       (or_cases (d x y) _ (and_right (not (eqb x y) && (not (eqb x s) && not (eqb y s))) _ h))
@@ -62,13 +62,13 @@ module _ (g : Graph) (v : Sound g) (s t : ℕ) (differ : s ≡ t → ⊥) where
   no_self : {x : ℕ} → g.depends x x ≡ true → ⊥
   no_self {x} h = true≢false (sym h ∙ v.self x)
 
-  first-in : (x : ℕ) → First x → In x ≡ true
+  first_in : (x : ℕ) → First x → In x ≡ true
   unfolding First In
-  first-in x h = closed-first g.depends g.made s t x (⊎_elim (v.to s x) (v.to t x) h) h
+  first_in x h = closed-first g.depends g.made s t x (⊎_elim (v.to s x) (v.to t x) h) h
 
-  next-in : (x y : ℕ) → In x ≡ true → g.depends x y ≡ true → In y ≡ true
+  next_in : (x y : ℕ) → In x ≡ true → g.depends x y ≡ true → In y ≡ true
   unfolding In
-  next-in = closed-next g.depends g.made s t v.from
+  next_in = closed-next g.depends g.made s t v.from
 
   in_all : (P : ℕ → Type 0) → ((x : ℕ) → First x → P x) → ((x y : ℕ) → P x → g.depends x y ≡ true → P y) → (x : ℕ) → In x ≡ true → P x
   unfolding First In
@@ -132,31 +132,31 @@ module _ (g : Graph) (v : Sound g) (s t : ℕ) (differ : s ≡ t → ⊥) where
           n)
           (in_all Met met-first met_next x (and_left (In x) _ r.2))
 
-  target-in : In t ≡ true → warns g.depends g.made s t ≡ true
+  target_in : In t ≡ true → warns g.depends g.made s t ≡ true
   unfolding warns In
-  target-in h = or_left _ _ h
+  target_in h = or_left _ _ h
 
-  member-on : (x : ℕ) → In x ≡ true → g.depends x s ≡ true → warns g.depends g.made s t ≡ true
+  member_on : (x : ℕ) → In x ≡ true → g.depends x s ≡ true → warns g.depends g.made s t ≡ true
   unfolding warns In
-  member-on x h e = or_right (In t) _ (some_give (λ x. In x && g.depends x s) g.made x (v.from x s e) (and_both _ _ h e))
+  member_on x h e = or_right (In t) _ (some_give (λ x. In x && g.depends x s) g.made x (v.from x s e) (and_both _ _ h e))
 
   -- a member of the closed union that isn't the target, with a walk of the fused graph to the target
   homing : {x y : ℕ} → In x ≡ true → (x ≡ t → ⊥) → y ≡ t → Walk (fused g.depends s t) x y → warns g.depends g.made s t ≡ true
   homing c n q (one {x} {y} h) =
-      ⊎_elim (λ a. target-in (next-in x t c (rw q at a))) (λ k. ⊎_elim (λ p. absurd (n p.0)) (λ p. member-on x c p.1) k) (fuse-cases g.depends s t x y h)
+      ⊎_elim (λ a. target_in (next_in x t c (rw q at a))) (λ k. ⊎_elim (λ p. absurd (n p.0)) (λ p. member_on x c p.1) k) (fuse_cases g.depends s t x y h)
   homing c n q (more {x} {y = z} h w) = elim (ℕ_discrete z t) [
-    | yes p ↦ ⊎_elim (λ a. target-in (next-in x t c (rw p at a))) (λ k. ⊎_elim (λ l. absurd (n l.0)) (λ l. member-on x c l.1) k) (fuse-cases g.depends s t x z h)
-    | no p ↦ homing (next-in x z c (⊎_elim (λ a. a) (λ k. ⊎_elim (λ l. absurd (n l.0)) (λ l. absurd (p l.0)) k) (fuse-cases g.depends s t x z h))) p q w
+    | yes p ↦ ⊎_elim (λ a. target_in (next_in x t c (rw p at a))) (λ k. ⊎_elim (λ l. absurd (n l.0)) (λ l. member_on x c l.1) k) (fuse_cases g.depends s t x z h)
+    | no p ↦ homing (next_in x z c (⊎_elim (λ a. a) (λ k. ⊎_elim (λ l. absurd (n l.0)) (λ l. absurd (p l.0)) k) (fuse_cases g.depends s t x z h))) p q w
   ]
 
   leaving : {x y : ℕ} → x ≡ t → y ≡ t → Walk (fused g.depends s t) x y → warns g.depends g.made s t ≡ true
   unfolding First
-  leaving p q (one {x} {y} h) = absurd ((fuse-ends g.depends s t x y h).0 (p ∙ sym q))
+  leaving p q (one {x} {y} h) = absurd ((fuse_ends g.depends s t x y h).0 (p ∙ sym q))
   leaving p q (more {x} {y = z} h w) =
-      homing (first-in z (⊎_elim (λ a. inr (rw p at a)) (λ k. ⊎_elim (λ l. inl l.1) (λ l. absurd ((fuse-ends g.depends s t x z h).0 (p ∙ sym l.0))) k) (fuse-cases g.depends s t x z h)))
-      (λ i. (fuse-ends g.depends s t x z h).0 (p ∙ sym i)) q w
+      homing (first_in z (⊎_elim (λ a. inr (rw p at a)) (λ k. ⊎_elim (λ l. inl l.1) (λ l. absurd ((fuse_ends g.depends s t x z h).0 (p ∙ sym l.0))) k) (fuse_cases g.depends s t x z h)))
+      (λ i. (fuse_ends g.depends s t x z h).0 (p ∙ sym i)) q w
 
   -- "the merge warning is yes exactly when the source depends directly on the target or the two fused lie on a cycle with another chunk"
-  pub warning-exactly : (warns g.depends g.made s t ≡ true) ↔ ((g.depends s t ≡ true) ⊎ Looped g s t)
+  pub warning_exactly : (warns g.depends g.made s t ≡ true) ↔ ((g.depends s t ≡ true) ⊎ Looped g s t)
   unfolding Bad First
-  warning-exactly = (warned, λ b. ⊎_elim (λ e. target-in (first-in t (inl e))) (λ (l : Looped g s t). leaving refl refl (join l.out l.back)) b)
+  warning_exactly = (warned, λ b. ⊎_elim (λ e. target_in (first_in t (inl e))) (λ (l : Looped g s t). leaving refl refl (join l.out l.back)) b)

@@ -1,7 +1,7 @@
 // What the bits of a set name: 0 nothing, 1 a dynamic entry, 2 a user entry, 3 a common chunk.
 ghost use Rattle.std.specs.Prelude.{◌≡◌, ◌/◌, ◌%◌, ◌^◌, ◌<◌, ◌≤◌, length, eqb};
 ghost use Rattle.entry_set.specs.Sets.{number};
-ghost use Rattle.merge_choice.specs.Choice.{bits, role, some-role};
+ghost use Rattle.merge_choice.specs.Choice.{bits, role, some_role};
 ghost use Rattle.merge_choice.specs.Named.{reads, CanName, CanSetRoles, Named};
 
 use entry_set::EntrySet;
@@ -58,7 +58,7 @@ pub(crate) fn set_roles(kinds: &[u32], classes: &[u32], set: EntrySet, n: usize,
 // Some chunk below n has role v.
 pub(crate) fn some_role(roles: &[u32], n: usize, v: u32) -> bool
     requires { n ≤ length roles.now }
-    ensures { result ≡ some-role (reads roles.now) n v }
+    ensures { result ≡ some_role (reads roles.now) n v }
 {
     let mut b = 0;
     while b < n {

@@ -1,7 +1,7 @@
 // The first entry whose module all others of its role import.
 ghost use Rattle.std.specs.Prelude.{◌≡◌, ◌+◌};
 ghost use Rattle.graphs.specs.Lists.{some_below};
-ghost use Rattle.merge_choice.specs.Choice.{lists, first-target};
+ghost use Rattle.merge_choice.specs.Choice.{lists, first_target};
 ghost use Rattle.merge_choice.specs.Named.{reads};
 ghost use Rattle.merge_choice.specs.Search.{misses, CanMiss, CanWin, Won, CanFirst, Searching};
 
@@ -87,7 +87,7 @@ fn first_winner(
     marks: &mut [u32],
 ) -> u32
     requires { CanFirst n roles.now v entries.now starts.now importers.now 4096 × Searching n roles.now v entries.now starts.now importers.now marks.old 0 }
-    ensures { result ≡ first-target (reads roles.now) n entries.now (lists starts.now importers.now) v }
+    ensures { result ≡ first_target (reads roles.now) n entries.now (lists starts.now importers.now) v }
 {
     let mut t = 0;
     while t < n {
@@ -108,7 +108,7 @@ pub(crate) fn first_target(
     importers: &[u32],
 ) -> u32
     requires { CanFirst n roles.now v entries.now starts.now importers.now 4096 }
-    ensures { result ≡ first-target (reads roles.now) n entries.now (lists starts.now importers.now) v }
+    ensures { result ≡ first_target (reads roles.now) n entries.now (lists starts.now importers.now) v }
 {
     let mut marks = [0u32; 4096];
     first_winner(n, roles, v, entries, starts, importers, &mut marks)

@@ -10,7 +10,7 @@ use Rattle.graphs.specs.Bools.{alike, fails, and_left, and_right, and_both}
 use Rattle.graphs.specs.Lists.{below, some_below, some_give, some_take}
 use Rattle.graphs.specs.Walk.{via}
 use Rattle.graph_walks.specs.Closed.{flag_edge, closed}
-use Rattle.graph_walks.specs.Counted.{counted, without, counted-give, counted-take}
+use Rattle.graph_walks.specs.Counted.{counted, without, counted_give, counted-take}
 use Rattle.graph_walks.specs.Ends.{end_at, end_edge, EndRows}
 use Rattle.merge_state.specs.State.{yes}
 use Rattle.merge_warning.specs.Hits.{CanAsk, closed-reach}
@@ -51,7 +51,7 @@ module _ (l : List ℕ) (c n : ℕ) (ends : List ℕ) (s t : ℕ) (marks : List 
       let j = q.0 in
       let e : end_at ends j ≡ s = eqb-true _ _ (and_right (yes (get_or l (i * c + j) 0)) _ q.2) in
       let f : d i j ≡ true = Rattle.graph_walks.specs.ClosedLaws.flag_is l c n i j r.1 q.1 ∙ and_left (yes (get_or l (i * c + j) 0)) _ q.2 in
-      let k : counted d (end_at ends) n x (end_at ends j) ≡ true = counted-give d (end_at ends) n i j r.1 q.1 f (λ g. ne (g ∙ e)) in
+      let k : counted d (end_at ends) n x (end_at ends j) ≡ true = counted_give d (end_at ends) n i j r.1 q.1 f (λ g. ne (g ∙ e)) in
       some_give (λ x. yes (get_or marks x 0) && end_edge l c n ends s t x s) n x (each i r.1)
       (and_both _ _ (and_left (yes (get_or marks x 0)) _ p) (and_both _ _ (subst (λ v. counted d (end_at ends) n x v ≡ true) e k) (ap (λ b. not (b && eqb s t)) (ne_eqb x s ne))))
 
@@ -65,11 +65,11 @@ module _ (l : List ℕ) (c n : ℕ) (ends : List ℕ) (s t : ℕ) (marks : List 
       let j = k.target in
       some_give (end_hit l c n ends s marks) n i k.source_in
       (and_both _ _ (and_both _ _ (ap (λ v. yes (get_or marks v 0)) k.from ∙ and_left (yes (get_or marks x 0)) _ r.2) (ap not (ne_eqb _ s (λ g. k.differ (sym k.from ∙ g)))))
-      (some_give (names l c n ends s i) n j k.target-in
-      (and_both _ _ (sym (Rattle.graph_walks.specs.ClosedLaws.flag_is l c n i j k.source_in k.target-in) ∙ k.edge) (eq-eqb _ s k.to))))
+      (some_give (names l c n ends s i) n j k.target_in
+      (and_both _ _ (sym (Rattle.graph_walks.specs.ClosedLaws.flag_is l c n i j k.source_in k.target_in) ∙ k.edge) (eq-eqb _ s k.to))))
 
-  pub end-hits-are : some_below (end_hit l c n ends s marks) n ≡ some_below (λ x. yes (get_or marks x 0) && end_edge l c n ends s t x s) n
-  end-hits-are = alike _ _ there back
+  pub end-hits_are : some_below (end_hit l c n ends s marks) n ≡ some_below (λ x. yes (get_or marks x 0) && end_edge l c n ends s t x s) n
+  end-hits_are = alike _ _ there back
 
 -- a hit's three tests, in order
 module _ (l : List ℕ) (c n : ℕ) (ends : List ℕ) (s : ℕ) (marks : List ℕ) (i : ℕ) where
@@ -86,9 +86,9 @@ module _ (l : List ℕ) (c n : ℕ) (ends : List ℕ) (s : ℕ) (marks : List �
   end-names {x} e h k q = rw (← e, ne_eqb _ 0 h, ne_eqb x s k) q
 
 -- no edge is on oneself: nothing is left out where source and target are one
-pub nothing_left_out : (l : List ℕ) (c n : ℕ) (ends : List ℕ) (x : ℕ) → end_edge l c n ends x x ≡ counted (flag_edge l c n) (end_at ends) n
+pub nothing_left-out : (l : List ℕ) (c n : ℕ) (ends : List ℕ) (x : ℕ) → end_edge l c n ends x x ≡ counted (flag_edge l c n) (end_at ends) n
 unfolding without
-nothing_left_out l c n ends x = fun_ext (λ u. fun_ext (λ v. alike _ _ (λ h. and_left (counted (flag_edge l c n) (end_at ends) n u v) _ h) (λ h. and_both _ _ h (ap not (go u v h)))))
+nothing_left-out l c n ends x = fun_ext (λ u. fun_ext (λ v. alike _ _ (λ h. and_left (counted (flag_edge l c n) (end_at ends) n u v) _ h) (λ h. and_both _ _ h (ap not (go u v h)))))
   where
     go : (u v : ℕ) → counted (flag_edge l c n) (end_at ends) n u v ≡ true → (eqb u x && eqb v x) ≡ false
     go u v h =
@@ -96,13 +96,13 @@ nothing_left_out l c n ends x = fun_ext (λ u. fun_ext (λ v. alike _ _ (λ h. a
 
 -- counted edges are between the first n
 module _ (l : List ℕ) (c n : ℕ) (ends : List ℕ) (each : (x : ℕ) → x < n → get_or ends x 0 < n) where
-  pub counted-from : (x y : ℕ) → counted (flag_edge l c n) (end_at ends) n x y ≡ true → x < n
-  counted-from x y h = let k = counted-take (flag_edge l c n) (end_at ends) n x y h in subst (λ v. v < n) k.from (each k.source k.source_in)
+  pub counted_from : (x y : ℕ) → counted (flag_edge l c n) (end_at ends) n x y ≡ true → x < n
+  counted_from x y h = let k = counted-take (flag_edge l c n) (end_at ends) n x y h in subst (λ v. v < n) k.from (each k.source k.source_in)
 
   pub counted-to : (x y : ℕ) → counted (flag_edge l c n) (end_at ends) n x y ≡ true → y < n
-  counted-to x y h = let k = counted-take (flag_edge l c n) (end_at ends) n x y h in subst (λ v. v < n) k.to (each k.target k.target-in)
+  counted-to x y h = let k = counted-take (flag_edge l c n) (end_at ends) n x y h in subst (λ v. v < n) k.to (each k.target k.target_in)
 
 -- marks of the closed union of one end, and what the end reaches
-pub reach_marks : (l : List ℕ) (c n : ℕ) (ends : List ℕ) (each : (x : ℕ) → x < n → get_or ends x 0 < n) (x y : ℕ) → closed (end_edge l c n ends x x) n x x y ≡ via (counted (flag_edge l c n) (end_at ends) n) (below n) x y
-reach_marks l c n ends each x y =
-    ap (λ e. closed e n x x y) (nothing_left_out l c n ends x) ∙ closed-reach (counted (flag_edge l c n) (end_at ends) n) n (counted-from l c n ends each) (counted-to l c n ends each) x y
+pub reach-marks : (l : List ℕ) (c n : ℕ) (ends : List ℕ) (each : (x : ℕ) → x < n → get_or ends x 0 < n) (x y : ℕ) → closed (end_edge l c n ends x x) n x x y ≡ via (counted (flag_edge l c n) (end_at ends) n) (below n) x y
+reach-marks l c n ends each x y =
+    ap (λ e. closed e n x x y) (nothing_left-out l c n ends x) ∙ closed-reach (counted (flag_edge l c n) (end_at ends) n) n (counted_from l c n ends each) (counted-to l c n ends each) x y

@@ -41,23 +41,23 @@ module _ (p : ℕ → Bool) (old marks : List ℕ) (n : ℕ) (clear : (x : ℕ) 
   unfolding marking
   marked-yes x h = rw e (ap yes (tab-at (λ x. cond (p x) 1 (get_or old x 0)) (length old) x (omega arith) ∙ ap (λ v. cond (p x) 1 v) (clear x h)) ∙ yes-cond (p x))
 
-  pub marked-is : (x : ℕ) → x < n → (get_or marks x 0 ≡ 0 → ⊥) → true ≡ p x
-  marked-is x h q = sym (sym (marked-yes x h) ∙ ap not (ne_eqb (get_or marks x 0) 0 q))
+  pub marked_is : (x : ℕ) → x < n → (get_or marks x 0 ≡ 0 → ⊥) → true ≡ p x
+  marked_is x h q = sym (sym (marked-yes x h) ∙ ap not (ne_eqb (get_or marks x 0) 0 q))
 
-  pub marked-not : (x : ℕ) → x < n → get_or marks x 0 ≡ 0 → false ≡ p x
-  marked-not x h q = sym (sym (marked-yes x h) ∙ ap not (eq-eqb (get_or marks x 0) 0 q))
+  pub marked_not : (x : ℕ) → x < n → get_or marks x 0 ≡ 0 → false ≡ p x
+  marked_not x h q = sym (sym (marked-yes x h) ∙ ap not (eq-eqb (get_or marks x 0) 0 q))
 
 -- the warning from the marks of the closed union, and from the members that hit tells
 module _ (d : ℕ → ℕ → Bool) (n s t : ℕ) (old marks : List ℕ) (tn : t < n) (clear : (x : ℕ) → x < n → get_or old x 0 ≡ 0) (long : n ≤ length old) (e : marks ≡ marking (closed d n s t) 1 old) where
   pub warns-target : (get_or marks t 0 ≡ 0 → ⊥) → true ≡ warns d n s t
   unfolding warns
-  warns-target q = rw (← marked-is (closed d n s t) old marks n clear long e t tn q)
+  warns-target q = rw (← marked_is (closed d n s t) old marks n clear long e t tn q)
 
   pub warns-member : {r : Bool} → get_or marks t 0 ≡ 0 → r ≡ some_below (λ x. yes (get_or marks x 0) && d x s) n → r ≡ warns d n s t
   unfolding warns
   warns-member q k =
       k ∙ some_alike (λ x. yes (get_or marks x 0) && d x s) (λ x. closed d n s t x && d x s) n (λ x h. ap (λ b. b && d x s) (marked-yes (closed d n s t) old marks n clear long e x h))
-      ∙ ap (λ b. b || some_below (λ x. closed d n s t x && d x s) n) (marked-not (closed d n s t) old marks n clear long e t tn q)
+      ∙ ap (λ b. b || some_below (λ x. closed d n s t x && d x s) n) (marked_not (closed d n s t) old marks n clear long e t tn q)
 
 pub hits_are : (l : List ℕ) (c n s : ℕ) (marks : List ℕ) → some_below (hit_at l c n s marks) n ≡ some_below (λ x. yes (get_or marks x 0) && flag_edge l c n x s) n
 unfolding hit_at
@@ -87,10 +87,10 @@ module _ (d : ℕ → ℕ → Bool) (n : ℕ) (from : (x y : ℕ) → d x y ≡ 
 
 -- a hit, by the two numbers
 module _ (l : List ℕ) (c n s : ℕ) (marks : List ℕ) (x : ℕ) where
-  pub hit-none : get_or marks x 0 ≡ 0 → false ≡ hit_at l c n s marks x
+  pub hit_none : get_or marks x 0 ≡ 0 → false ≡ hit_at l c n s marks x
   unfolding hit_at
-  hit-none h = rw (eq-eqb (get_or marks x 0) 0 h)
+  hit_none h = rw (eq-eqb (get_or marks x 0) 0 h)
 
-  pub hit-some : (get_or marks x 0 ≡ 0 → ⊥) → x < n → s < n → not (eqb (get_or l (x * c + s) 0) 0) ≡ hit_at l c n s marks x
+  pub hit_some : (get_or marks x 0 ≡ 0 → ⊥) → x < n → s < n → not (eqb (get_or l (x * c + s) 0) 0) ≡ hit_at l c n s marks x
   unfolding hit_at
-  hit-some h a b = rw (ne_eqb (get_or marks x 0) 0 h) (sym (flag_is l c n x s a b))
+  hit_some h a b = rw (ne_eqb (get_or marks x 0) 0 h) (sym (flag_is l c n x s a b))

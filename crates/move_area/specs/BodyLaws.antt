@@ -24,23 +24,23 @@ module _ (n a : ℕ) (b : Bodies) (v : Sized n a b) (l : List ℕ) (room : atom_
   pub read-edges : part 0 (n * n) (write n b l) ≡ b.edges
   read-edges = rw v.edges at (reads (field 0 b.edges) here)
 
-  pub read-header : (i : ℕ) → i < 5 → get_or (write n b l) (n * n + i) 0 ≡ get_or (numbers b.header) i 0
-  read-header i h = sym (part_at (n * n) 5 (write n b l) i h) ∙ ap (λ (u : List ℕ). get_or u i 0) (reads (field (n * n) (numbers b.header)) (there here))
+  pub read_header : (i : ℕ) → i < 5 → get_or (write n b l) (n * n + i) 0 ≡ get_or (numbers b.header) i 0
+  read_header i h = sym (part_at (n * n) 5 (write n b l) i h) ∙ ap (λ (u : List ℕ). get_or u i 0) (reads (field (n * n) (numbers b.header)) (there here))
 
   pub read-registered : get_or (write n b l) (n * n) 0 ≡ b.header.registered
-  read-registered = rw add-zero at (read-header 0 (omega arith))
+  read-registered = rw add-zero at (read_header 0 (omega arith))
 
-  pub read-counter : get_or (write n b l) (n * n + 1) 0 ≡ b.header.counter
-  read-counter = read-header 1 (omega arith)
+  pub read_counter : get_or (write n b l) (n * n + 1) 0 ≡ b.header.counter
+  read_counter = read_header 1 (omega arith)
 
-  pub read-acyclic : get_or (write n b l) (n * n + 2) 0 ≡ b.header.acyclic
-  read-acyclic = read-header 2 (omega arith)
+  pub read_acyclic : get_or (write n b l) (n * n + 2) 0 ≡ b.header.acyclic
+  read_acyclic = read_header 2 (omega arith)
 
   pub read-occupied : get_or (write n b l) (n * n + 3) 0 ≡ b.header.occupied
-  read-occupied = read-header 3 (omega arith)
+  read-occupied = read_header 3 (omega arith)
 
   pub read-distinct : get_or (write n b l) (n * n + 4) 0 ≡ b.header.distinct
-  read-distinct = read-header 4 (omega arith)
+  read-distinct = read_header 4 (omega arith)
 
   lane : (j : ℕ) → j < 8 → In (field (lane_at n j) (b.words j)) (fields_of n b) → part (lane_at n j) b.header.registered (write n b l) ≡ b.words j
   lane j h i = rw (v.words j h) at (reads (field (lane_at n j) (b.words j)) i)
@@ -62,8 +62,8 @@ module _ (n a : ℕ) (b : Bodies) (v : Sized n a b) (l : List ℕ) (room : atom_
   pub read-marks : part (lane_at n 9) n (write n b l) ≡ b.marks
   read-marks = rw v.marks at (reads (field (lane_at n 9) b.marks) (there (there (there (there (there (there (there (there (there (there (there here))))))))))))
 
-  pub read-component : part (lane_at n 10) n (write n b l) ≡ b.component
-  read-component = rw v.component at (reads (field (lane_at n 10) b.component) (there (there (there (there (there (there (there (there (there (there (there (there here)))))))))))))
+  pub read_component : part (lane_at n 10) n (write n b l) ≡ b.component
+  read_component = rw v.component at (reads (field (lane_at n 10) b.component) (there (there (there (there (there (there (there (there (there (there (there (there here)))))))))))))
 
   pub read-nodes : part (atom_at n) a (write n b l) ≡ b.nodes
   read-nodes = rw v.nodes at (reads (field (atom_at n) b.nodes) (there (there (there (there (there (there (there (there (there (there (there (there (there here))))))))))))))
@@ -76,7 +76,7 @@ set-field at v l i x e h b = ap (λ (u : List ℕ). set u (at + i) x) (sym (patc
 pub set_header : (n a : ℕ) (b : Bodies) → Sized n a b → (l : List ℕ) → atom_at n + a ≤ length l → (i x : ℕ) → i < 5
     → set (write n b l) (n * n + i) x ≡ patch (n * n) (set (numbers b.header) i x) (write n b l)
 set_header n a b v l room i x h =
-    set-field (n * n) (numbers b.header) (write n b l) i x (is_part (n * n) (write n b l) (numbers b.header) (λ k z. read-header n a b v l room k z)) h (omega (arith, write_long n b l))
+    set-field (n * n) (numbers b.header) (write n b l) i x (is_part (n * n) (write n b l) (numbers b.header) (λ k z. read_header n a b v l room k z)) h (omega (arith, write_long n b l))
 
 -- written twice is written once
 pub write_again : (n a : ℕ) (b : Bodies) → Sized n a b → (l : List ℕ) → atom_at n + a ≤ length l → write n b (write n b l) ≡ write n b l
@@ -141,26 +141,26 @@ module _ (n a : ℕ) (b : Bodies) (v : Sized n a b) (l : List ℕ) where
   unfolding write
   renew i w e = lay-swap (fields_of n b) 0 (atom_at n + a) l i w (swap-fits (fields_of n b) 0 (atom_at n + a) i w (fields_fit n a b v) e) (omega arith)
 
-  pub renew-edges : (w : List ℕ) → length w ≡ n * n → patch (0) w (write n b l) ≡ write n (record { edges = w; header = b.header; words = b.words; counts = b.counts; marks = b.marks; component = b.component; nodes = b.nodes }) l
+  pub renew_edges : (w : List ℕ) → length w ≡ n * n → patch (0) w (write n b l) ≡ write n (record { edges = w; header = b.header; words = b.words; counts = b.counts; marks = b.marks; component = b.component; nodes = b.nodes }) l
   unfolding write swap
-  renew-edges w e = renew here w (e ∙ sym v.edges)
+  renew_edges w e = renew here w (e ∙ sym v.edges)
 
-  pub renew-counts : (w : List ℕ) → length w ≡ n → patch (lane_at n 8) w (write n b l) ≡ write n (record { edges = b.edges; header = b.header; words = b.words; counts = w; marks = b.marks; component = b.component; nodes = b.nodes }) l
+  pub renew_counts : (w : List ℕ) → length w ≡ n → patch (lane_at n 8) w (write n b l) ≡ write n (record { edges = b.edges; header = b.header; words = b.words; counts = w; marks = b.marks; component = b.component; nodes = b.nodes }) l
   unfolding write swap
-  renew-counts w e = renew (there (there (there (there (there (there (there (there (there (there here)))))))))) w (e ∙ sym v.counts)
+  renew_counts w e = renew (there (there (there (there (there (there (there (there (there (there here)))))))))) w (e ∙ sym v.counts)
 
-  pub renew-marks : (w : List ℕ) → length w ≡ n → patch (lane_at n 9) w (write n b l) ≡ write n (record { edges = b.edges; header = b.header; words = b.words; counts = b.counts; marks = w; component = b.component; nodes = b.nodes }) l
+  pub renew_marks : (w : List ℕ) → length w ≡ n → patch (lane_at n 9) w (write n b l) ≡ write n (record { edges = b.edges; header = b.header; words = b.words; counts = b.counts; marks = w; component = b.component; nodes = b.nodes }) l
   unfolding write swap
-  renew-marks w e = renew (there (there (there (there (there (there (there (there (there (there (there here))))))))))) w (e ∙ sym v.marks)
+  renew_marks w e = renew (there (there (there (there (there (there (there (there (there (there (there here))))))))))) w (e ∙ sym v.marks)
 
-  pub renew-component : (w : List ℕ) → length w ≡ n → patch (lane_at n 10) w (write n b l) ≡ write n (record { edges = b.edges; header = b.header; words = b.words; counts = b.counts; marks = b.marks; component = w; nodes = b.nodes }) l
+  pub renew_component : (w : List ℕ) → length w ≡ n → patch (lane_at n 10) w (write n b l) ≡ write n (record { edges = b.edges; header = b.header; words = b.words; counts = b.counts; marks = b.marks; component = w; nodes = b.nodes }) l
   unfolding write swap
-  renew-component w e = renew (there (there (there (there (there (there (there (there (there (there (there (there here)))))))))))) w (e ∙ sym v.component)
+  renew_component w e = renew (there (there (there (there (there (there (there (there (there (there (there (there here)))))))))))) w (e ∙ sym v.component)
 
-  pub renew-nodes : (w : List ℕ) → length w ≡ a → patch (atom_at n) w (write n b l) ≡ write n (record { edges = b.edges; header = b.header; words = b.words; counts = b.counts; marks = b.marks; component = b.component; nodes = w }) l
+  pub renew_nodes : (w : List ℕ) → length w ≡ a → patch (atom_at n) w (write n b l) ≡ write n (record { edges = b.edges; header = b.header; words = b.words; counts = b.counts; marks = b.marks; component = b.component; nodes = w }) l
   unfolding write swap
-  renew-nodes w e = renew (there (there (there (there (there (there (there (there (there (there (there (there (there here))))))))))))) w (e ∙ sym v.nodes)
+  renew_nodes w e = renew (there (there (there (there (there (there (there (there (there (there (there (there (there here))))))))))))) w (e ∙ sym v.nodes)
 
-  pub renew-header : (h : Header) → patch (n * n) (numbers h) (write n b l) ≡ write n (record { edges = b.edges; header = h; words = b.words; counts = b.counts; marks = b.marks; component = b.component; nodes = b.nodes }) l
+  pub renew_header : (h : Header) → patch (n * n) (numbers h) (write n b l) ≡ write n (record { edges = b.edges; header = h; words = b.words; counts = b.counts; marks = b.marks; component = b.component; nodes = b.nodes }) l
   unfolding write swap
-  renew-header h = renew (there here) (numbers h) refl
+  renew_header h = renew (there here) (numbers h) refl

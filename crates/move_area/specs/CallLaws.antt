@@ -19,9 +19,9 @@ use Rattle.move_area.specs.Calls.{last, next, marks_for, walked, after}
 abbrev Low : List ℕ → ℕ → ℕ → Type 0
 Low marks counter N = (x : ℕ) → x < N → at marks x ≤ counter
 
-pub marks_length : (load : Load) (N : ℕ) (l : Ledger) (T : ℕ) (marks : List ℕ) → length (marks_for load N l T marks) ≡ length marks
+pub marks-length : (load : Load) (N : ℕ) (l : Ledger) (T : ℕ) (marks : List ℕ) → length (marks_for load N l T marks) ≡ length marks
 unfolding marks_for
-marks_length load N l T marks = go (has T l.registered)
+marks-length load N l T marks = go (has T l.registered)
   where
     go : (t : Bool) → length (cond t marks (set marks (free_place load N l.place l.registered) 0)) ≡ length marks
     go true = refl
@@ -81,7 +81,7 @@ module _ (load : Load) (fixed : List ℕ) (N : ℕ) (st : State) (a : ℕ) (s : 
       c = cyclic (edge load st.ledger.place) st.ledger.place
 
       fit : length m ≡ N
-      fit = marks_length load N st.ledger (value s) st.marks ∙ h.long
+      fit = marks-length load N st.ledger (value s) st.marks ∙ h.long
 
       low : Low m st.counter N
       low = marks_low load N st.ledger (value s) st.marks st.counter h.long h.marks

@@ -22,7 +22,7 @@ use Rattle.move_ledger.specs.Nodes.{Placing, sources, targets, node_edge}
 use Rattle.move_ledger.specs.NodeLaws.{placed-length, placed_at}
 use Rattle.move_ledger.specs.Totals.{busy_nodes, filled_cells}
 use Rattle.move_area.specs.Bodies.{lane_at, atom_at, write, Sized}
-use Rattle.move_area.specs.BodyLaws.{HeaderIn, write_same, read-edges, read-acyclic, read-occupied, read-distinct, read-counts, read-component, read-nodes}
+use Rattle.move_area.specs.BodyLaws.{HeaderIn, write_same, read-edges, read_acyclic, read-occupied, read-distinct, read-counts, read_component, read-nodes}
 use Rattle.move_area.specs.Area.{bodies, encode, sets_in, decode, in_order, consistent}
 use Rattle.move_area.specs.ListLaws.{one_alike, Distinct, one_place}
 use Rattle.move_area.specs.Held.{Held, held-in_order, held-distinct, bodies-sized, consistent-held, consistent-whole}
@@ -78,8 +78,8 @@ ranged_placing {load} {N} {area} small r =
 
 module _ (load : Load) (N : ℕ) (area : List ℕ) (o : InOrder load) (small : N ≤ 1024) where
   -- what an area names is a state
-  pub ranged-held : Ranged load N area → Held load N (state_of (nodes_state load N area))
-  ranged-held r =
+  pub ranged_held : Ranged load N area → Held load N (state_of (nodes_state load N area))
+  ranged_held r =
       let p = ranged_placing small r in
       record {
         sound =
@@ -98,7 +98,7 @@ module _ (load : Load) (N : ℕ) (area : List ℕ) (o : InOrder load) (small : N
     pub checked-consistent : ((i : ℕ) → get_or area i 0 < 2 ^ 32) → Ranged load N area → Worked load N area → consistent load N area ≡ true
     unfolding consistent decode node_bodies
     checked-consistent cells r w =
-        and_both (in_order load N (decode load N area)) _ (held-in_order (ranged-held r))
+        and_both (in_order load N (decode load N area)) _ (held-in_order (ranged_held r))
         (one_alike _ _ (encode-nodes load N s o p few area
         ∙ write_same N load.A area (node_bodies load N s) sized
         (part_is 0 (N * N) area _ (λ i b. ap (λ k. get_or area k 0) (zero-add i) ∙ w.edges i b)) head word (part_is (lane_at N 8) N area _ w.counts) refl (part_is (lane_at N 10) N area _ w.component) refl))
@@ -116,7 +116,7 @@ module _ (load : Load) (N : ℕ) (area : List ℕ) (o : InOrder load) (small : N
         few = omega (arith, sets-length N area, r.few)
 
         sized : Sized N load.A (node_bodies load N s)
-        sized = subst (Sized N load.A) (bodies-nodes load N s o p few) (bodies-sized (ranged-held r))
+        sized = subst (Sized N load.A) (bodies-nodes load N s o p few) (bodies-sized (ranged_held r))
 
         word : (j : ℕ) → j < 8 → part (lane_at N j) (length (sets_in N area)) area ≡ tab (λ x. get_or (parts 32 8 (at (sets_in N area) x)) j 0) (length (sets_in N area))
         word j b =
@@ -140,9 +140,9 @@ module _ (load : Load) (N : ℕ) (area : List ℕ) (o : InOrder load) (small : N
           ∙ ap (λ (u : List ℕ). get_or u i 0) (read-nodes N load.A (bodies load N (decode load N area)) (bodies-sized held) area room)
           ∙ tab-at _ load.A i b
 
-      pub consistent-ranged : Ranged load N area
+      pub consistent_ranged : Ranged load N area
       unfolding decode
-      consistent-ranged =
+      consistent_ranged =
           record {
             few = omega (arith, sets-length N area, held.sound.room);
             nodes = λ i b. omega (arith, node_at i b, (index-has _ _ (held.sound.registered i b)).0, sets-length N area);
@@ -154,23 +154,23 @@ module _ (load : Load) (N : ℕ) (area : List ℕ) (o : InOrder load) (small : N
       by-nodes : write N (node_bodies load N (nodes_state load N area)) area ≡ area
       unfolding decode
       by-nodes =
-          ap (λ b. write N b area) (sym (bodies-nodes load N (nodes_state load N area) o (ranged_placing small consistent-ranged) (omega (arith, sets-length N area, consistent-ranged.few)))) ∙ whole
+          ap (λ b. write N b area) (sym (bodies-nodes load N (nodes_state load N area) o (ranged_placing small consistent_ranged) (omega (arith, sets-length N area, consistent_ranged.few)))) ∙ whole
 
       sized : Sized N load.A (node_bodies load N (nodes_state load N area))
       unfolding decode
-      sized = subst (Sized N load.A) (bodies-nodes load N (nodes_state load N area) o (ranged_placing small consistent-ranged) (omega (arith, sets-length N area, consistent-ranged.few))) (bodies-sized held)
+      sized = subst (Sized N load.A) (bodies-nodes load N (nodes_state load N area) o (ranged_placing small consistent_ranged) (omega (arith, sets-length N area, consistent_ranged.few))) (bodies-sized held)
 
       cell : (b k : ℕ) (f : ℕ → ℕ) → part b k (write N (node_bodies load N (nodes_state load N area)) area) ≡ tab f k → (x : ℕ) → x < k → get_or area (b + x) 0 ≡ f x
       cell b k f e x l = sym (part_at b k area x l) ∙ ap (λ (u : List ℕ). get_or (part b k u) x 0) (sym by-nodes) ∙ ap (λ (u : List ℕ). get_or u x 0) e ∙ tab-at f k x l
 
-      pub consistent-worked : Worked load N area
+      pub consistent_worked : Worked load N area
       unfolding node_bodies
-      consistent-worked =
+      consistent_worked =
           record {
             counts = cell (lane_at N 8) N _ (read-counts N load.A (node_bodies load N (nodes_state load N area)) sized area room);
             edges = λ i b. ap (λ k. get_or area k 0) (sym (zero-add i)) ∙ cell 0 (N * N) _ (read-edges N load.A (node_bodies load N (nodes_state load N area)) sized area room) i b;
-            acyclic = ap (λ (u : List ℕ). get_or u (N * N + 2) 0) (sym by-nodes) ∙ read-acyclic N load.A (node_bodies load N (nodes_state load N area)) sized area room;
-            component = cell (lane_at N 10) N _ (read-component N load.A (node_bodies load N (nodes_state load N area)) sized area room);
+            acyclic = ap (λ (u : List ℕ). get_or u (N * N + 2) 0) (sym by-nodes) ∙ read_acyclic N load.A (node_bodies load N (nodes_state load N area)) sized area room;
+            component = cell (lane_at N 10) N _ (read_component N load.A (node_bodies load N (nodes_state load N area)) sized area room);
             occupied = ap (λ (u : List ℕ). get_or u (N * N + 3) 0) (sym by-nodes) ∙ read-occupied N load.A (node_bodies load N (nodes_state load N area)) sized area room;
             distinct = ap (λ (u : List ℕ). get_or u (N * N + 4) 0) (sym by-nodes) ∙ read-distinct N load.A (node_bodies load N (nodes_state load N area)) sized area room;
           }

@@ -27,9 +27,9 @@ module _ (load : Load) (N : ℕ) (st : State) (h : Held load N st) where
   abbrev F : ℕ
   F = fixed_at N load.A
 
-  encode-far : (u l : List ℕ) → encode load N st (patch F u l) ≡ patch F u (encode load N st l)
+  encode_far : (u l : List ℕ) → encode load N st (patch F u l) ≡ patch F u (encode load N st l)
   unfolding encode write
-  encode-far u l =
+  encode_far u l =
       (lay_far (fields_of N (bodies load N st)) 0 (atom_at N + load.A) F u l (fields_fit N load.A (bodies load N st) (bodies-sized h)) (omega arith)).1
 
   -- what is encoded leaves the flags
@@ -38,18 +38,18 @@ module _ (load : Load) (N : ℕ) (st : State) (h : Held load N st) where
       let u : List ℕ = part F load.A l in
       let long : length (part F load.A l) ≡ load.A = part_long F load.A l in
       let same : patch F (part F load.A l) l ≡ l = patch-same F u l (ap (λ k. part F k l) long) in
-      ap (λ x. part F load.A (encode load N st x)) (sym same) ∙ ap (part F load.A) (encode-far u l)
+      ap (λ x. part F load.A (encode load N st x)) (sym same) ∙ ap (part F load.A) (encode_far u l)
       ∙ ap (λ k. part F k (patch F u (encode load N st l))) (sym long) ∙ part-patch F u (encode load N st l) (omega arith)
 
   -- and the flags, written, leave what is encoded
   pub flag-encode : (fixed l : List ℕ) → encode load N st l ≡ l → encode load N st (flag load fixed N l) ≡ flag load fixed N l
   unfolding flag
-  flag-encode fixed l e = encode-far (flags load fixed) l ∙ ap (patch F (flags load fixed)) e
+  flag-encode fixed l e = encode_far (flags load fixed) l ∙ ap (patch F (flags load fixed)) e
 
 module _ (load : Load) (fixed : List ℕ) (N : ℕ) (l : List ℕ) where
-  pub flag-long : length (flag load fixed N l) ≡ length l
+  pub flag_long : length (flag load fixed N l) ≡ length l
   unfolding flag
-  flag-long = patch_long (fixed_at N load.A) (flags load fixed) l
+  flag_long = patch_long (fixed_at N load.A) (flags load fixed) l
 
   pub flags-length : length (flags load fixed) ≡ load.A
   unfolding flags

@@ -19,7 +19,7 @@ use Rattle.move_ledger.specs.Sound.{Sound}
 use Rattle.move_ledger.specs.Nodes.{placed}
 use Rattle.move_ledger.specs.NodeLaws.{placed-length, placed_at}
 use Rattle.move_area.specs.Bodies.{lane_at, atom_at, Sized}
-use Rattle.move_area.specs.BodyLaws.{write_long, read-registered, read-counter, read-words, read-marks, read-nodes, write_again}
+use Rattle.move_area.specs.BodyLaws.{write_long, read-registered, read_counter, read-words, read-marks, read-nodes, write_again}
 use Rattle.move_area.specs.Area.{State, bodies, encode, sets_in, decode, distinct, in_order, consistent}
 use Rattle.move_area.specs.ListLaws.{alike_one, one_alike, Distinct, distinct_apart, apart_distinct}
 
@@ -105,9 +105,9 @@ bodies-sized {load} {N} {st} h =
     }
 
 module _ (load : Load) (N : ℕ) (st : State) (h : Held load N st) (l : List ℕ) (room : atom_at N + load.A ≤ length l) where
-  pub encode-long : length (encode load N st l) ≡ length l
+  pub encode_long : length (encode load N st l) ≡ length l
   unfolding encode
-  encode-long = write_long N (bodies load N st) l
+  encode_long = write_long N (bodies load N st) l
 
   module _ (bits : load.E ≤ 256) where
     abbrev sets : List ℕ
@@ -126,18 +126,18 @@ module _ (load : Load) (N : ℕ) (st : State) (h : Held load N st) (l : List ℕ
         ∙ ap (λ (u : List ℕ). get_or u x 0) r
         ∙ tab-at _ (length sets) x b
 
-    is-sets : sets_in N (encode load N st l) ≡ sets
+    is_sets : sets_in N (encode load N st l) ≡ sets
     unfolding sets_in encode bodies
-    is-sets =
+    is_sets =
         let r = read-registered N load.A (bodies load N st) (bodies-sized h) l room in
         sym (is_tab sets (get_or (encode load N st l) (N * N) 0) _ (sym r) (λ x b.
         let c : x < length sets = omega (arith, r) in
         sym (lanes_is (encode load N st l) (lane_at N 0 + x) N (at sets x) (wide x c) (λ j k. word x c j k))))
 
-    is-place : placed (part (atom_at N) load.A (encode load N st l)) (sets_in N (encode load N st l)) ≡ st.ledger.place
+    is_place : placed (part (atom_at N) load.A (encode load N st l)) (sets_in N (encode load N st l)) ≡ st.ledger.place
     unfolding encode bodies
-    is-place =
-        rw (is-sets, read-nodes N load.A (bodies load N st) (bodies-sized h) l room)
+    is_place =
+        rw (is_sets, read-nodes N load.A (bodies load N st) (bodies-sized h) l room)
         (ext_get_or 0 _ st.ledger.place (placed-length _ sets ∙ tab-length _ load.A ∙ sym h.sound.atoms) (λ i b.
         let c : i < load.A = omega (arith, placed-length (tab (λ i. index (at st.ledger.place i) sets) load.A) sets, tab-length (λ i. index (at st.ledger.place i) sets) load.A) in
         placed_at (tab (λ i. index (at st.ledger.place i) sets) load.A) sets i (omega (arith, tab-length (λ i. index (at st.ledger.place i) sets) load.A))
@@ -147,17 +147,17 @@ module _ (load : Load) (N : ℕ) (st : State) (h : Held load N st) (l : List ℕ
     pub decode-encode : decode load N (encode load N st l) ≡ st
     unfolding decode encode bodies
     decode-encode =
-        rw (is-place, is-sets, read-counter N load.A (bodies load N st) (bodies-sized h) l room, read-marks N load.A (bodies load N st) (bodies-sized h) l room) refl
+        rw (is_place, is_sets, read_counter N load.A (bodies load N st) (bodies-sized h) l room, read-marks N load.A (bodies load N st) (bodies-sized h) l room) refl
 
-    pub encode-again : encode load N st (encode load N st l) ≡ encode load N st l
+    pub encode_again : encode load N st (encode load N st l) ≡ encode load N st l
     unfolding encode
-    encode-again = write_again N load.A (bodies load N st) (bodies-sized h) l room
+    encode_again = write_again N load.A (bodies load N st) (bodies-sized h) l room
 
     -- what is encoded is consistent
     pub encode-consistent : consistent load N (encode load N st l) ≡ true
     unfolding consistent
     encode-consistent =
-        rw decode-encode (and_both (in_order load N st) _ (held-in_order h) (one_alike _ _ encode-again))
+        rw decode-encode (and_both (in_order load N st) _ (held-in_order h) (one_alike _ _ encode_again))
 
 -- a consistent area holds a state, and is what that state is encoded as
 module _ (load : Load) (N : ℕ) (area : List ℕ) (c : consistent load N area ≡ true) where

@@ -9,15 +9,15 @@ use Rattle.move_ledger.specs.Graph.{Load}
 use Rattle.move_ledger.specs.Answer.{Answer, is_refused}
 use Rattle.move_ledger.specs.Ledger.{Ledger, Call, try_move, asks, move, ask, call, answers, ledger}
 use Rattle.move_ledger.specs.Loading.{refusal, loading_row}
-use Rattle.move_ledger.specs.LoadLaws.{Sized, refusal-none, Loadable-sets, loading-row-none, loading-row-later, loading-unrefused}
-use Rattle.move_ledger.specs.MoveLaws.{refused-keeps}
+use Rattle.move_ledger.specs.LoadLaws.{Sized, refusal-none, Loadable-sets, loading_row-none, loading_row-later, loading_unrefused}
+use Rattle.move_ledger.specs.MoveLaws.{refused_keeps}
 use Rattle.move_ledger.specs.Sound.{loading_sound}
 use Rattle.move_area.specs.Bodies.{atom_at}
 use Rattle.move_area.specs.Area.{State, encode, decode, consistent}
-use Rattle.move_area.specs.Held.{Held, decode-encode, encode-long, encode-again, encode-consistent}
+use Rattle.move_area.specs.Held.{Held, decode-encode, encode_long, encode_again, encode-consistent}
 use Rattle.move_area.specs.ListLaws.{one_alike}
 use Rattle.move_area.specs.Fixed.{fixed_at, flags, flag, flagged, checks_out}
-use Rattle.move_area.specs.FixedLaws.{encode-flags, flag-encode, flag-long, flag-flags}
+use Rattle.move_area.specs.FixedLaws.{encode-flags, flag-encode, flag_long, flag-flags}
 use Rattle.move_area.specs.CallLaws.{after-ledger, after-held}
 use Rattle.move_area.specs.Calls.{Called, first, new, checked, asked, after}
 use Rattle.move_area.specs.Calls as calls
@@ -47,13 +47,13 @@ pub record Holding (load : Load) (fixed : List ℕ) (N : ℕ) (area : List ℕ) 
   pub kept : part (fixed_at N load.A) load.A area ≡ flags load fixed
 
 module _ {load : Load} {fixed : List ℕ} {N : ℕ} {area : List ℕ} {st : State} (h : Holding load fixed N area st) where
-  pub holding-decode : decode load N area ≡ st
-  holding-decode = ap (decode load N) (sym h.whole) ∙ decode-encode load N st h.held area h.room h.bits
+  pub holding_decode : decode load N area ≡ st
+  holding_decode = ap (decode load N) (sym h.whole) ∙ decode-encode load N st h.held area h.room h.bits
 
   -- so row 9 doesn't fit either
-  pub holding-checks : checks_out load fixed N area ≡ true
+  pub holding_checks : checks_out load fixed N area ≡ true
   unfolding flagged
-  holding-checks =
+  holding_checks =
       and_both (consistent load N area) _ (subst (λ u. consistent load N u ≡ true) h.whole (encode-consistent load N st h.held area h.room h.bits))
       (one_alike _ _ h.kept)
 
@@ -61,22 +61,22 @@ module _ {load : Load} {fixed : List ℕ} {N : ℕ} {area : List ℕ} {st : Stat
   sizes = (refusal-none load fixed N (length area) h.legal).sizes
 
   -- and there is a place for one more set than atoms
-  pub holding-wide : load.A < N
-  holding-wide = sizes.wide
+  pub holding_wide : load.A < N
+  holding_wide = sizes.wide
 
-  pub holding-checked : (x : Answer) → checked load fixed N area x ≡ x
+  pub holding_checked : (x : Answer) → checked load fixed N area x ≡ x
   unfolding checked
-  holding-checked x = rw (h.legal, holding-checks) refl
+  holding_checked x = rw (h.legal, holding_checks) refl
 
   encoded : (st' : State) → Held load N st' → Holding load fixed N (encode load N st' area) st'
   encoded st' v =
       record {
-        legal = rw (encode-long load N st' v area h.room) h.legal;
-        room = omega (arith, encode-long load N st' v area h.room, h.room);
+        legal = rw (encode_long load N st' v area h.room) h.legal;
+        room = omega (arith, encode_long load N st' v area h.room, h.room);
         bits = h.bits;
         held = v;
-        whole = encode-again load N st' v area h.room h.bits;
-        kept = encode-flags load N st' v area (omega (arith, encode-long load N st' v area h.room, sizes.area)) ∙ h.kept;
+        whole = encode_again load N st' v area h.room h.bits;
+        kept = encode-flags load N st' v area (omega (arith, encode_long load N st' v area h.room, sizes.area)) ∙ h.kept;
       }
 
 -- a call answers as the ledger does, and leaves an area that holds the ledger's next state
@@ -90,26 +90,26 @@ pub call_step : (load : Load) (fixed : List ℕ) (N : ℕ) (area : List ℕ) (st
 unfolding call_area call calls.try_move asked move
 call_step load fixed N area st (asks q) h =
     record {
-      answers = holding-checked h _ ∙ ap (λ (u : State). ask load u.ledger.place q) (holding-decode h);
+      answers = holding_checked h _ ∙ ap (λ (u : State). ask load u.ledger.place q) (holding_decode h);
       next = st;
       follows = refl;
       holds = h;
     }
-call_step load fixed N area st (try_move a s) h = rw (holding-decode h, holding-checked h) (go (is_refused (move load fixed N st.ledger a s).answer) refl)
+call_step load fixed N area st (try_move a s) h = rw (holding_decode h, holding_checked h) (go (is_refused (move load fixed N st.ledger a s).answer) refl)
   where
     r : Answer
     r = (move load fixed N st.ledger a s).answer
 
     go : (t : Bool) → is_refused (move load fixed N st.ledger a s).answer ≡ t
         → Step load fixed N st (try_move a s) (record { answer = (move load fixed N st.ledger a s).answer; area = cond (is_refused (move load fixed N st.ledger a s).answer) area (encode load N (after load fixed N st a s) area) })
-    go true q = rw q (record { answers = refl; next = st; follows = sym (refused-keeps load fixed N st.ledger a s q); holds = h })
+    go true q = rw q (record { answers = refl; next = st; follows = sym (refused_keeps load fixed N st.ledger a s q); holds = h })
     go false q =
         rw q
         (record {
           answers = refl;
           next = after load fixed N st a s;
           follows = after-ledger load fixed N st a s;
-          holds = encoded h (after load fixed N st a s) (after-held load fixed N st a s (holding-wide h) h.held);
+          holds = encoded h (after load fixed N st a s) (after-held load fixed N st a s (holding_wide h) h.held);
         })
 
 -- an unrefused loading's area
@@ -119,19 +119,19 @@ unfolding new
 loading-holds load fixed N sets area h =
     rw h
     (record {
-      legal = rw long (loading-row-later load fixed N sets (length area) none);
+      legal = rw long (loading_row-later load fixed N sets (length area) none);
       room = omega (arith, long, room);
       bits = l.loadable.sizes.bits;
       held = held;
-      whole = flag-encode load N (first load N sets) held fixed first-area (encode-again load N (first load N sets) held area room l.loadable.sizes.bits);
+      whole = flag-encode load N (first load N sets) held fixed first-area (encode_again load N (first load N sets) held area room l.loadable.sizes.bits);
       kept = flag-flags load fixed N first-area (omega (arith, first-long, l.loadable.sizes.area));
     })
   where
     none : loading_row load fixed N sets (length area) ≡ 0
-    none = loading-unrefused load fixed N sets (length area) h
+    none = loading_unrefused load fixed N sets (length area) h
 
     l : Loadable-sets load N sets (length area)
-    l = loading-row-none load fixed N sets (length area) none
+    l = loading_row-none load fixed N sets (length area) none
 
     held : Held load N (first load N sets)
     held = record { sound = loading_sound l; long = length-replicate N 0; marks = λ x b. rw (get_or-replicate {A = ℕ} N x 0 0 b) (omega arith) }
@@ -143,10 +143,10 @@ loading-holds load fixed N sets area h =
     first-area = encode load N (first load N sets) area
 
     first-long : length (encode load N (first load N sets) area) ≡ length area
-    first-long = encode-long load N (first load N sets) held area room
+    first-long = encode_long load N (first load N sets) held area room
 
     long : length (flag load fixed N (encode load N (first load N sets) area)) ≡ length area
-    long = flag-long load fixed N (encode load N (first load N sets) area) ∙ first-long
+    long = flag_long load fixed N (encode load N (first load N sets) area) ∙ first-long
 
 -- a whole list
 pub record Run (load : Load) (fixed : List ℕ) (N : ℕ) (l : Ledger) (area : List ℕ) (cs : List Call) : Type 0 where

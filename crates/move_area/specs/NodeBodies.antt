@@ -18,9 +18,9 @@ use Rattle.move_ledger.specs.Ledger.{index}
 use Rattle.move_ledger.specs.Graph.{Load, at, members, mult, edge}
 use Rattle.move_ledger.specs.LoadLaws.{InOrder}
 use Rattle.move_ledger.specs.Nodes.{placed, Placing, sources, targets, node_edge}
-use Rattle.move_ledger.specs.NodeLaws.{placed_at, members_nodes}
+use Rattle.move_ledger.specs.NodeLaws.{placed_at, members-nodes}
 use Rattle.move_ledger.specs.NodeWalks.{mult-nodes, mult-outside, ends-nodes, cyclic-nodes, only-nodes, only-outside}
-use Rattle.move_ledger.specs.Totals.{busy_nodes, filled_cells, chunk_count_nodes, edge-count-cells}
+use Rattle.move_ledger.specs.Totals.{busy_nodes, filled_cells, chunk_count-nodes, edge-count_cells}
 use Rattle.move_area.specs.Bodies.{Bodies, write}
 use Rattle.move_area.specs.Area.{State, square, nodewise, bodies, encode}
 use Rattle.move_area.specs.ListLaws.{Distinct, index_at}
@@ -63,18 +63,18 @@ module _ (load : Load) (N : ℕ) (s : Nodes) (o : InOrder load) (p : Placing loa
   outside f x b = rw (le-ltb x (length s.sets) b) refl
 
   -- a node's number is its set's, a free node's is 0
-  nodewise-is : (f g : ℕ → ℕ) → ((x : ℕ) → x < length s.sets → f (at s.sets x) ≡ g x) → ((x : ℕ) → length s.sets ≤ x → g x ≡ 0) → (x : ℕ) → nodewise s.sets f x ≡ g x
-  nodewise-is f g h z x = go (dec_lt x (length s.sets))
+  nodewise_is : (f g : ℕ → ℕ) → ((x : ℕ) → x < length s.sets → f (at s.sets x) ≡ g x) → ((x : ℕ) → length s.sets ≤ x → g x ≡ 0) → (x : ℕ) → nodewise s.sets f x ≡ g x
+  nodewise_is f g h z x = go (dec_lt x (length s.sets))
     where
       go : Dec (x < length s.sets) → nodewise s.sets f x ≡ g x
       go (yes b) = inside f x b ∙ h x b
       go (no b) = let c : length s.sets ≤ x = omega arith in outside f x c ∙ sym (z x c)
 
-  edges-alike : (i : ℕ) → i < N * N
+  edges_alike : (i : ℕ) → i < N * N
       → nodewise s.sets (λ X. nodewise s.sets (λ Y. mult load (placed s.nodes s.sets) X Y) (i % N)) (i / N) ≡ flat (sources load s.nodes s.sets) (targets load s.nodes s.sets) N (load.D + load.E) i
-  edges-alike i b =
-      nodewise-is (λ X. nodewise s.sets (λ Y. mult load (placed s.nodes s.sets) X Y) (i % N)) (λ x. slots.mult S T m x (i % N))
-      (λ x bx. nodewise-is (λ Y. mult load (placed s.nodes s.sets) (at s.sets x) Y) (λ y. slots.mult S T m x y) (λ y by. sym (mult-nodes o p x y bx by)) (λ y by. mult-outside o p x y (λ c d. omega arith)) (i % N))
+  edges_alike i b =
+      nodewise_is (λ X. nodewise s.sets (λ Y. mult load (placed s.nodes s.sets) X Y) (i % N)) (λ x. slots.mult S T m x (i % N))
+      (λ x bx. nodewise_is (λ Y. mult load (placed s.nodes s.sets) (at s.sets x) Y) (λ y. slots.mult S T m x y) (λ y by. sym (mult-nodes o p x y bx by)) (λ y by. mult-outside o p x y (λ c d. omega arith)) (i % N))
       (λ x bx. mult-outside o p x (i % N) (λ c d. omega arith)) (i / N)
       ∙ sym (flat-mult S T N m (i / N) (i % N) (ends-nodes o p N few wide) (mod-lt i wide))
       ∙ ap (flat S T N m) (div-add-mod' i N)
@@ -91,35 +91,35 @@ module _ (load : Load) (N : ℕ) (s : Nodes) (o : InOrder load) (p : Placing loa
       wide : 0 < N
       wide = square_some N i b
 
-  nodes-alike : tab (λ i. index (at (placed s.nodes s.sets) i) s.sets) load.A ≡ s.nodes
-  nodes-alike =
+  nodes_alike : tab (λ i. index (at (placed s.nodes s.sets) i) s.sets) load.A ≡ s.nodes
+  nodes_alike =
       sym (is_tab s.nodes load.A _ p.atoms (λ i b.
       sym (ap (λ X. index X s.sets) (placed_at s.nodes s.sets i (omega (arith, p.atoms))) ∙ index_at apart (at s.nodes i) (p.inside i b))))
     where
       apart : Distinct s.sets
       apart = record { apart = λ i j a b e. let q = p.distinct i j (omega arith) b e in omega arith }
 
-  edges-one : square N (λ x y. nodewise s.sets (λ X. nodewise s.sets (λ Y. mult load (placed s.nodes s.sets) X Y) y) x)
+  edges_one : square N (λ x y. nodewise s.sets (λ X. nodewise s.sets (λ Y. mult load (placed s.nodes s.sets) X Y) y) x)
       ≡ tab (flat (sources load s.nodes s.sets) (targets load s.nodes s.sets) N (load.D + load.E)) (N * N)
-  edges-one = tab_alike _ _ (N * N) edges-alike
+  edges_one = tab_alike _ _ (N * N) edges_alike
 
-  counts-one : tab (nodewise s.sets (members load (placed s.nodes s.sets))) N ≡ tab (members load s.nodes) N
+  counts_one : tab (nodewise s.sets (members load (placed s.nodes s.sets))) N ≡ tab (members load s.nodes) N
   unfolding members
-  counts-one = tab_alike _ _ N (λ x b. nodewise-is (members load (placed s.nodes s.sets)) (members load s.nodes) (λ x c. sym (members_nodes p x c)) none x)
+  counts_one = tab_alike _ _ N (λ x b. nodewise_is (members load (placed s.nodes s.sets)) (members load s.nodes) (λ x c. sym (members-nodes p x c)) none x)
     where
       none : (x : ℕ) → length s.sets ≤ x → members load s.nodes x ≡ 0
       none x c = count-all_no _ load.A (λ i b. ne_eqb (at s.nodes i) x (λ e. omega (arith, p.inside i b)))
 
-  component-one : tab (nodewise s.sets (λ X. ind (only (edge load (placed s.nodes s.sets)) (placed s.nodes s.sets) X))) N
+  component_one : tab (nodewise s.sets (λ X. ind (only (edge load (placed s.nodes s.sets)) (placed s.nodes s.sets) X))) N
       ≡ tab (λ x. ind (only (node_edge load s.nodes s.sets) (below N) x)) N
-  component-one =
+  component_one =
       tab_alike _ _ N (λ x b.
-      nodewise-is (λ X. ind (only (edge load (placed s.nodes s.sets)) (placed s.nodes s.sets) X)) (λ x. ind (only (node_edge load s.nodes s.sets) (below N) x))
+      nodewise_is (λ X. ind (only (edge load (placed s.nodes s.sets)) (placed s.nodes s.sets) X)) (λ x. ind (only (node_edge load s.nodes s.sets) (below N) x))
       (λ x c. ap ind (sym (only-nodes o p N few x c))) (λ x c. ap ind (only-outside o p N few x c)) x)
 
   pub bodies-nodes : bodies load N (state_of s) ≡ node_bodies load N s
   unfolding bodies node_bodies
-  bodies-nodes = rw (edges-one, ← cyclic-nodes o p N few, chunk_count_nodes p N few, edge-count-cells o p N few, counts-one, component-one, nodes-alike) refl
+  bodies-nodes = rw (edges_one, ← cyclic-nodes o p N few, chunk_count-nodes p N few, edge-count_cells o p N few, counts_one, component_one, nodes_alike) refl
 
   pub encode-nodes : (l : List ℕ) → encode load N (state_of s) l ≡ write N (node_bodies load N s) l
   unfolding encode

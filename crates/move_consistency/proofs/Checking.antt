@@ -11,7 +11,7 @@ use Rattle.move_ledger.specs.LoadLaws.{Loadable}
 use Rattle.move_slots.specs.Slots.{bounds}
 use Rattle.move_area.specs.Bodies.{atom_at}
 use Rattle.move_area.specs.Area.{consistent}
-use Rattle.move_area.specs.Checked.{Ranged, checked-consistent, consistent-ranged, consistent-worked}
+use Rattle.move_area.specs.Checked.{Ranged, checked-consistent, consistent_ranged, consistent_worked}
 use Rattle.move_consistency.specs.Ranges.{CanRange, RangeTold}
 use Rattle.move_consistency.specs.Ready.{CanWorkOn, WorkTold, CanCheck, Told}
 
@@ -22,8 +22,8 @@ module _ {load : Load} {n : ℕ} {area degrees order : List ℕ} (can : CanCheck
   room : atom_at n + load.A ≤ length area
   room = omega (arith, loadable.sizes.area)
 
-  pub check-ranges : CanRange load.A n area order degrees
-  check-ranges = record { nodes = loadable.sizes.sets; room = room; order_long = can.order_long; spare_long = can.degrees_long }
+  pub check_ranges : CanRange load.A n area order degrees
+  check_ranges = record { nodes = loadable.sizes.sets; room = room; order_long = can.order_long; spare_long = can.degrees_long }
 
   -- the ranges ask for the atoms and the entry bits alone
   wide : Ranged (bounds load.A load.E) n area → Ranged load n area
@@ -33,15 +33,15 @@ module _ {load : Load} {n : ℕ} {area degrees order : List ℕ} (can : CanCheck
   narrow r = record { few = r.few; nodes = r.nodes; distinct = r.distinct; range = r.range; marks = r.marks }
 
   module _ {order' : List ℕ} {q : Bool} (t : RangeTold load.A load.E n area order' q) where
-    pub check-no : {degrees' : List ℕ} → q ≡ false → Told load n area degrees' order' false
-    check-no h = record {
-      says = sym (fails _ (λ c. t.says.wrong h (narrow (consistent-ranged load n area loadable.order loadable.sizes.sets room c))));
+    pub check_no : {degrees' : List ℕ} → q ≡ false → Told load n area degrees' order' false
+    check_no h = record {
+      says = sym (fails _ (λ c. t.says.wrong h (narrow (consistent_ranged load n area loadable.order loadable.sizes.sets room c))));
       ready = λ z. absurd (true≢false (sym z));
     }
 
     module _ (h : q ≡ true) where
-      pub check-work : {degrees' : List ℕ} → length degrees' ≡ length degrees → CanWorkOn load n area degrees'
-      check-work e = record { loadable = loadable; ranged = wide (t.says.right h); degrees_long = omega (arith, can.degrees_long) }
+      pub check_work : {degrees' : List ℕ} → length degrees' ≡ length degrees → CanWorkOn load n area degrees'
+      check_work e = record { loadable = loadable; ranged = wide (t.says.right h); degrees_long = omega (arith, can.degrees_long) }
 
       pub check_done : {degrees' : List ℕ} {r : Bool} → ((i : ℕ) → get_or area i 0 < 2 ^ 32) → WorkTold load n area degrees' r
           → Told load n area degrees' order' r
@@ -61,4 +61,4 @@ module _ {load : Load} {n : ℕ} {area degrees order : List ℕ} (can : CanCheck
         where
           yes : (u : Bool) → r ≡ u → consistent load n area ≡ true → r ≡ true
           yes true z c = z
-          yes false z c = absurd (w.says.wrong z (consistent-worked load n area loadable.order loadable.sizes.sets room c))
+          yes false z c = absurd (w.says.wrong z (consistent_worked load n area loadable.order loadable.sizes.sets room c))

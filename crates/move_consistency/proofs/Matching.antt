@@ -9,8 +9,8 @@ use Rattle.move_edges.specs.Rows.{CanCheck, Checked, checked-holds, checked-edge
 use Rattle.move_consistency.specs.Matched.{CanMatch, Matched}
 
 module _ {area : List ℕ} {n m : ℕ} {sources targets heads list row degrees : List ℕ} (can : CanMatch area n m sources targets heads list row degrees) {heads' list' : List ℕ} (g : Grouped sources targets m n heads heads' list list') where
-  pub match-check : CanCheck area n heads' list' row degrees
-  match-check = record {
+  pub match_check : CanCheck area n heads' list' row degrees
+  match_check = record {
     square = can.square;
     rows = can.row_long;
     answers = can.degrees_long;
@@ -18,5 +18,5 @@ module _ {area : List ℕ} {n m : ℕ} {sources targets heads list row degrees :
     graph = (slot-lists can.slots can.lists g).graph;
   }
 
-  pub match-done : {degrees' : List ℕ} {r : Bool} → Checked area n heads' list' degrees' r → Matched area n m sources targets heads' list' degrees' r
-  match-done c = record { says = checked-holds g c can.slots.ends; lists = slot-lists can.slots can.lists g; degree_at = λ q. checked-edges g c q }
+  pub match_done : {degrees' : List ℕ} {r : Bool} → Checked area n heads' list' degrees' r → Matched area n m sources targets heads' list' degrees' r
+  match_done c = record { says = checked-holds g c can.slots.ends; lists = slot-lists can.slots can.lists g; degree_at = λ q. checked-edges g c q }

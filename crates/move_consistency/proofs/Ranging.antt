@@ -25,16 +25,16 @@ module _ (n : ℕ) (area : List ℕ) where
   key-at : (x : ℕ) → x < get_or area (n * n) 0 → at (sets_in n area) x ≡ lane_set area (n * n + 24) n x
   key-at x b = sets-at n area x b ∙ ap (λ (i : ℕ). lanes area i n) (omega arith)
 
-  apart-sets : Distinct (lane_set area (n * n + 24) n) (get_or area (n * n) 0) → sets.Distinct (sets_in n area)
-  apart-sets d = record {
+  apart_sets : Distinct (lane_set area (n * n + 24) n) (get_or area (n * n) 0) → sets.Distinct (sets_in n area)
+  apart_sets d = record {
     apart = λ i j h b e.
         let l = sets-length n area in
         let q = d.same i j (omega arith) (omega arith) (sym (key-at i (omega arith)) ∙ e ∙ key-at j (omega arith)) in
         omega arith;
   }
 
-  sets-apart : sets.Distinct (sets_in n area) → Distinct (lane_set area (n * n + 24) n) (get_or area (n * n) 0)
-  sets-apart d = record {
+  sets_apart : sets.Distinct (sets_in n area) → Distinct (lane_set area (n * n + 24) n) (get_or area (n * n) 0)
+  sets_apart d = record {
     same = λ x y bx by e. one_place d x y (omega (arith, sets-length n area)) (omega (arith, sets-length n area)) (key-at x bx ∙ e ∙ sym (key-at y by));
   }
 
@@ -47,11 +47,11 @@ range_done {a} {e} {n} {area} few o dp dq dr ds = record {
       (λ w. record {
         few = few;
         nodes = w.0.0.0;
-        distinct = apart-sets n area w.1;
+        distinct = apart_sets n area w.1;
         range = λ x b. rw (key-at n area x b) (w.0.1 x b);
         marks = w.0.0.1;
       })
-      (λ w. (((w.nodes, w.marks), λ x b. rw (key-at n area x b) at (w.range x b)), sets-apart n area w.distinct))
+      (λ w. (((w.nodes, w.marks), λ x b. rw (key-at n area x b) at (w.range x b)), sets_apart n area w.distinct))
       (both_decides (both_decides (both_decides dp dq) dr) ds);
   ordered = λ h. o;
 }

@@ -17,7 +17,7 @@ use Rattle.graph_slots.specs.Asked.{Slots}
 use Rattle.layout.specs.Compare.{SamePart}
 use Rattle.move_ledger.specs.Graph.{Load, at}
 use Rattle.move_ledger.specs.Nodes.{node_edge}
-use Rattle.move_ledger.specs.Totals.{busy_nodes, degrees-cells, above_none}
+use Rattle.move_ledger.specs.Totals.{busy_nodes, degrees_cells, above_none}
 use Rattle.move_slots.specs.Filled.{CanFillOwn, Filled}
 use Rattle.move_slots.specs.Counted.{slot_count, Counted, counted-ends, counted_le, counted-flat, counted-cyclic, counted-edge}
 use Rattle.move_edges.specs.Matrix.{Holds}
@@ -48,8 +48,8 @@ totals_same {chunks} {edges} {n} {area} {w} e =
     same_decides (λ p. record { occupied = p.0; distinct = sym e ∙ p.1 }) (λ t. (t.occupied, e ∙ t.distinct)) (both_decides (eqb_decides (get_or area (n * n + 3) 0) chunks) (eqb_decides w edges))
 
 module _ {load : Load} {n : ℕ} {area sources targets heads list row degrees : List ℕ} (can : CanWork load n area sources targets heads list row degrees) where
-  pub work-fill : CanFillOwn load n area degrees sources targets
-  work-fill = record {
+  pub work_fill : CanFillOwn load n area degrees sources targets
+  work_fill = record {
     loadable = can.checked.loadable;
     few = can.checked.ranged.few;
     inside = can.checked.ranged.nodes;
@@ -58,21 +58,21 @@ module _ {load : Load} {n : ℕ} {area sources targets heads list row degrees : 
     targets_long = can.room.targets_long;
   }
 
-  pub work-lanes : Lanes area n
-  work-lanes = record { nodes = can.checked.loadable.sizes.sets; room = omega (arith, can.checked.loadable.sizes.area) }
+  pub work_lanes : Lanes area n
+  work_lanes = record { nodes = can.checked.loadable.sizes.sets; room = omega (arith, can.checked.loadable.sizes.area) }
 
-  pub work-compare : {counts : List ℕ} → length counts ≡ length degrees → CanLane area n counts
-  work-compare e = record { lanes = work-lanes; long = omega (arith, can.checked.degrees_long) }
+  pub work_compare : {counts : List ℕ} → length counts ≡ length degrees → CanLane area n counts
+  work_compare e = record { lanes = work_lanes; long = omega (arith, can.checked.degrees_long) }
 
-  pub work-count : {counts : List ℕ} → length counts ≡ length degrees → CanCount counts 0 n
-  work-count e = record { fits = omega (arith, can.checked.degrees_long); few = omega (arith, can.checked.loadable.sizes.sets) }
+  pub work_count : {counts : List ℕ} → length counts ≡ length degrees → CanCount counts 0 n
+  work_count e = record { fits = omega (arith, can.checked.degrees_long); few = omega (arith, can.checked.loadable.sizes.sets) }
 
-  pub work-sum : {degrees' : List ℕ} → length degrees' ≡ length degrees → CanSum degrees' n
-  work-sum e = record { long = omega (arith, can.checked.degrees_long); short = can.checked.loadable.sizes.sets }
+  pub work_sum : {degrees' : List ℕ} → length degrees' ≡ length degrees → CanSum degrees' n
+  work_sum e = record { long = omega (arith, can.checked.degrees_long); short = can.checked.loadable.sizes.sets }
 
-  pub work-counted : {m : ℕ} {counts s t : List ℕ} → Filled load n (nodes_in load n area) (sets_in n area) counts s t → m ≡ slot_count n load.D load.E
+  pub work_counted : {m : ℕ} {counts s t : List ℕ} → Filled load n (nodes_in load n area) (sets_in n area) counts s t → m ≡ slot_count n load.D load.E
       → Counted load (nodes_in load n area) (sets_in n area) s t n m
-  work-counted f e = record {
+  work_counted f e = record {
     order = can.checked.loadable.order;
     placing = ranged_placing can.checked.loadable.sizes.sets can.checked.ranged;
     few = omega (arith, sets-length n area, can.checked.ranged.few);
@@ -81,8 +81,8 @@ module _ {load : Load} {n : ℕ} {area sources targets heads list row degrees : 
   }
 
   module _ {m : ℕ} {s t : List ℕ} (g : Counted load (nodes_in load n area) (sets_in n area) s t n m) (p : length s ≡ length sources) (q : length t ≡ length targets) where
-    work-slots : Slots s t m n
-    work-slots =
+    work_slots : Slots s t m n
+    work_slots =
         let l = counted_le g in
         record {
           slots = omega (arith, can.checked.loadable.sizes.entries, can.checked.loadable.sizes.bits);
@@ -92,19 +92,19 @@ module _ {load : Load} {n : ℕ} {area sources targets heads list row degrees : 
           nodes = can.checked.loadable.sizes.sets;
         }
 
-    pub work-match : {counts : List ℕ} → length counts ≡ length degrees → CanMatch area n m s t heads list row counts
-    work-match e =
+    pub work_match : {counts : List ℕ} → length counts ≡ length degrees → CanMatch area n m s t heads list row counts
+    work_match e =
         let l = counted_le g in
         record {
           square = omega (arith, can.checked.loadable.sizes.area);
-          slots = work-slots;
+          slots = work_slots;
           lists = record { rows = can.room.lists.rows; room = omega (arith, can.room.lists.room); short = can.room.lists.short };
           row_long = can.room.row_long;
           degrees_long = omega (arith, can.checked.degrees_long);
         }
 
-  pub work-flag : {m : ℕ} {s t heads' list' degrees' : List ℕ} {r : Bool} → Matched area n m s t heads' list' degrees' r → CanFlag area n m s t heads' list'
-  work-flag d = record { lanes = work-lanes; lists = d.lists }
+  pub work_flag : {m : ℕ} {s t heads' list' degrees' : List ℕ} {r : Bool} → Matched area n m s t heads' list' degrees' r → CanFlag area n m s t heads' list'
+  work_flag d = record { lanes = work_lanes; lists = d.lists }
 
 module _ {load : Load} {n m : ℕ} {area counts s t : List ℕ} (f : Filled load n (nodes_in load n area) (sets_in n area) counts s t) (g : Counted load (nodes_in load n area) (sets_in n area) s t n m) where
   by_parts : {r : Bool} → Decides (((SamePart area (lane_at n 8) counts 0 n × Holds area n s t m) × Totalled load n area) × Flagged (slot_edge s t m) n area) r → Decides (Worked load n area) r
@@ -131,19 +131,19 @@ module _ {load : Load} {n m : ℕ} {area counts s t : List ℕ} (f : Filled load
       same x b = ap (λ (e : ℕ → ℕ → Bool). ind (only e (below n) x)) (counted-edge g (omega arith))
 
   module _ {heads list degrees : List ℕ} {r₂ : Bool} (d : Matched area n m s t heads list degrees r₂) where
-    degrees-are : r₂ ≡ true → (x : ℕ) → x < n → get_or degrees x 0 ≡ count (node_edge load (nodes_in load n area) (sets_in n area) x) n
-    degrees-are q x b = d.degree_at q x b ∙ ap (λ (e : ℕ → ℕ → Bool). count (e x) n) (counted-edge g (omega arith))
+    degrees_are : r₂ ≡ true → (x : ℕ) → x < n → get_or degrees x 0 ≡ count (node_edge load (nodes_in load n area) (sets_in n area) x) n
+    degrees_are q x b = d.degree_at q x b ∙ ap (λ (e : ℕ → ℕ → Bool). count (e x) n) (counted-edge g (omega arith))
 
-    totals-told : {k e : ℕ} {r : Bool} → Compared counts 0 (λ y. 0) n k → e ≡ total (at degrees) n → Decides (TotalsAre k e n area) r → r₂ ≡ true → Decides (Totalled load n area) r
+    totals_told : {k e : ℕ} {r : Bool} → Compared counts 0 (λ y. 0) n k → e ≡ total (at degrees) n → Decides (TotalsAre k e n area) r → r₂ ≡ true → Decides (Totalled load n area) r
     unfolding busy_nodes
-    totals-told k e t q =
+    totals_told k e t q =
         let x = k.differ ∙ count_ext _ _ n (λ x b. sym (above_none (get_or counts (0 + x) 0)) ∙ ap (λ i. ltb 0 (get_or counts i 0)) (zero-add x) ∙ ap (ltb 0) (f.count_at x b)) in
-        let y = e ∙ degrees-cells g.order g.placing n g.few (at degrees) (degrees-are q) in
+        let y = e ∙ degrees_cells g.order g.placing n g.few (at degrees) (degrees_are q) in
         same_decides (λ p. (p.occupied ∙ x, p.distinct ∙ y)) (λ p. record { occupied = p.0 ∙ sym x; distinct = p.1 ∙ sym y }) t
 
-    pub work-done : {k e : ℕ} {r₁ r₃ r₄ : Bool} → Decides (SamePart area (lane_at n 8) counts 0 n) r₁ → Compared counts 0 (λ y. 0) n k → e ≡ total (at degrees) n
+    pub work_done : {k e : ℕ} {r₁ r₃ r₄ : Bool} → Decides (SamePart area (lane_at n 8) counts 0 n) r₁ → Compared counts 0 (λ y. 0) n k → e ≡ total (at degrees) n
         → Decides (TotalsAre k e n area) r₃ → Decides (Flagged (slot_edge s t m) n area) r₄ → WorkTold load n area degrees (((r₁ && r₂) && r₃) && r₄)
-    work-done {r₁ = r₁} {r₃ = r₃} {r₄ = r₄} c k e t u = record {
-      says = by_parts (both_decides (then_decides (both_decides c d.says) (λ q. totals-told k e t (and_right r₁ r₂ q))) u);
-      degree_at = λ q. degrees-are (and_right r₁ r₂ (and_left (r₁ && r₂) r₃ (and_left ((r₁ && r₂) && r₃) r₄ q)));
+    work_done {r₁ = r₁} {r₃ = r₃} {r₄ = r₄} c k e t u = record {
+      says = by_parts (both_decides (then_decides (both_decides c d.says) (λ q. totals_told k e t (and_right r₁ r₂ q))) u);
+      degree_at = λ q. degrees_are (and_right r₁ r₂ (and_left (r₁ && r₂) r₃ (and_left ((r₁ && r₂) && r₃) r₄ q)));
     }

@@ -58,21 +58,21 @@ pub some_none : (part row : List ℕ) → Some part row row 0 0
 some_none part row = record { at = λ y. omega (arith, occ_le y (take 0 part)); more = λ n h. omega arith; few = omega arith; long = refl }
 
 module _ {part row₀ row : List ℕ} {k f : ℕ} (can : CanTally part row₀) (h : Some part row₀ row k f) (z : k < length part) where
-  pub some-can : CanBump row (get_or part k 0)
-  some-can = record {
+  pub some_can : CanBump row (get_or part k 0)
+  some_can = record {
     within = omega (arith, can.within k z, h.long);
     room = omega (arith, can.room k z, h.at (get_or part k 0), occ_le (get_or part k 0) (take k part), length-take-le k part (omega arith));
   }
 
   -- found stays a number of 32 bits
-  pub some-room : f < 4294967295
-  some-room = omega (arith, h.few, can.room k z)
+  pub some_room : f < 4294967295
+  some_room = omega (arith, h.few, can.room k z)
 
   pub some_more : {row' : List ℕ} {b : ℕ} → b ≡ ind (eqb (get_or row (get_or part k 0) 0) 0) → row' ≡ set row (get_or part k 0) (get_or row (get_or part k 0) 0 + 1)
       → Some part row₀ row' (k + 1) (f + b)
   some_more {row'} {b} p q = record {
     at = λ y. rw (q, occ-more y part k z) (go y (same? y v));
-    more = λ n w. ap (λ (l : List ℕ). nonzero (λ y. get_or l y 0) n) q ∙ omega (arith, nonzero-more row v n (w k z) some-can.within, h.more n w, p);
+    more = λ n w. ap (λ (l : List ℕ). nonzero (λ y. get_or l y 0) n) q ∙ omega (arith, nonzero-more row v n (w k z) some_can.within, h.more n w, p);
     few = omega (arith, h.few, p, ind_le (eqb (get_or row (get_or part k 0) 0) 0));
     long = rw q (length-set row v (get_or row v 0 + 1) ∙ h.long);
   }
@@ -81,7 +81,7 @@ module _ {part row₀ row : List ℕ} {k f : ℕ} (can : CanTally part row₀) (
       v = get_or part k 0
 
       go : (y : ℕ) → Same y v → get_or (set row v (get_or row v 0 + 1)) y 0 ≡ get_or row₀ y 0 + (occ y (take k part) + ind (eqb v y))
-      go y (it e) = rw (eq-eqb v y (sym e)) (rw e (get_or-set_same row v (get_or row v 0 + 1) 0 some-can.within ∙ omega (arith, h.at v)))
+      go y (it e) = rw (eq-eqb v y (sym e)) (rw e (get_or-set_same row v (get_or row v 0 + 1) 0 some_can.within ∙ omega (arith, h.at v)))
       go y (other e) = rw (ne_eqb v y (λ f. e (sym f))) (get_or-set_other row v y (get_or row v 0 + 1) 0 e ∙ omega (arith, h.at y))
 
 all_of : (part : List ℕ) (k y : ℕ) → k ≡ length part → occ y (take k part) ≡ occ y part
@@ -139,8 +139,8 @@ compare_done {e} {at} {g} {k} {n} {u} h q = subst (λ (j : ℕ). Compared e at g
 
 -- one row
 module _ {e : List ℕ} {n x : ℕ} {part row : List ℕ} (can : CanCheckRow e n x part row) where
-  pub row-tally : CanTally part row
-  row-tally = record {
+  pub row_tally : CanTally part row
+  row_tally = record {
     within = λ k z. omega (arith, can.within k z, can.rows);
     room = λ k z. omega (arith, can.clean.at (get_or part k 0) (can.within k z), can.few);
   }
@@ -163,11 +163,11 @@ module _ {e : List ℕ} {n x : ℕ} {part row : List ℕ} (can : CanCheckRow e n
       none_of y = omega (arith, occ_le y part, q)
 
   module _ {row₁ : List ℕ} {f : ℕ} (t : Tallied part row row₁ f) where
-    pub row-compare : CanCompare e (x * n) row₁ n
-    row-compare = record { fits = row_fits; rows = omega (arith, t.long, can.rows); few = can.nodes }
+    pub row_compare : CanCompare e (x * n) row₁ n
+    row_compare = record { fits = row_fits; rows = omega (arith, t.long, can.rows); few = can.nodes }
 
-    pub row-wipe : CanWipe part row₁
-    row-wipe = record { within = λ k z. omega (arith, t.long, row-tally.within k z) }
+    pub row_wipe : CanWipe part row₁
+    row_wipe = record { within = λ k z. omega (arith, t.long, row_tally.within k z) }
 
     counts : (y : ℕ) → y < n → get_or row₁ y 0 ≡ occ y part
     counts y z = omega (arith, t.at y, can.clean.at y z)
@@ -224,8 +224,8 @@ module _ {e : List ℕ} {n : ℕ} {starts list row₀ degrees₀ : List ℕ} (ca
   }
 
   module _ {row degrees : List ℕ} {x : ℕ} (h : Rows e n starts list row degrees x) (z : x < n) where
-    pub rows-can : CanCheckRow e n x (part_of starts list x) row
-    rows-can =
+    pub rows_can : CanCheckRow e n x (part_of starts list x) row
+    rows_can =
         let l = part_long can.graph x z in
         record {
           row_of = z;
@@ -250,8 +250,8 @@ module _ {e : List ℕ} {n : ℕ} {starts list row₀ degrees₀ : List ℕ} (ca
         answers = omega (arith, length-set degrees x f, h.answers);
       }
 
-      pub rows-no : (u ≡ 0 → ⊥) → {degrees' : List ℕ} → Checked e n starts list degrees' false
-      rows-no q = record {
+      pub rows_no : (u ≡ 0 → ⊥) → {degrees' : List ℕ} → Checked e n starts list degrees' false
+      rows_no q = record {
         says = record {
           right = λ p. absurd (subst T (sym p) tt);
           wrong = λ p s. q (c.differ ∙ rows_alike (λ y. get_or e (x * n + y) 0) (λ y. occ y (part_of starts list x)) n (λ y b. s.at x y z b));

@@ -29,29 +29,29 @@ same_ends a b c d h = go (eqb a c) (eqb b d) refl refl h
 
 -- one slot: what it adds and what it removes, place by place
 module _ (e : List ℕ) (n a b c d : ℕ) where
-  pub gain-at : CanAdd e n c d → (i : ℕ) → get_or (cond (another a b c d) (added e n c d) e) i 0 ≡ get_or e i 0 + ind (another a b c d && stands n c d i)
-  gain-at can i = go (another a b c d)
+  pub gain_at : CanAdd e n c d → (i : ℕ) → get_or (cond (another a b c d) (added e n c d) e) i 0 ≡ get_or e i 0 + ind (another a b c d && stands n c d i)
+  gain_at can i = go (another a b c d)
     where
       go : (t : Bool) → get_or (cond t (added e n c d) e) i 0 ≡ get_or e i 0 + ind (t && stands n c d i)
       go true = more-at e (c * n + d) c d i (within-place can.within)
       go false = omega arith
 
-  pub gain-long : length (cond (another a b c d) (added e n c d) e) ≡ length e
-  gain-long = go (another a b c d)
+  pub gain_long : length (cond (another a b c d) (added e n c d) e) ≡ length e
+  gain_long = go (another a b c d)
     where
       go : (t : Bool) → length (cond t (added e n c d) e) ≡ length e
       go true = length_more e (c * n + d) c d
       go false = refl
 
-  pub shed-at : CanLose e n a b c d → (i : ℕ) → get_or (cond (another a b c d) (removed e n a b) e) i 0 + ind (another a b c d && stands n a b i) ≡ get_or e i 0
-  shed-at can i = go (another a b c d) refl
+  pub shed_at : CanLose e n a b c d → (i : ℕ) → get_or (cond (another a b c d) (removed e n a b) e) i 0 + ind (another a b c d && stands n a b i) ≡ get_or e i 0
+  shed_at can i = go (another a b c d) refl
     where
       go : (t : Bool) → another a b c d ≡ t → get_or (cond t (removed e n a b) e) i 0 + ind (t && stands n a b i) ≡ get_or e i 0
       go true q = less-at e (a * n + b) a b i (within-place can.within) (can.there q)
       go false q = omega arith
 
-  pub shed-long : length (cond (another a b c d) (removed e n a b) e) ≡ length e
-  shed-long = go (another a b c d)
+  pub shed_long : length (cond (another a b c d) (removed e n a b) e) ≡ length e
+  shed_long = go (another a b c d)
     where
       go : (t : Bool) → length (cond t (removed e n a b) e) ≡ length e
       go true = length-less e (a * n + b) a b
@@ -99,10 +99,10 @@ module _ (n : ℕ) (s t u v : List ℕ) where
       one true false q f = omega arith
       one false p q f = rw (f refl) refl
 
-  lost-le : (i k : ℕ) → count (lost s t u v n i) k ≤ flat s t n k i
+  lost_le : (i k : ℕ) → count (lost s t u v n i) k ≤ flat s t n k i
   unfolding count
-  lost-le i zero = omega arith
-  lost-le i (suc k) = omega (arith, lost-le i k, one (changed s t u v k) (cell s t n i k))
+  lost_le i zero = omega arith
+  lost_le i (suc k) = omega (arith, lost_le i k, one (changed s t u v k) (cell s t n i k))
     where
       one : (c p : Bool) → ind (c && p) ≤ ind p
       one true p = omega arith
@@ -110,8 +110,8 @@ module _ (n : ℕ) (s t u v : List ℕ) where
 
 -- what each turn asks
 module _ {e₀ : List ℕ} {n : ℕ} {s t u v : List ℕ} {m : ℕ} where
-  pub gain-can : CanGain e₀ n s t u v m → {e : List ℕ} {k : ℕ} → Grown (gained s t u v n) k e₀ e → k < m → CanAdd e n (get_or u k 0) (get_or v k 0)
-  gain-can can {e} {k} h l =
+  pub gain_can : CanGain e₀ n s t u v m → {e : List ℕ} {k : ℕ} → Grown (gained s t u v n) k e₀ e → k < m → CanAdd e n (get_or u k 0) (get_or v k 0)
+  gain_can can {e} {k} h l =
       let c = get_or u k 0 in
       let d = get_or v k 0 in
       let hc : c < n = can.both.new_ends.source k l in
@@ -122,8 +122,8 @@ module _ {e₀ : List ℕ} {n : ℕ} {s t u v : List ℕ} {m : ℕ} where
         room = omega (arith, h.at (c * n + d), can.room (c * n + d) i, count_le (gained s t u v n (c * n + d)) k, can.both.few);
       }
 
-  pub shed-can : CanShed e₀ n s t u v m → {e : List ℕ} {k : ℕ} → Fallen (lost s t u v n) k e₀ e → k < m → CanLose e n (get_or s k 0) (get_or t k 0) (get_or u k 0) (get_or v k 0)
-  shed-can can {e} {k} h l =
+  pub shed_can : CanShed e₀ n s t u v m → {e : List ℕ} {k : ℕ} → Fallen (lost s t u v n) k e₀ e → k < m → CanLose e n (get_or s k 0) (get_or t k 0) (get_or u k 0) (get_or v k 0)
+  shed_can can {e} {k} h l =
       let a = get_or s k 0 in
       let b = get_or t k 0 in
       let ha : a < n = can.both.ends.source k l in
@@ -136,74 +136,74 @@ module _ {e₀ : List ℕ} {n : ℕ} {s t u v : List ℕ} {m : ℕ} where
             omega (arith, h.at (a * n + b), can.there (a * n + b) i, y, count_mono (lost s t u v n (a * n + b)) (k + 1) m (omega arith));
       }
 
-  pub gain-more : CanGain e₀ n s t u v m → {e : List ℕ} {k : ℕ} → Grown (gained s t u v n) k e₀ e → k < m → {e' : List ℕ}
+  pub gain_more : CanGain e₀ n s t u v m → {e : List ℕ} {k : ℕ} → Grown (gained s t u v n) k e₀ e → k < m → {e' : List ℕ}
       → e' ≡ cond (changed s t u v k) (added e n (get_or u k 0) (get_or v k 0)) e → Grown (gained s t u v n) (k + 1) e₀ e'
-  gain-more can {e} {k} h l {e'} q =
+  gain_more can {e} {k} h l {e'} q =
       grown_more h
-      (λ i. rw q (gain-at e n (get_or s k 0) (get_or t k 0) (get_or u k 0) (get_or v k 0) (gain-can can h l) i))
-      (ap length q ∙ gain-long e n (get_or s k 0) (get_or t k 0) (get_or u k 0) (get_or v k 0))
+      (λ i. rw q (gain_at e n (get_or s k 0) (get_or t k 0) (get_or u k 0) (get_or v k 0) (gain_can can h l) i))
+      (ap length q ∙ gain_long e n (get_or s k 0) (get_or t k 0) (get_or u k 0) (get_or v k 0))
 
-  pub shed-more : CanShed e₀ n s t u v m → {e : List ℕ} {k : ℕ} → Fallen (lost s t u v n) k e₀ e → k < m → {e' : List ℕ}
+  pub shed_more : CanShed e₀ n s t u v m → {e : List ℕ} {k : ℕ} → Fallen (lost s t u v n) k e₀ e → k < m → {e' : List ℕ}
       → e' ≡ cond (changed s t u v k) (removed e n (get_or s k 0) (get_or t k 0)) e → Fallen (lost s t u v n) (k + 1) e₀ e'
-  shed-more can {e} {k} h l {e'} q =
+  shed_more can {e} {k} h l {e'} q =
       fallen_more h
-      (λ i. rw q (shed-at e n (get_or s k 0) (get_or t k 0) (get_or u k 0) (get_or v k 0) (shed-can can h l) i))
-      (ap length q ∙ shed-long e n (get_or s k 0) (get_or t k 0) (get_or u k 0) (get_or v k 0))
+      (λ i. rw q (shed_at e n (get_or s k 0) (get_or t k 0) (get_or u k 0) (get_or v k 0) (shed_can can h l) i))
+      (ap length q ∙ shed_long e n (get_or s k 0) (get_or t k 0) (get_or u k 0) (get_or v k 0))
 
   module _ (can : CanUpdate e₀ n s t u v m) where
-    pub update-gain : CanGain e₀ n s t u v m
-    update-gain = record { both = can.both; square = can.square; room = λ i h. omega (arith, can.holds.at i h, count_le (cell s t n i) m) }
+    pub update_gain : CanGain e₀ n s t u v m
+    update_gain = record { both = can.both; square = can.square; room = λ i h. omega (arith, can.holds.at i h, count_le (cell s t n i) m) }
 
     module _ {e₁ : List ℕ} (g : Grown (gained s t u v n) m e₀ e₁) where
-      pub update-shed : CanShed e₁ n s t u v m
-      update-shed = record {
+      pub update_shed : CanShed e₁ n s t u v m
+      update_shed = record {
         both = can.both;
         square = omega (arith, g.long, can.square);
-        there = λ i h. omega (arith, g.at i, can.holds.at i h, lost-le n s t u v i m);
+        there = λ i h. omega (arith, g.at i, can.holds.at i h, lost_le n s t u v i m);
       }
 
-      pub update-done : {e₂ : List ℕ} → Fallen (lost s t u v n) m e₁ e₂ → e₂ ≡ patch 0 (matrix u v n m) e₀
-      update-done {e₂} f = is_matrix u v n m e₀ e₂ can.square (f.long ∙ g.long)
+      pub update_done : {e₂ : List ℕ} → Fallen (lost s t u v n) m e₁ e₂ → e₂ ≡ patch 0 (matrix u v n m) e₀
+      update_done {e₂} f = is_matrix u v n m e₀ e₂ can.square (f.long ∙ g.long)
           (λ i h. omega (arith, f.at i, g.at i, can.holds.at i h, balance n s t u v i m))
           (λ i b h. omega (arith, f.at i, g.at i, flat_beyond s t n m i can.both.ends h, flat_beyond u v n m i can.both.new_ends h, balance n s t u v i m))
 
 -- from nothing: the square is cleared, and then the slots are added
 module _ {n : ℕ} {s t : List ℕ} {m : ℕ} {e₀ : List ℕ} (can : CanFill e₀ n s t m) where
   module _ {e₁ : List ℕ} (c : e₁ ≡ patch 0 (replicate (n * n) 0) e₀) where
-    clear-long : length e₁ ≡ length e₀
-    clear-long = ap length c ∙ patch_long 0 (replicate (n * n) 0) e₀
+    clear_long : length e₁ ≡ length e₀
+    clear_long = ap length c ∙ patch_long 0 (replicate (n * n) 0) e₀
 
-    zero-at : (i : ℕ) → i < n * n → get_or e₁ i 0 ≡ 0
-    zero-at i h =
+    zero_at : (i : ℕ) → i < n * n → get_or e₁ i 0 ≡ 0
+    zero_at i h =
         ap (λ (l : List ℕ). get_or l i 0) c ∙ ap (λ (j : ℕ). get_or (patch 0 (replicate (n * n) 0) e₀) j 0) (sym (zero-add i))
         ∙ patch_in 0 (replicate (n * n) 0) e₀ i (omega (arith, length-replicate {A = ℕ} (n * n) 0)) (omega (arith, can.square)) ∙ get_or-replicate (n * n) i 0 0 h
 
-    clear-beyond : (i : ℕ) → i < length e₀ → n * n ≤ i → get_or e₁ i 0 ≡ get_or e₀ i 0
-    clear-beyond i b h = ap (λ (l : List ℕ). get_or l i 0) c ∙ patch-out 0 (replicate (n * n) 0) e₀ i b (λ z. omega (arith, length-replicate {A = ℕ} (n * n) 0))
+    clear_beyond : (i : ℕ) → i < length e₀ → n * n ≤ i → get_or e₁ i 0 ≡ get_or e₀ i 0
+    clear_beyond i b h = ap (λ (l : List ℕ). get_or l i 0) c ∙ patch-out 0 (replicate (n * n) 0) e₀ i b (λ z. omega (arith, length-replicate {A = ℕ} (n * n) 0))
 
     module _ {k : ℕ} {e : List ℕ} (h : Grown (cell s t n) k e₁ e) where
-      pub fill-can : k < m → CanAdd e n (get_or s k 0) (get_or t k 0)
-      fill-can l =
+      pub fill_can : k < m → CanAdd e n (get_or s k 0) (get_or t k 0)
+      fill_can l =
           let a = get_or s k 0 in
           let b = get_or t k 0 in
           let i : a * n + b < n * n = index_lt n a b (can.ends.source k l) (can.ends.target k l) in
           record {
-            within = record { source = can.ends.source k l; target = can.ends.target k l; square = omega (arith, can.square, h.long, clear-long) };
-            room = omega (arith, h.at (a * n + b), zero-at (a * n + b) i, count_le (cell s t n (a * n + b)) k, can.few);
+            within = record { source = can.ends.source k l; target = can.ends.target k l; square = omega (arith, can.square, h.long, clear_long) };
+            room = omega (arith, h.at (a * n + b), zero_at (a * n + b) i, count_le (cell s t n (a * n + b)) k, can.few);
           }
 
       pub fill_more : k < m → {e' : List ℕ} → e' ≡ added e n (get_or s k 0) (get_or t k 0) → Grown (cell s t n) (k + 1) e₁ e'
       fill_more l {e'} q =
           let a = get_or s k 0 in
           let b = get_or t k 0 in
-          grown_more h (λ i. rw q (more-at e (a * n + b) a b i (within-place (fill-can l).within))) (ap length q ∙ length_more e (a * n + b) a b)
+          grown_more h (λ i. rw q (more-at e (a * n + b) a b i (within-place (fill_can l).within))) (ap length q ∙ length_more e (a * n + b) a b)
 
       pub fill_done : k ≡ m → e ≡ patch 0 (matrix s t n m) e₀
       fill_done q =
           let g = grown_done h q in
-          is_matrix s t n m e₀ e can.square (h.long ∙ clear-long)
-          (λ i z. omega (arith, g.at i, zero-at i z))
-          (λ i b z. omega (arith, g.at i, clear-beyond i b z, flat_beyond s t n m i can.ends z))
+          is_matrix s t n m e₀ e can.square (h.long ∙ clear_long)
+          (λ i z. omega (arith, g.at i, zero_at i z))
+          (λ i b z. omega (arith, g.at i, clear_beyond i b z, flat_beyond s t n m i can.ends z))
 
 -- one place of a count changes
 count_one : (p q : ℕ → Bool) (k i : ℕ) → i < k → ((j : ℕ) → (j ≡ i → ⊥) → q j ≡ p j) → count q k + ind (p i) ≡ count p k + ind (q i)
@@ -256,9 +256,9 @@ come (suc S) U E b f = rw (lt-ltb 0 E (omega arith), lt-ltb 0 (suc S) (omega ari
 -- an edge in both graphs is there all the time: so it counts neither as appeared nor as vanished
 module _ {e₀ : List ℕ} {n : ℕ} {s t u v : List ℕ} {m : ℕ} (can : CanUpdate e₀ n s t u v m) {e₁ e₂ : List ℕ}
     (g : Grown (gained s t u v n) m e₀ e₁) (f : Fallen (lost s t u v n) m e₁ e₂) where
-  pub update-changes : {x y : ℕ} → x + filled e₀ n ≡ filled e₁ n → y + filled e₂ n ≡ filled e₁ n → Changed n s t u v m x y
+  pub update_changes : {x y : ℕ} → x + filled e₀ n ≡ filled e₁ n → y + filled e₂ n ≡ filled e₁ n → Changed n s t u v m x y
   unfolding filled
-  update-changes {x} {y} p q =
+  update_changes {x} {y} p q =
       record {
         appeared = omega (arith, count-parts (λ i. ltb 0 (get_or e₁ i 0)) (λ i. eqb (flat s t n m i) 0 && ltb 0 (flat u v n m i)) (λ i. ltb 0 (get_or e₀ i 0)) (n * n) forth);
         vanished = omega (arith, count-parts (λ i. ltb 0 (get_or e₁ i 0)) (λ i. eqb (flat u v n m i) 0 && ltb 0 (flat s t n m i)) (λ i. ltb 0 (get_or e₂ i 0)) (n * n) back);
@@ -271,13 +271,13 @@ module _ {e₀ : List ℕ} {n : ℕ} {s t u v : List ℕ} {m : ℕ} (can : CanUp
       forth i h =
           rw (can.holds.at i h)
           (come (flat s t n m i) (flat u v n m i) (get_or e₁ i 0) (omega (arith, g.at i, can.holds.at i h))
-          (λ z. omega (arith, f.at i, g.at i, can.holds.at i h, balance n s t u v i m, lost-le n s t u v i m)))
+          (λ z. omega (arith, f.at i, g.at i, can.holds.at i h, balance n s t u v i m, lost_le n s t u v i m)))
 
       back : (i : ℕ) → i < n * n → ind (ltb 0 (get_or e₁ i 0)) ≡ ind (eqb (flat u v n m i) 0 && ltb 0 (flat s t n m i)) + ind (ltb 0 (get_or e₂ i 0))
       back i h =
           rw (last i h)
           (come (flat u v n m i) (flat s t n m i) (get_or e₁ i 0) (omega (arith, f.at i, last i h))
-          (λ z. omega (arith, f.at i, g.at i, can.holds.at i h, balance n s t u v i m, lost-le n s t u v i m)))
+          (λ z. omega (arith, f.at i, g.at i, can.holds.at i h, balance n s t u v i m, lost_le n s t u v i m)))
 
 -- a slot's old edge is one distinct edge less exactly where it vanishes
 module _ (n a b : ℕ) (ha : a < n) (hb : b < n) (e e' : List ℕ) (t : Bool) (there : t ≡ true → (a ≡ b → ⊥) → 1 ≤ get_or e (a * n + b) 0) where
@@ -305,44 +305,44 @@ module _ (n a b : ℕ) (ha : a < n) (hb : b < n) (e e' : List ℕ) (t : Bool) (t
       go false w p q = omega (arith, count_ext (λ j. ltb 0 (get_or e' j 0)) (λ j. ltb 0 (get_or e j 0)) (n * n) (λ j c. same_ltb (get_or e' j 0) (get_or e j 0) (let z : get_or e' j 0 + 0 ≡ get_or e j 0 = rw p at (f j) in omega arith)))
 
 module _ {e₀ : List ℕ} {n : ℕ} {s t u v : List ℕ} {m : ℕ} where
-  pub gain-tally : CanGain e₀ n s t u v m → {e : List ℕ} {k : ℕ} → Grown (gained s t u v n) k e₀ e → k < m → {e' : List ℕ}
+  pub gain_tally : CanGain e₀ n s t u v m → {e : List ℕ} {k : ℕ} → Grown (gained s t u v n) k e₀ e → k < m → {e' : List ℕ}
       → e' ≡ cond (changed s t u v k) (added e n (get_or u k 0) (get_or v k 0)) e → (x : ℕ) {r : ℕ} → r ≡ ind (changed s t u v k && appears e n (get_or u k 0) (get_or v k 0))
       → x + filled e₀ n ≡ filled e n → (x + r) + filled e₀ n ≡ filled e' n
-  gain-tally can {e} {k} h l {e'} q x {r} w z =
+  gain_tally can {e} {k} h l {e'} q x {r} w z =
       omega (
         arith,
         w,
         z,
         filled_more n (get_or u k 0) (get_or v k 0) (can.both.new_ends.source k l) (can.both.new_ends.target k l) e e' (changed s t u v k)
-            (λ i. rw q (gain-at e n (get_or s k 0) (get_or t k 0) (get_or u k 0) (get_or v k 0) (gain-can can h l) i)),
+            (λ i. rw q (gain_at e n (get_or s k 0) (get_or t k 0) (get_or u k 0) (get_or v k 0) (gain_can can h l) i)),
       )
 
-  pub shed-tally : CanShed e₀ n s t u v m → {e : List ℕ} {k : ℕ} → Fallen (lost s t u v n) k e₀ e → k < m → {e' : List ℕ}
+  pub shed_tally : CanShed e₀ n s t u v m → {e : List ℕ} {k : ℕ} → Fallen (lost s t u v n) k e₀ e → k < m → {e' : List ℕ}
       → e' ≡ cond (changed s t u v k) (removed e n (get_or s k 0) (get_or t k 0)) e → (x : ℕ) {r : ℕ} → r ≡ ind (changed s t u v k && vanishes e n (get_or s k 0) (get_or t k 0))
       → x + filled e n ≡ filled e₀ n → (x + r) + filled e' n ≡ filled e₀ n
-  shed-tally can {e} {k} h l {e'} q x {r} w z =
+  shed_tally can {e} {k} h l {e'} q x {r} w z =
       omega (
         arith,
         w,
         z,
-        filled-less n (get_or s k 0) (get_or t k 0) (can.both.ends.source k l) (can.both.ends.target k l) e e' (changed s t u v k) (shed-can can h l).there
-            (λ i. rw q (shed-at e n (get_or s k 0) (get_or t k 0) (get_or u k 0) (get_or v k 0) (shed-can can h l) i)),
+        filled-less n (get_or s k 0) (get_or t k 0) (can.both.ends.source k l) (can.both.ends.target k l) e e' (changed s t u v k) (shed_can can h l).there
+            (λ i. rw q (shed_at e n (get_or s k 0) (get_or t k 0) (get_or u k 0) (get_or v k 0) (shed_can can h l) i)),
       )
 
 -- from nothing: no number is there, and each edge that appears is one more
 module _ {n : ℕ} {s t : List ℕ} {m : ℕ} {e₀ : List ℕ} (can : CanFill e₀ n s t m) {e₁ : List ℕ} (c : e₁ ≡ patch 0 (replicate (n * n) 0) e₀) where
   pub fill_none : filled e₁ n ≡ 0
   unfolding filled
-  fill_none = count-all_no (λ i. ltb 0 (get_or e₁ i 0)) (n * n) (λ i b. same_ltb (get_or e₁ i 0) 0 (zero-at can c i b))
+  fill_none = count-all_no (λ i. ltb 0 (get_or e₁ i 0)) (n * n) (λ i b. same_ltb (get_or e₁ i 0) 0 (zero_at can c i b))
 
-  pub fill-tally : {k : ℕ} {e : List ℕ} → Grown (cell s t n) k e₁ e → k < m → {e' : List ℕ} → e' ≡ added e n (get_or s k 0) (get_or t k 0)
+  pub fill_tally : {k : ℕ} {e : List ℕ} → Grown (cell s t n) k e₁ e → k < m → {e' : List ℕ} → e' ≡ added e n (get_or s k 0) (get_or t k 0)
       → (x : ℕ) {r : ℕ} → r ≡ ind (appears e n (get_or s k 0) (get_or t k 0)) → x ≡ filled e n → x + r ≡ filled e' n
-  fill-tally {k} {e} h l {e'} q x w z =
+  fill_tally {k} {e} h l {e'} q x w z =
       let a = get_or s k 0 in
       let b = get_or t k 0 in
       omega (
         arith,
         w,
         z,
-        filled_more n a b (can.ends.source k l) (can.ends.target k l) e e' true (λ i. rw q (more-at e (a * n + b) a b i (within-place (fill-can can c h l).within))),
+        filled_more n a b (can.ends.source k l) (can.ends.target k l) e e' true (λ i. rw q (more-at e (a * n + b) a b i (within-place (fill_can can c h l).within))),
       )

@@ -42,31 +42,31 @@ flags-more {fixed} {list} k x v room e = record { flag_at = λ i b. go i b (ℕ_
     go i b (no q) = rw (get_or-set_other list k i x 0 q) (v.flag_at i (omega arith))
 
 module _ {a n : ℕ} {fixed area list : List ℕ} (can : CanKeep a n fixed area) (v : FlagsIn fixed (length fixed) list) where
-  list-is : part 0 a list ≡ flags (atoms a) fixed
+  list_is : part 0 a list ≡ flags (atoms a) fixed
   unfolding flags
-  list-is =
+  list_is =
       is_tab (part 0 a list) a _ (part_long 0 a list) (λ i b.
       part_at 0 a list i b ∙ ap (λ k. get_or list k 0) (zero-add i) ∙ v.flag_at i (omega (arith, can.marks)))
 
   -- copied into the area
-  pub kept-is : {l : List ℕ} → l ≡ patch (fixed_at n a) (part 0 a list) area → l ≡ flag (atoms a) fixed n area
+  pub kept_is : {l : List ℕ} → l ≡ patch (fixed_at n a) (part 0 a list) area → l ≡ flag (atoms a) fixed n area
   unfolding flag
-  kept-is e = e ∙ ap (λ (u : List ℕ). patch (fixed_at n a) u area) list-is
+  kept_is e = e ∙ ap (λ (u : List ℕ). patch (fixed_at n a) u area) list_is
 
   -- compared with the area's
-  pub keeps-is : {r : Bool} → Decides (SamePart area (fixed_at n a) list 0 a) r → r ≡ flagged (atoms a) fixed n area
+  pub keeps_is : {r : Bool} → Decides (SamePart area (fixed_at n a) list 0 a) r → r ≡ flagged (atoms a) fixed n area
   unfolding flagged
-  keeps-is d =
-      alike _ _ (λ h. one_alike _ _ (ext_get_or 0 _ _ (part_long (fixed_at n a) a area ∙ sym (ap length (sym list-is) ∙ part_long 0 a list)) (λ i b.
+  keeps_is d =
+      alike _ _ (λ h. one_alike _ _ (ext_get_or 0 _ _ (part_long (fixed_at n a) a area ∙ sym (ap length (sym list_is) ∙ part_long 0 a list)) (λ i b.
       let c : i < a = omega (arith, part_long (fixed_at n a) a area) in
-      part_at (fixed_at n a) a area i c ∙ d.right h i c ∙ sym (part_at 0 a list i c) ∙ ap (λ (u : List ℕ). get_or u i 0) list-is)))
+      part_at (fixed_at n a) a area i c ∙ d.right h i c ∙ sym (part_at 0 a list i c) ∙ ap (λ (u : List ℕ). get_or u i 0) list_is)))
       (λ h. same _ d (alike_one _ _ h))
     where
       same : (r : Bool) → Decides (SamePart area (fixed_at n a) list 0 a) r → part (fixed_at n a) a area ≡ flags (atoms a) fixed → r ≡ true
       same true d e = refl
       same false d e =
           absurd (d.wrong refl (λ i c.
-          sym (part_at (fixed_at n a) a area i c) ∙ ap (λ (u : List ℕ). get_or u i 0) (e ∙ sym list-is) ∙ part_at 0 a list i c))
+          sym (part_at (fixed_at n a) a area i c) ∙ ap (λ (u : List ℕ). get_or u i 0) (e ∙ sym list_is) ∙ part_at 0 a list i c))
 
 -- of a load, its atoms alone matter
 pub flag-atoms : (load : Load) (fixed : List ℕ) (N : ℕ) (area : List ℕ) → flag (atoms load.A) fixed N area ≡ flag load fixed N area

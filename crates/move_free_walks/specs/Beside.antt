@@ -54,8 +54,8 @@ module _ (e : ℕ → ℕ → Bool) (z : ℕ) where
       back (y, h, w) = pick y h (leaving (cut_edge e z y X h).1 w)
 
   -- reaching what leads to z, without z: a step without z before a node that reaches z
-  pub behind-by : (X : ℕ) → Behind (cut e z) (λ x. e x z) X ↔ ((y : ℕ) × (cut e z X y ≡ true) × Walk e y z)
-  behind-by X = (there, back)
+  pub behind_by : (X : ℕ) → Behind (cut e z) (λ x. e x z) X ↔ ((y : ℕ) × (cut e z X y ≡ true) × Walk e y z)
+  behind_by X = (there, back)
     where
       to : (y d : ℕ) → e d z ≡ true → Upto (cut e z) y d → Walk e y z
       to y d o (inl q) = one (subst (λ k. e k z ≡ true) (sym q) o)

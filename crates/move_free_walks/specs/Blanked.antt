@@ -54,5 +54,5 @@ module _ {s t s' t' : List ℕ} {z m : ℕ} (v : Blanks s t s' t' z m) where
           (λ w. true≢false (sym (or_right (eqb (get_or s k 0) z) _ (eq-eqb _ _ (ty ∙ w))) ∙ q))
 
   -- the blanked slots are the graph without z
-  pub blanked-cut : (x y : ℕ) → slot_edge s' t' m x y ≡ cut (slot_edge s t m) z x y
-  blanked-cut x y = alike _ _ (back x y) (there x y)
+  pub blanked_cut : (x y : ℕ) → slot_edge s' t' m x y ≡ cut (slot_edge s t m) z x y
+  blanked_cut x y = alike _ _ (back x y) (there x y)

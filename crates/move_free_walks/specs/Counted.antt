@@ -62,9 +62,9 @@ is_free out into f b k X = not (f X) && (not (b X) && eqb k (ind (meets out into
 
 module _ (h : ℕ → ℕ → Bool) (out into : ℕ → Bool) (n : ℕ) (inside : (c : ℕ) → out c ≡ true → c < n) (f b : ℕ → Bool)
     (fore : (X : ℕ) → X < n → Decides (Ahead h out X) (f X)) (aft : (X : ℕ) → X < n → Decides (Behind h into X) (b X)) where
-  pub free-decides : (X : ℕ) → X < n → Decides (Free h out into X) (is_free out into f b (count (meets out into b) n) X)
+  pub free_decides : (X : ℕ) → X < n → Decides (Free h out into X) (is_free out into f b (count (meets out into b) n) X)
   unfolding is_free
-  free-decides X l = record { right = there; wrong = λ z g. true≢false (sym (back g) ∙ z) }
+  free_decides X l = record { right = there; wrong = λ z g. true≢false (sym (back g) ∙ z) }
     where
       k : ℕ
       k = count (meets out into b) n

@@ -13,9 +13,9 @@ use Rattle.move_ledger.specs.Answer.{is_accepted}
 use Rattle.move_ledger.specs.Ledger.{stays, decide}
 use Rattle.move_ledger.specs.Nodes.{placed, Placing}
 use Rattle.move_ledger.specs.NodeLaws.{placed-length, placed_at}
-use Rattle.move_ledger.specs.Chunks.{chunk-sum}
+use Rattle.move_ledger.specs.Chunks.{chunk_sum}
 use Rattle.move_free_walks.specs.HowFree.{targets, pairs}
-use Rattle.move_free_walks.specs.Sums.{accepted-answer}
+use Rattle.move_free_walks.specs.Sums.{accepted_answer}
 use Rattle.move_free_walks.specs.NodeFree.{fine, counted}
 
 ones : (l : List ℕ) → length l ≡ sum (λ X. 1) l
@@ -44,11 +44,11 @@ module _ (load : Load) (fixed : List ℕ) {nodes sets : List ℕ} (p : Placing l
   merge false v false t x g = refl
 
   -- one atom's accepted sets
-  pub atom-accepted : (a : ℕ) → a < load.A
+  pub atom_accepted : (a : ℕ) → a < load.A
       → targets load fixed (placed nodes sets) is_accepted a ≡ cond (stays fixed a) 0 (counted load nodes a (length sets) (fine load nodes sets a))
   unfolding counted targets
-  atom-accepted a b =
-      chunk-sum p (λ X. ind (not (eqb X (at (placed nodes sets) a)) && is_accepted (decide load fixed (placed nodes sets) a (words (width load.E) X)))) (length sets) (omega arith)
+  atom_accepted a b =
+      chunk_sum p (λ X. ind (not (eqb X (at (placed nodes sets) a)) && is_accepted (decide load fixed (placed nodes sets) a (words (width load.E) X)))) (length sets) (omega arith)
       ∙ go (stays fixed a) refl
     where
       term : ℕ → Bool
@@ -60,7 +60,7 @@ module _ (load : Load) (fixed : List ℕ) {nodes sets : List ℕ} (p : Placing l
       each x l =
           ap (λ v. cond (occupied load nodes x) (ind (not v && is_accepted (decide load fixed (placed nodes sets) a (words (width load.E) (at sets x))))) 0) (own a x b l)
           ∙ merge (occupied load nodes x) (eqb x (at nodes a)) (stays fixed a) (fine load nodes sets a x) _
-          (λ e. accepted-answer load fixed (placed nodes sets) a (at sets x) long b (small x l) (λ q. true≢false (sym (eq-eqb _ _ q) ∙ own a x b l ∙ e)))
+          (λ e. accepted_answer load fixed (placed nodes sets) a (at sets x) long b (small x l) (λ q. true≢false (sym (eq-eqb _ _ q) ∙ own a x b l ∙ e)))
 
       go : (t : Bool) → stays fixed a ≡ t
           → total (λ x. cond (occupied load nodes x) (ind (not (eqb (at sets x) (at (placed nodes sets) a)) && is_accepted (decide load fixed (placed nodes sets) a (words (width load.E) (at sets x))))) 0) (length sets)
@@ -71,14 +71,14 @@ module _ (load : Load) (fixed : List ℕ) {nodes sets : List ℕ} (p : Placing l
           ∙ sym (count-total (λ x. occupied load nodes x && (not (eqb x (at nodes a)) && fine load nodes sets a x)) (length sets))
 
   -- all atoms'
-  pub pairs-accepted : pairs load fixed (placed nodes sets) is_accepted ≡ total (λ a. cond (stays fixed a) 0 (counted load nodes a (length sets) (fine load nodes sets a))) load.A
+  pub pairs_accepted : pairs load fixed (placed nodes sets) is_accepted ≡ total (λ a. cond (stays fixed a) 0 (counted load nodes a (length sets) (fine load nodes sets a))) load.A
   unfolding pairs
-  pairs-accepted = total-same _ _ load.A (λ a b. atom-accepted a b)
+  pairs_accepted = total-same _ _ load.A (λ a b. atom_accepted a b)
 
   -- the chunks are the nodes with an atom
   pub chunk_count : length (rising (placed nodes sets)) ≡ count (λ x. occupied load nodes x) (length sets)
   chunk_count =
-      ones (rising (placed nodes sets)) ∙ chunk-sum p (λ X. 1) (length sets) (omega arith)
+      ones (rising (placed nodes sets)) ∙ chunk_sum p (λ X. 1) (length sets) (omega arith)
       ∙ total-same _ _ (length sets) (λ x l. flag (occupied load nodes x)) ∙ sym (count-total (λ x. occupied load nodes x) (length sets))
     where
       flag : (t : Bool) → cond t 1 0 ≡ ind t

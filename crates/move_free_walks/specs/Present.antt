@@ -4,10 +4,10 @@ use Rattle.std.specs.Prelude.{ℕ, ◌≡◌, refl, ◌↔◌, Bool, true, false
 use Rattle.std.proofs.Math.Decide.{ℕ_discrete}
 use Rattle.std.proofs.Common.{sym, subst, inl, inr, ⊎_elim}
 use Rattle.graphs.specs.Walk.{Walk, one, more, cyclic}
-use Rattle.graphs.specs.Walks.{join, avoid, acyclic-walk}
+use Rattle.graphs.specs.Walks.{join, avoid, acyclic_walk}
 use Rattle.move_ledger.specs.Graph.{Load, at, edge}
 use Rattle.move_ledger.specs.GraphLaws.{edge-source}
-use Rattle.move_free_walks.specs.Joins.{old, leaves, enters, why-joined, Upto, Ahead, Behind, Fore, Aft, lift}
+use Rattle.move_free_walks.specs.Joins.{old, leaves, enters, why_joined, Upto, Ahead, Behind, Fore, Aft, lift}
 use Rattle.move_free_walks.specs.Alone.{Alone, joined-edge}
 use Rattle.move_free_walks.specs.Free.{without, outs, ins, back_now, kept}
 
@@ -38,20 +38,20 @@ lift_upto f (inr w) = inr (lift f w)
 
 module _ (load : Load) (p : List ℕ) (a Z : ℕ) (n : length p ≡ load.A) (v : Alone load (set p a Z) a Z) (free : cyclic (edge load p) p ≡ false) where
   none : (x : ℕ) → Walk (edge load p) x x → ⊥
-  none = (acyclic-walk (edge load p) p (edge-source load p n)).0 free
+  none = (acyclic_walk (edge load p) p (edge-source load p n)).0 free
 
   up : (x y : ℕ) → without load p a Z x y ≡ true → edge load p x y ≡ true
-  up x y t = joined-edge load v (back_now p a Z) x y (why-joined (without load p a Z) (outs load p a Z) (ins load p a Z) (at p a) x y (old t))
+  up x y t = joined-edge load v (back_now p a Z) x y (why_joined (without load p a Z) (outs load p a Z) (ins load p a Z) (at p a) x y (old t))
 
   leads : (c : ℕ) → outs load p a Z c ≡ true → (c ≡ at p a → ⊥) → edge load p (at p a) c ≡ true
-  leads c o d = joined-edge load v (back_now p a Z) (at p a) c (why-joined (without load p a Z) (outs load p a Z) (ins load p a Z) (at p a) (at p a) c (leaves refl d o))
+  leads c o d = joined-edge load v (back_now p a Z) (at p a) c (why_joined (without load p a Z) (outs load p a Z) (ins load p a Z) (at p a) (at p a) c (leaves refl d o))
 
   led : (c : ℕ) → ins load p a Z c ≡ true → (c ≡ at p a → ⊥) → edge load p c (at p a) ≡ true
-  led c o d = joined-edge load v (back_now p a Z) c (at p a) (why-joined (without load p a Z) (outs load p a Z) (ins load p a Z) (at p a) c (at p a) (enters refl d o))
+  led c o d = joined-edge load v (back_now p a Z) c (at p a) (why_joined (without load p a Z) (outs load p a Z) (ins load p a Z) (at p a) c (at p a) (enters refl d o))
 
   module _ (X : ℕ) (d : X ≡ at p a → ⊥) where
-    pub ahead-present : Ahead (without load p a Z) (outs load p a Z) X ↔ Fore (edge load p) (without load p a Z) (outs load p a Z) X
-    ahead-present = (there, back)
+    pub ahead_present : Ahead (without load p a Z) (outs load p a Z) X ↔ Fore (edge load p) (without load p a Z) (outs load p a Z) X
+    ahead_present = (there, back)
       where
         there : Ahead (without load p a Z) (outs load p a Z) X → Fore (edge load p) (without load p a Z) (outs load p a Z) X
         there (c, o, w) = let r = first_step w in (c, r.0, o, r.1, lift_upto up r.2)
@@ -70,8 +70,8 @@ module _ (load : Load) (p : List ℕ) (a Z : ℕ) (n : length p ≡ load.A) (v :
         back : Fore (edge load p) (without load p a Z) (outs load p a Z) X → Ahead (without load p a Z) (outs load p a Z) X
         back (c, y, o, h, u) = (c, o, go c y o h u)
 
-    pub behind-present : Behind (without load p a Z) (ins load p a Z) X ↔ Aft (edge load p) (without load p a Z) (ins load p a Z) X
-    behind-present = (there, back)
+    pub behind_present : Behind (without load p a Z) (ins load p a Z) X ↔ Aft (edge load p) (without load p a Z) (ins load p a Z) X
+    behind_present = (there, back)
       where
         there : Behind (without load p a Z) (ins load p a Z) X → Aft (edge load p) (without load p a Z) (ins load p a Z) X
         there (c, o, w) = let r = last_step w in (c, r.0, o, r.1, lift_upto up r.2)

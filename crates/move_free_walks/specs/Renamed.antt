@@ -2,7 +2,7 @@
 use Rattle.std.specs.Prelude.{ℕ, ◌<◌, ◌≡◌, ◌⊎◌, ◌↔◌, Bool, true}
 use Rattle.std.proofs.Common.{sym, ap, subst, ◌∙◌, inl, inr}
 use Rattle.graphs.specs.Walk.{Walk, one, more}
-use Rattle.graphs.specs.Relabel.{Named, walks-named}
+use Rattle.graphs.specs.Relabel.{Named, walks_named}
 use Rattle.move_free_walks.specs.Joins.{cut, cut_edge, edge-cut, Upto, Ahead, Behind, Fore, Aft, Free, Acyclic}
 
 first_edge : {e : ℕ → ℕ → Bool} {x y : ℕ} → Walk e x y → (z : ℕ) × (e x z ≡ true)
@@ -40,41 +40,41 @@ module _ {e e' : ℕ → ℕ → Bool} {m : ℕ} {f : ℕ → ℕ} (v : Named e 
     ahead-named = (there, back)
       where
         there : Ahead (cut e z) (e z) X → Ahead (cut e' (f z)) (e' (f z)) (f X)
-        there (k, o, w) = (f k, v.over z k o, (walks-named cut-named k X (target z k o) c).0 w)
+        there (k, o, w) = (f k, v.over z k o, (walks_named cut-named k X (target z k o) c).0 w)
 
         back : Ahead (cut e' (f z)) (e' (f z)) (f X) → Ahead (cut e z) (e z) X
         back (K, o, w) =
             let r = name_out K o in
-            (r.0, r.3, (walks-named cut-named r.0 X r.1 c).1 (subst (λ k. Walk (cut e' (f z)) k (f X)) (sym r.2) w))
+            (r.0, r.3, (walks_named cut-named r.0 X r.1 c).1 (subst (λ k. Walk (cut e' (f z)) k (f X)) (sym r.2) w))
 
-    pub behind-named : Behind (cut e z) (λ x. e x z) X ↔ Behind (cut e' (f z)) (λ x. e' x (f z)) (f X)
-    behind-named = (there, back)
+    pub behind_named : Behind (cut e z) (λ x. e x z) X ↔ Behind (cut e' (f z)) (λ x. e' x (f z)) (f X)
+    behind_named = (there, back)
       where
         there : Behind (cut e z) (λ x. e x z) X → Behind (cut e' (f z)) (λ x. e' x (f z)) (f X)
-        there (k, o, w) = (f k, v.over k z o, (walks-named cut-named X k c (v.source k z o)).0 w)
+        there (k, o, w) = (f k, v.over k z o, (walks_named cut-named X k c (v.source k z o)).0 w)
 
         back : Behind (cut e' (f z)) (λ x. e' x (f z)) (f X) → Behind (cut e z) (λ x. e x z) X
         back (K, o, w) =
             let r = name_in K o in
-            (r.0, r.3, (walks-named cut-named X r.0 c r.1).1 (subst (λ k. Walk (cut e' (f z)) (f X) k) (sym r.2) w))
+            (r.0, r.3, (walks_named cut-named X r.0 c r.1).1 (subst (λ k. Walk (cut e' (f z)) (f X) k) (sym r.2) w))
 
     pub out-named : (e z X ≡ true) ↔ (e' (f z) (f X) ≡ true)
     out-named = (λ h. v.over z X h, λ h. let r = name_out (f X) h in subst (λ k. e z k ≡ true) (v.injective r.0 X r.1 c r.2) r.3)
 
-    pub in-named : (e X z ≡ true) ↔ (e' (f X) (f z) ≡ true)
-    in-named = (λ h. v.over X z h, λ h. let r = name_in (f X) h in subst (λ k. e k z ≡ true) (v.injective r.0 X r.1 c r.2) r.3)
+    pub in_named : (e X z ≡ true) ↔ (e' (f X) (f z) ≡ true)
+    in_named = (λ h. v.over X z h, λ h. let r = name_in (f X) h in subst (λ k. e k z ≡ true) (v.injective r.0 X r.1 c r.2) r.3)
 
-  pub acyclic-named : Acyclic (cut e z) ↔ Acyclic (cut e' (f z))
-  acyclic-named = (there, back)
+  pub acyclic_named : Acyclic (cut e z) ↔ Acyclic (cut e' (f z))
+  acyclic_named = (there, back)
     where
       there : Acyclic (cut e z) → Acyclic (cut e' (f z))
       there g K w =
           let s = first_edge w in
           let r = cut-named.named K s.0 s.1 in
-          g r.0 ((walks-named cut-named r.0 r.0 r.1 r.1).1 (subst (λ k. Walk (cut e' (f z)) k k) (sym r.2) w))
+          g r.0 ((walks_named cut-named r.0 r.0 r.1 r.1).1 (subst (λ k. Walk (cut e' (f z)) k k) (sym r.2) w))
 
       back : Acyclic (cut e' (f z)) → Acyclic (cut e z)
-      back g k w = let s = first_edge w in let l = cut-named.source k s.0 s.1 in g (f k) ((walks-named cut-named k k l l).0 w)
+      back g k w = let s = first_edge w in let l = cut-named.source k s.0 s.1 in g (f k) ((walks_named cut-named k k l l).0 w)
 
   pub free-named : (X : ℕ) → X < m → Free (cut e z) (e z) (λ x. e x z) X ↔ Free (cut e' (f z)) (e' (f z)) (λ x. e' x (f z)) (f X)
   free-named X c = (there, back)
@@ -82,7 +82,7 @@ module _ {e e' : ℕ → ℕ → Bool} {m : ℕ} {f : ℕ → ℕ} (v : Named e 
       there : Free (cut e z) (e z) (λ x. e x z) X → Free (cut e' (f z)) (e' (f z)) (λ x. e' x (f z)) (f X)
       there g = record {
         not_ahead = λ a. g.not_ahead ((ahead-named X c).1 a);
-        not_behind = λ a. g.not_behind ((behind-named X c).1 a);
+        not_behind = λ a. g.not_behind ((behind_named X c).1 a);
         only_here = λ K o r. let s = name_out K o in sym s.2 ∙ ap f (g.only_here s.0 s.3 (turn s.0 s.1 (pull K s.0 s.2 r)));
       }
         where
@@ -90,50 +90,50 @@ module _ {e e' : ℕ → ℕ → Bool} {m : ℕ} {f : ℕ → ℕ} (v : Named e 
           pull K k q r = subst (λ j. (e' j (f z) ≡ true) ⊎ Behind (cut e' (f z)) (λ x. e' x (f z)) j) (sym q) r
 
           turn : (k : ℕ) → k < m → (e' (f k) (f z) ≡ true) ⊎ Behind (cut e' (f z)) (λ x. e' x (f z)) (f k) → (e k z ≡ true) ⊎ Behind (cut e z) (λ x. e x z) k
-          turn k l (inl h) = inl ((in-named k l).1 h)
-          turn k l (inr h) = inr ((behind-named k l).1 h)
+          turn k l (inl h) = inl ((in_named k l).1 h)
+          turn k l (inr h) = inr ((behind_named k l).1 h)
 
       back : Free (cut e' (f z)) (e' (f z)) (λ x. e' x (f z)) (f X) → Free (cut e z) (e z) (λ x. e x z) X
       back g = record {
         not_ahead = λ a. g.not_ahead ((ahead-named X c).0 a);
-        not_behind = λ a. g.not_behind ((behind-named X c).0 a);
+        not_behind = λ a. g.not_behind ((behind_named X c).0 a);
         only_here = λ k o r. v.injective k X (target z k o) c (g.only_here (f k) (v.over z k o) (turn k (target z k o) r));
       }
         where
           turn : (k : ℕ) → k < m → (e k z ≡ true) ⊎ Behind (cut e z) (λ x. e x z) k → (e' (f k) (f z) ≡ true) ⊎ Behind (cut e' (f z)) (λ x. e' x (f z)) (f k)
-          turn k l (inl h) = inl ((in-named k l).0 h)
-          turn k l (inr h) = inr ((behind-named k l).0 h)
+          turn k l (inl h) = inl ((in_named k l).0 h)
+          turn k l (inr h) = inr ((behind_named k l).0 h)
 
   -- with the later steps along another graph of the same names
   module _ {g g' : ℕ → ℕ → Bool} (r : Named g g' m f) (X : ℕ) (c : X < m) where
-    upto-there : (x y : ℕ) → x < m → y < m → Upto g x y → Upto g' (f x) (f y)
-    upto-there x y l k (inl q) = inl (ap f q)
-    upto-there x y l k (inr w) = inr ((walks-named r x y l k).0 w)
+    upto_there : (x y : ℕ) → x < m → y < m → Upto g x y → Upto g' (f x) (f y)
+    upto_there x y l k (inl q) = inl (ap f q)
+    upto_there x y l k (inr w) = inr ((walks_named r x y l k).0 w)
 
-    upto-back : (x y : ℕ) → x < m → y < m → Upto g' (f x) (f y) → Upto g x y
-    upto-back x y l k (inl q) = inl (v.injective x y l k q)
-    upto-back x y l k (inr w) = inr ((walks-named r x y l k).1 w)
+    upto_back : (x y : ℕ) → x < m → y < m → Upto g' (f x) (f y) → Upto g x y
+    upto_back x y l k (inl q) = inl (v.injective x y l k q)
+    upto_back x y l k (inr w) = inr ((walks_named r x y l k).1 w)
 
-    pub fore-named : Fore g (cut e z) (e z) X ↔ Fore g' (cut e' (f z)) (e' (f z)) (f X)
-    fore-named = (there, back)
+    pub fore_named : Fore g (cut e z) (e z) X ↔ Fore g' (cut e' (f z)) (e' (f z)) (f X)
+    fore_named = (there, back)
       where
         there : Fore g (cut e z) (e z) X → Fore g' (cut e' (f z)) (e' (f z)) (f X)
-        there (k, y, o, h, u) = (f k, f y, v.over z k o, cut-named.over k y h, upto-there y X (target k y (cut_edge e z k y h).0) c u)
+        there (k, y, o, h, u) = (f k, f y, v.over z k o, cut-named.over k y h, upto_there y X (target k y (cut_edge e z k y h).0) c u)
 
         back : Fore g' (cut e' (f z)) (e' (f z)) (f X) → Fore g (cut e z) (e z) X
         back (K, Y, o, h, u) =
             let s = name_out K o in
             let t = cut-named.back s.0 Y s.1 (subst (λ j. cut e' (f z) j Y ≡ true) (sym s.2) h) in
-            (s.0, t.0, s.3, t.3, upto-back t.0 X t.1 c (subst (λ j. Upto g' j (f X)) (sym t.2) u))
+            (s.0, t.0, s.3, t.3, upto_back t.0 X t.1 c (subst (λ j. Upto g' j (f X)) (sym t.2) u))
 
-    pub aft-named : Aft g (cut e z) (λ x. e x z) X ↔ Aft g' (cut e' (f z)) (λ x. e' x (f z)) (f X)
-    aft-named = (there, back)
+    pub aft_named : Aft g (cut e z) (λ x. e x z) X ↔ Aft g' (cut e' (f z)) (λ x. e' x (f z)) (f X)
+    aft_named = (there, back)
       where
         there : Aft g (cut e z) (λ x. e x z) X → Aft g' (cut e' (f z)) (λ x. e' x (f z)) (f X)
-        there (k, y, o, h, u) = (f k, f y, v.over k z o, cut-named.over y k h, upto-there X y c (cut-named.source y k h) u)
+        there (k, y, o, h, u) = (f k, f y, v.over k z o, cut-named.over y k h, upto_there X y c (cut-named.source y k h) u)
 
         back : Aft g' (cut e' (f z)) (λ x. e' x (f z)) (f X) → Aft g (cut e z) (λ x. e x z) X
         back (K, Y, o, h, u) =
             let s = cut-named.named Y K h in
             let t = cut-named.back s.0 K s.1 (subst (λ j. cut e' (f z) j K ≡ true) (sym s.2) h) in
-            (t.0, s.0, (in-named t.0 t.1).1 (subst (λ j. e' j (f z) ≡ true) (sym t.2) o), t.3, upto-back X s.0 c s.1 (subst (λ j. Upto g' (f X) j) (sym s.2) u))
+            (t.0, s.0, (in_named t.0 t.1).1 (subst (λ j. e' j (f z) ≡ true) (sym t.2) o), t.3, upto_back X s.0 c s.1 (subst (λ j. Upto g' (f X) j) (sym s.2) u))

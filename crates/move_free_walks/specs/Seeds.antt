@@ -22,9 +22,9 @@ unfoldable pub seeded : (ℕ → ℕ → Bool) → ℕ → (ℕ → Bool) → �
 seeded e n seed X = some_below (λ y. seed y && (eqb y X || via e (below n) y X)) n
 
 module _ (e : ℕ → ℕ → Bool) (n : ℕ) (from : (x y : ℕ) → e x y ≡ true → x < n) (seed : ℕ → Bool) (low : (y : ℕ) → seed y ≡ true → y < n) where
-  pub seeded-is : (X : ℕ) → (seeded e n seed X ≡ true) ↔ ((y : ℕ) × (seed y ≡ true) × Upto e y X)
+  pub seeded_is : (X : ℕ) → (seeded e n seed X ≡ true) ↔ ((y : ℕ) × (seed y ≡ true) × Upto e y X)
   unfolding seeded
-  seeded-is X = (there, back)
+  seeded_is X = (there, back)
     where
       there : some_below (λ y. seed y && (eqb y X || via e (below n) y X)) n ≡ true → (y : ℕ) × (seed y ≡ true) × Upto e y X
       there h =
@@ -43,8 +43,8 @@ module _ (e : ℕ → ℕ → Bool) (n : ℕ) (from : (x y : ℕ) → e x y ≡ 
   step y x z (inr w) h = join w (one h)
 
   -- what the walk may mark, it may mark the neighbours of
-  pub seeded-on : HandsOn e (λ x. false) (seeded e n seed)
-  seeded-on x y r h q = let w = (seeded-is x).0 r in (seeded-is y).1 (w.0, w.1, inr (step w.0 x y w.2 h))
+  pub seeded_on : HandsOn e (λ x. false) (seeded e n seed)
+  seeded_on x y r h q = let w = (seeded_is x).0 r in (seeded_is y).1 (w.0, w.1, inr (step w.0 x y w.2 h))
 
   -- at the end, with nothing on the stack, it has marked just these
   module _ {d : ℕ → ℕ} {f : ℕ → ℕ → ℕ} {h : ℕ → ℕ → Bool} {c s : ℕ → ℕ} (offers : Offers e n d f h) (to : (x y : ℕ) → e x y ≡ true → y < n)
@@ -59,7 +59,7 @@ module _ (e : ℕ → ℕ → Bool) (n : ℕ) (from : (x y : ℕ) → e x y ≡ 
     along m (more q w) = along (on _ _ m q) w
 
     pub marks-seeded : (X : ℕ) → X < n → (c X ≡ 1) ↔ ((y : ℕ) × (seed y ≡ true) × Upto e y X)
-    marks-seeded X l = (λ m. (seeded-is X).0 (v.from X l m refl), back)
+    marks-seeded X l = (λ m. (seeded_is X).0 (v.from X l m refl), back)
       where
         back : (y : ℕ) × (seed y ≡ true) × Upto e y X → c X ≡ 1
         back (y, s, inl q) = subst (λ z. c z ≡ 1) q (start y s)

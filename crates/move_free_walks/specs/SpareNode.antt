@@ -12,7 +12,7 @@ use Rattle.move_ledger.specs.Graph.{Load, at, occupied, edge}
 use Rattle.move_ledger.specs.GraphLaws.{occupied-by}
 use Rattle.move_ledger.specs.Ledger.{put}
 use Rattle.move_ledger.specs.Nodes.{Placing, node_edge}
-use Rattle.move_ledger.specs.Places.{put-behind, put_other}
+use Rattle.move_ledger.specs.Places.{put_behind, put_other}
 use Rattle.move_ledger.specs.NodePlaces.{placed-put, sources-put, targets-put}
 use Rattle.move_free_walks.specs.NodeFree.{counted, fine}
 
@@ -21,7 +21,7 @@ module _ {load : Load} {nodes sets : List ℕ} (p : Placing load nodes sets) (Z 
   more = put (length sets) Z sets
 
   longer : length more ≡ length sets + 1
-  longer = put-behind (length sets) Z sets (omega arith) refl
+  longer = put_behind (length sets) Z sets (omega arith) refl
 
   same_set : (x : ℕ) → x < length sets → at more x ≡ at sets x
   same_set x l = (put_other (length sets) Z sets (omega arith) x (omega (arith, longer)) (λ e. omega arith)).1
@@ -31,9 +31,9 @@ module _ {load : Load} {nodes sets : List ℕ} (p : Placing load nodes sets) (Z 
   bare = fails _ (λ h. let r = occupied-by load nodes (length sets) h in omega (arith, r.2, p.inside r.0 r.1))
 
   -- the plain trials count the same
-  pub counted-spare : (a : ℕ) → counted load nodes a (length (put (length sets) Z sets)) (fine load nodes (put (length sets) Z sets) a) ≡ counted load nodes a (length sets) (fine load nodes sets a)
+  pub counted_spare : (a : ℕ) → counted load nodes a (length (put (length sets) Z sets)) (fine load nodes (put (length sets) Z sets) a) ≡ counted load nodes a (length sets) (fine load nodes sets a)
   unfolding counted
-  counted-spare a =
+  counted_spare a =
       ap (count term) longer ∙ count-more term (length sets)
       ∙ ap (λ t. count term (length sets) + ind (t && (not (eqb (length sets) (at nodes a)) && fine load nodes more a (length sets)))) bare
       ∙ native.Mathlib.Nat.add-zero (count term (length sets))
@@ -46,5 +46,5 @@ module _ {load : Load} {nodes sets : List ℕ} (p : Placing load nodes sets) (Z 
       each X l = ap₂ (λ q Y. not (cyclic (edge load (set q a Y)) (set q a Y))) (placed-put p (length sets) Z (omega arith) bare) (same_set X l)
 
   -- the present edges are the same
-  pub spare-edges : (x y : ℕ) → node_edge load nodes (put (length sets) Z sets) x y ≡ node_edge load nodes sets x y
-  spare-edges x y = ap₂ (λ s t. slot_edge s t (load.D + load.E) x y) (sources-put p (length sets) Z (omega arith) bare) (targets-put p (length sets) Z (omega arith) bare)
+  pub spare_edges : (x y : ℕ) → node_edge load nodes (put (length sets) Z sets) x y ≡ node_edge load nodes sets x y
+  spare_edges x y = ap₂ (λ s t. slot_edge s t (load.D + load.E) x y) (sources-put p (length sets) Z (omega arith) bare) (targets-put p (length sets) Z (omega arith) bare)

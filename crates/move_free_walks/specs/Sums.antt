@@ -19,7 +19,7 @@ use Rattle.move_ledger.specs.GraphLaws.{outside-stays}
 use Rattle.move_ledger.specs.Listing.{Rising, none, next, rising-rising, has-rising}
 use Rattle.move_ledger.specs.Answer.{Report, Answer, refused, accepted, rejected, is_refused, is_accepted}
 use Rattle.move_ledger.specs.Ledger.{step1, stays, report, decide}
-use Rattle.move_ledger.specs.MoveLaws.{choose, decide-chooses}
+use Rattle.move_ledger.specs.MoveLaws.{choose, decide_chooses}
 use Rattle.move_ledger.specs.Evict.{total_add}
 use Rattle.move_free_walks.specs.HowFree.{is_rejected, is_fixed, targets, pairs}
 
@@ -49,7 +49,7 @@ module _ (load : Load) (fixed place : List ℕ) (a X : ℕ) (n : length place �
   unfolding choose
   chosen f =
       ap f
-      (decide-chooses load fixed place a (words (width load.E) X)
+      (decide_chooses load fixed place a (words (width load.E) X)
       ∙ rw (fails (leb load.A a) (λ h. omega (arith, leb-true load.A a h)), words-legal load.E X small, ne_eqb (value (words (width load.E) X)) (at place a) (λ e. d (sym v ∙ e))) refl)
 
   pub fixed_answer : is_fixed (decide load fixed place a (words (width load.E) X)) ≡ stays fixed a
@@ -60,8 +60,8 @@ module _ (load : Load) (fixed place : List ℕ) (a X : ℕ) (n : length place �
       go false true = refl
       go false false = refl
 
-  pub refused-answer : is_refused (decide load fixed place a (words (width load.E) X)) ≡ is_fixed (decide load fixed place a (words (width load.E) X))
-  refused-answer = chosen is_refused ∙ go (stays fixed a) (step1 load place a || cyclic (edge load moved) moved) ∙ sym (chosen is_fixed)
+  pub refused_answer : is_refused (decide load fixed place a (words (width load.E) X)) ≡ is_fixed (decide load fixed place a (words (width load.E) X))
+  refused_answer = chosen is_refused ∙ go (stays fixed a) (step1 load place a || cyclic (edge load moved) moved) ∙ sym (chosen is_fixed)
     where
       go : (f t : Bool) → is_refused (cond f (refused 24) (cond t rejected (accepted reports))) ≡ is_fixed (cond f (refused 24) (cond t rejected (accepted reports)))
       go true t = refl
@@ -81,8 +81,8 @@ module _ (load : Load) (fixed place : List ℕ) (a X : ℕ) (n : length place �
       go false false = refl
 
   -- accepted where the atom isn't fixed and the moved graph has no cycle: step 1 rejects nothing that step 3 wouldn't
-  pub accepted-answer : is_accepted (decide load fixed place a (words (width load.E) X)) ≡ (not (stays fixed a) && not (cyclic (edge load (set place a X)) (set place a X)))
-  accepted-answer =
+  pub accepted_answer : is_accepted (decide load fixed place a (words (width load.E) X)) ≡ (not (stays fixed a) && not (cyclic (edge load (set place a X)) (set place a X)))
+  accepted_answer =
       chosen is_accepted ∙ go (stays fixed a) (step1 load place a) (cyclic (edge load moved) moved) stay
       ∙ ap (λ Y. not (stays fixed a) && not (cyclic (edge load (set place a Y)) (set place a Y))) v
     where
@@ -144,9 +144,9 @@ module _ (load : Load) (fixed place : List ℕ) (n : length place ≡ load.A) (s
     guard false f g h = ap ind (h refl)
 
     -- each of the atom's sets counts as one of the three
-    pub atom-sum : targets load fixed place is_accepted a + targets load fixed place is_rejected a + targets load fixed place is_fixed a ≡ length (rising place) - 1
+    pub atom_sum : targets load fixed place is_accepted a + targets load fixed place is_rejected a + targets load fixed place is_fixed a ≡ length (rising place) - 1
     unfolding targets
-    atom-sum = omega (
+    atom_sum = omega (
       arith,
       others,
       sum_add (λ X. term is_accepted X) (λ X. term is_rejected X) (rising place),
@@ -163,9 +163,9 @@ module _ (load : Load) (fixed place : List ℕ) (n : length place ≡ load.A) (s
         three X h false e = one_answer load fixed place a X n b (in_range X h) (eqb-false _ _ e)
 
     -- of a fixed atom as fixed, of another none
-    pub atom-fixed : targets load fixed place is_fixed a ≡ cond (stays fixed a) (length (rising place) - 1) 0
+    pub atom_fixed : targets load fixed place is_fixed a ≡ cond (stays fixed a) (length (rising place) - 1) 0
     unfolding targets
-    atom-fixed = sum_same _ (λ X. ind (not (eqb X (at place a)) && stays fixed a)) (rising place) (λ X h. guard (eqb X (at place a)) _ _ (λ e. fixed_answer load fixed place a X n b (in_range X h) (eqb-false _ _ e))) ∙ go (stays fixed a)
+    atom_fixed = sum_same _ (λ X. ind (not (eqb X (at place a)) && stays fixed a)) (rising place) (λ X h. guard (eqb X (at place a)) _ _ (λ e. fixed_answer load fixed place a X n b (in_range X h) (eqb-false _ _ e))) ∙ go (stays fixed a)
       where
         drop : (t : Bool) → (t && false) ≡ false
         drop true = refl
@@ -180,14 +180,14 @@ module _ (load : Load) (fixed place : List ℕ) (n : length place ≡ load.A) (s
         go false = sum_same _ (λ X. 0) (rising place) (λ X h. ap ind (drop (not (eqb X (at place a))))) ∙ noughts (rising place)
 
     -- a refused pair is one of a fixed atom
-    atom-24 : targets load fixed place is_fixed a ≡ targets load fixed place is_refused a
+    atom_24 : targets load fixed place is_fixed a ≡ targets load fixed place is_refused a
     unfolding targets
-    atom-24 = sum_same _ _ (rising place) (λ X h. guard (eqb X (at place a)) _ _ (λ e. sym (refused-answer load fixed place a X n b (in_range X h) (eqb-false _ _ e))))
+    atom_24 = sum_same _ _ (rising place) (λ X h. guard (eqb X (at place a)) _ _ (λ e. sym (refused_answer load fixed place a X n b (in_range X h) (eqb-false _ _ e))))
 
-  total-times : (f : ℕ → ℕ) (k n : ℕ) → ((i : ℕ) → i < n → f i ≡ k) → total f n ≡ n * k
+  total_times : (f : ℕ → ℕ) (k n : ℕ) → ((i : ℕ) → i < n → f i ≡ k) → total f n ≡ n * k
   unfolding total
-  total-times f k zero h = rw (native.Mathlib.Nat.zero-mul) refl
-  total-times f k (suc n) h = rw (native.Mathlib.Nat.suc-mul) (omega (arith, total-times f k n (λ i b. h i (omega arith)), h n (omega arith)))
+  total_times f k zero h = rw (native.Mathlib.Nat.zero-mul) refl
+  total_times f k (suc n) h = rw (native.Mathlib.Nat.suc-mul) (omega (arith, total_times f k n (λ i b. h i (omega arith)), h n (omega arith)))
 
   -- "The three counts add up to atoms × (occupied sets - 1), or 0 without atoms"
   pub free-sum : pairs load fixed place is_accepted + pairs load fixed place is_rejected + pairs load fixed place is_fixed ≡ load.A * (length (rising place) - 1)
@@ -196,15 +196,15 @@ module _ (load : Load) (fixed place : List ℕ) (n : length place ≡ load.A) (s
     arith,
     total_add (targets load fixed place is_accepted) (targets load fixed place is_rejected) load.A,
     total_add (λ a. targets load fixed place is_accepted a + targets load fixed place is_rejected a) (targets load fixed place is_fixed) load.A,
-    total-times (λ a. targets load fixed place is_accepted a + targets load fixed place is_rejected a + targets load fixed place is_fixed a) (length (rising place) - 1) load.A (λ a b. atom-sum a b),
+    total_times (λ a. targets load fixed place is_accepted a + targets load fixed place is_rejected a + targets load fixed place is_fixed a) (length (rising place) - 1) load.A (λ a b. atom_sum a b),
   )
 
   -- a pair that isn't accepted or rejected is refused by row 24 and no other
-  pub pairs-24 : pairs load fixed place is_refused ≡ pairs load fixed place is_fixed
+  pub pairs_24 : pairs load fixed place is_refused ≡ pairs load fixed place is_fixed
   unfolding pairs
-  pairs-24 = total-same _ _ load.A (λ a b. sym (atom-24 a b))
+  pairs_24 = total-same _ _ load.A (λ a b. sym (atom_24 a b))
 
   -- and it is one of a fixed atom
-  pub pairs-fixed : pairs load fixed place is_fixed ≡ total (λ a. cond (stays fixed a) (length (rising place) - 1) 0) load.A
+  pub pairs_fixed : pairs load fixed place is_fixed ≡ total (λ a. cond (stays fixed a) (length (rising place) - 1) 0) load.A
   unfolding pairs
-  pairs-fixed = total-same _ _ load.A (λ a b. atom-fixed a b)
+  pairs_fixed = total-same _ _ load.A (λ a b. atom_fixed a b)

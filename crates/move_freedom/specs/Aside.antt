@@ -49,8 +49,8 @@ pub record CanFill (load : Load) (n : ℕ) (nodes area : List ℕ) (registered :
   pub targets_long : load.D + load.E ≤ length targets
 
 module _ {load : Load} {n : ℕ} {nodes area : List ℕ} {registered : ℕ} {sources targets : List ℕ} (can : CanFill load n nodes area registered sources targets) where
-  pub fill-tally : slots.CanTally (replicate 1025 0) (registered + 1) nodes load.A
-  fill-tally = record {
+  pub fill_tally : slots.CanTally (replicate 1025 0) (registered + 1) nodes load.A
+  fill_tally = record {
     room = omega (arith, can.few, can.loadable.sizes.sets);
     long = can.atoms;
     few = omega (arith, can.loadable.sizes.atoms);
@@ -58,19 +58,19 @@ module _ {load : Load} {n : ℕ} {nodes area : List ℕ} {registered : ℕ} {sou
   }
 
   module _ {counts : List ℕ} (t : counts ≡ patch 0 (tab (atoms nodes load.A) (registered + 1)) (replicate 1025 0)) where
-    in-lanes : InLanes load nodes (sets_in n area) area (n * n + 24) n registered counts
-    in-lanes = record {
+    in_lanes : InLanes load nodes (sets_in n area) area (n * n + 24) n registered counts
+    in_lanes = record {
       many = can.many ∙ sym (sets-length n area);
       set_at = λ x b. ap (λ (i : ℕ). lanes area i n) (omega arith) ∙ sym (sets-at n area x (omega (arith, sets-length n area)));
       count_at = λ x b. tally_members load nodes (registered + 1) (replicate 1025 0) (omega (arith, can.few, can.loadable.sizes.sets)) t x (omega (arith, can.many, sets-length n area));
     }
 
     module _ {facade : List ℕ} (f : facade ≡ patch 0 (fronts_in area (n * n + 24) n registered counts load.E) (replicate 256 0)) where
-      fronts-are : Fronts load nodes (sets_in n area) facade
-      fronts-are = facades_fronts (replicate 256 0) in-lanes (omega (arith, can.loadable.sizes.bits)) f
+      fronts_are : Fronts load nodes (sets_in n area) facade
+      fronts_are = facades_fronts (replicate 256 0) in_lanes (omega (arith, can.loadable.sizes.bits)) f
 
-      pub fill-slots-can : slots.CanSlots load nodes facade sources targets
-      fill-slots-can = record {
+      pub fill_slots_can : slots.CanSlots load nodes facade sources targets
+      fill_slots_can = record {
         order = can.loadable.order;
         starts_long = omega (arith, can.loadable.sizes.starts);
         dependencies_long = omega (arith, can.loadable.sizes.dependencies);
@@ -83,7 +83,7 @@ module _ {load : Load} {n : ℕ} {nodes area : List ℕ} {registered : ℕ} {sou
 
       pub fill_done : {sources' targets' : List ℕ} → sources' ≡ patch 0 (sources_by load nodes facade) sources → targets' ≡ patch 0 (targets_by load nodes facade) targets
           → Slotted load nodes (sets_in n area) sources' targets'
-      fill_done p q = slots_written sources targets fronts-are can.sources_long can.targets_long p q
+      fill_done p q = slots_written sources targets fronts_are can.sources_long can.targets_long p q
 
 pub record CanSetAside (load : Load) (n : ℕ) (area : List ℕ) (atom : ℕ) (sources targets : List ℕ) : Type 0 where
   pub loadable : Loadable load n true (length area)
@@ -104,8 +104,8 @@ module _ {load : Load} {n : ℕ} {area : List ℕ} {atom : ℕ} {sources targets
   nodes_long : length (nodes_in load n area) ≡ load.A
   nodes_long = part_long (atom_at n) load.A area
 
-  pub aside-can : CanFill load n (take (load.A - 0) moved) area (get_or area (n * n) 0) sources targets
-  aside-can =
+  pub aside_can : CanFill load n (take (load.A - 0) moved) area (get_or area (n * n) 0) sources targets
+  aside_can =
       record {
         loadable = can.loadable;
         many = refl;

@@ -20,12 +20,12 @@ use Rattle.move_ledger.specs.NodeWalks.{cyclic-nodes}
 use Rattle.move_area.specs.Bodies.{lane_at, atom_at}
 use Rattle.move_area.specs.Area.{sets_in}
 use Rattle.move_area.specs.Checked.{nodes_in, Ranged, Worked, sets-length, ranged_placing}
-use Rattle.move_slots.specs.SlotLaws.{Slotted, slotted-edge, slotted-ends}
+use Rattle.move_slots.specs.SlotLaws.{Slotted, slotted_edge, slotted_ends}
 use Rattle.move_free_walks.specs.Joins.{cut}
 use Rattle.move_free_walks.specs.HowFree.{is_rejected, is_fixed, pairs}
 use Rattle.move_free_walks.specs.HowFree as free
-use Rattle.move_free_walks.specs.Sums.{atom-sum, atom-fixed}
-use Rattle.move_free_walks.specs.Pairs.{atom-accepted, chunk_count}
+use Rattle.move_free_walks.specs.Sums.{atom_sum, atom_fixed}
+use Rattle.move_free_walks.specs.Pairs.{atom_accepted, chunk_count}
 use Rattle.move_free_walks.specs.NodeFree.{fine, counted}
 use Rattle.move_free_walks.specs.ByMarks.{free_by}
 use Rattle.move_free_walks.specs.AtomCount.{marks-count, none-count, rest-free, aside-ends, rest-none, rest_some}
@@ -84,11 +84,11 @@ module _ {load : Load} {n : ℕ} {area : List ℕ} {atom : ℕ} (can : CanCount 
   narrow : length sets + 1 ≤ none
   narrow = omega (arith, many, few)
 
-  own-node : at nodes atom ≡ get_or area (atom_at n + atom) 0
-  own-node = part_at (atom_at n) load.A area atom can.there
+  own_node : at nodes atom ≡ get_or area (atom_at n + atom) 0
+  own_node = part_at (atom_at n) load.A area atom can.there
 
-  pub aside-asks : {s t : List ℕ} → length s ≡ 8448 → length t ≡ 8448 → CanSetAside load n area atom s t
-  aside-asks a b = record {
+  pub aside_asks : {s t : List ℕ} → length s ≡ 8448 → length t ≡ 8448 → CanSetAside load n area atom s t
+  aside_asks a b = record {
     loadable = can.loadable;
     few = can.ranged.few;
     nodes = λ i l. omega (arith, part_at (atom_at n) load.A area i l, can.ranged.nodes i l);
@@ -109,22 +109,22 @@ module _ {load : Load} {n : ℕ} {area : List ℕ} {atom : ℕ} (can : CanCount 
     slots = subst (λ k. Slotted load (set nodes atom k) sets s t) (sym many) v
 
     edges : slot_edge s t m ≡ node_edge load (set nodes atom (length sets)) sets
-    edges = slotted-edge slots
+    edges = slotted_edge slots
 
     ends : Ends s t (z + 1) m
-    ends = subst (λ k. Ends s t (k + 1) m) many (slotted-ends slots (aside-ends can.loadable.order p range narrow atom can.there))
+    ends = subst (λ k. Ends s t (k + 1) m) many (slotted_ends slots (aside-ends can.loadable.order p range narrow atom can.there))
 
-    pub rest-asks : CanAskRest area n s t (load.D + load.E) (get_or area (n * n) 0)
-    rest-asks = record {
+    pub rest_asks : CanAskRest area n s t (load.D + load.E) (get_or area (n * n) 0)
+    rest_asks = record {
       rest = record { slots = short; sources = omega (arith, short); targets = omega (arith, short); ends = ends; nodes = few; some = omega (arith, can.ranged.nodes atom can.there) };
       inside = omega (arith, can.loadable.sizes.area);
     }
 
-    pub open-asks : CanOpen area (n * n + 24 + 8 * n) (get_or area (n * n) 0) (get_or area (atom_at n + atom) 0) s t (load.D + load.E)
-    open-asks = record { slots = short; sources = omega (arith, short); targets = omega (arith, short); ends = ends; few = few; inside = omega (arith, can.ranged.few, can.loadable.sizes.area); there = can.ranged.nodes atom can.there }
+    pub open_asks : CanOpen area (n * n + 24 + 8 * n) (get_or area (n * n) 0) (get_or area (atom_at n + atom) 0) s t (load.D + load.E)
+    open_asks = record { slots = short; sources = omega (arith, short); targets = omega (arith, short); ends = ends; few = few; inside = omega (arith, can.ranged.few, can.loadable.sizes.area); there = can.ranged.nodes atom can.there }
 
-    abbrev cut-cyclic : Bool
-    cut-cyclic = cyclic (cut (slot_edge s t m) z) (below z)
+    abbrev cut_cyclic : Bool
+    cut_cyclic = cyclic (cut (slot_edge s t m) z) (below z)
 
     there-cyclic : cyclic (cut (slot_edge s t m) z) (below z) ≡ cyclic (cut (node_edge load (set nodes atom (length sets)) sets) (length sets)) (below (length sets))
     there-cyclic = ap₂ (λ (f : ℕ → ℕ → Bool) k. cyclic (cut f k) (below k)) edges (sym many)
@@ -147,14 +147,14 @@ module _ {load : Load} {n : ℕ} {area : List ℕ} {atom : ℕ} (can : CanCount 
       free-rest = go (eqb (get_or area (n * n + 2) 0) 0) refl
         where
           go : (c : Bool) → eqb (get_or area (n * n + 2) 0) 0 ≡ c → Rattle.move_free_walks.specs.Joins.Acyclic (cut (node_edge load (set nodes atom (length sets)) sets) (length sets))
-          go true q = rest-none can.loadable.order p range narrow atom can.there (sym there-cyclic ∙ sym (ap (λ c. c && cut-cyclic) q) ∙ sym e ∙ h)
+          go true q = rest-none can.loadable.order p range narrow atom can.there (sym there-cyclic ∙ sym (ap (λ c. c && cut_cyclic) q) ∙ sym e ∙ h)
           go false q = rest-free can.loadable.order p range narrow atom can.there (flag-free (borrow.Author.Tests.eqb-false _ _ q))
 
-      pub count-open : {own k : ℕ} → own ≡ get_or area (atom_at n + atom) 0
+      pub count_open : {own k : ℕ} → own ≡ get_or area (atom_at n + atom) 0
           → k ≡ count (λ X. occupied_at area (n * n + 24 + 8 * n) X && (not (eqb X own) && free_by (slot_edge s t (load.D + load.E)) (get_or area (n * n) 0) (get_or area (n * n) 0 + 1) X)) (get_or area (n * n) 0)
           → k ≡ counted load (nodes_in load n area) atom (length (sets_in n area)) (fine load (nodes_in load n area) (sets_in n area) atom)
       unfolding counted
-      count-open {own} {k} q f =
+      count_open {own} {k} q f =
           f ∙ count_ext _ _ z (λ X b. same X b)
           ∙ ap₂ (λ (g : ℕ → ℕ → Bool) j. count (λ X. occupied load nodes X && (not (eqb X (at nodes atom)) && free_by g j (j + 1) X)) j) edges (sym many)
           ∙ sym (marks-count can.loadable.order p range narrow atom can.there free-rest)
@@ -164,7 +164,7 @@ module _ {load : Load} {n : ℕ} {area : List ℕ} {atom : ℕ} (can : CanCount 
               ≡ (occupied load nodes X && (not (eqb X (at nodes atom)) && free_by (slot_edge s t m) z (z + 1) X))
           same X b =
               ap (λ c. c && (not (eqb X own) && free_by (slot_edge s t m) z (z + 1) X)) (more_than (get_or area (lane_at n 8 + X) 0) ∙ ap (ltb 0) (can.worked.counts X (omega (arith, can.ranged.few))))
-              ∙ ap (λ j. occupied load nodes X && (not (eqb X j) && free_by (slot_edge s t m) z (z + 1) X)) (q ∙ sym own-node)
+              ∙ ap (λ j. occupied load nodes X && (not (eqb X j) && free_by (slot_edge s t m) z (z + 1) X)) (q ∙ sym own_node)
 
 -- the counts of one atom, which add up to `each`
 pub record OfAtom (load : Load) (marks place : List ℕ) (atom each acc rej fix : ℕ) : Type 0 where
@@ -207,44 +207,44 @@ pub record CanCountAtom (load : Load) (fixed : List ℕ) (n : ℕ) (area : List 
   pub there : atom < load.A
 
 module _ {load : Load} {fixed : List ℕ} {n : ℕ} {area : List ℕ} {atom each : ℕ} (can : CanCountAtom load fixed n area atom each) where
-  pub atom-asks : CanCount load n area atom
-  atom-asks = record { loadable = can.all.loadable; ranged = can.all.ranged; worked = can.all.worked; there = can.there }
+  pub atom_asks : CanCount load n area atom
+  atom_asks = record { loadable = can.all.loadable; ranged = can.all.ranged; worked = can.all.worked; there = can.there }
 
   long : length (place_in load n area) ≡ load.A
-  long = placed-length (nodes_in load n area) (sets_in n area) ∙ (p atom-asks).atoms
+  long = placed-length (nodes_in load n area) (sets_in n area) ∙ (p atom_asks).atoms
 
   in_range : (i : ℕ) → i < load.A → at (place_in load n area) i < 2 ^ load.E
   in_range i b =
-      subst (λ k. k < 2 ^ load.E) (sym (placed_at (nodes_in load n area) (sets_in n area) i (omega (arith, (p atom-asks).atoms))))
-      (range atom-asks (at (nodes_in load n area) i) ((p atom-asks).inside i b))
+      subst (λ k. k < 2 ^ load.E) (sym (placed_at (nodes_in load n area) (sets_in n area) i (omega (arith, (p atom_asks).atoms))))
+      (range atom_asks (at (nodes_in load n area) i) ((p atom_asks).inside i b))
 
   whole : free.targets load fixed (place_in load n area) is_accepted atom + free.targets load fixed (place_in load n area) is_rejected atom + free.targets load fixed (place_in load n area) is_fixed atom ≡ each
-  whole = atom-sum load fixed (place_in load n area) long in_range atom can.there ∙ sym can.all.others
+  whole = atom_sum load fixed (place_in load n area) long in_range atom can.there ∙ sym can.all.others
 
   -- a fixed atom
-  pub atom-stays : (get_or fixed atom 0 ≡ 0 → ⊥) → OfAtom load fixed (place_in load n area) atom each 0 0 each
-  atom-stays h =
+  pub atom_stays : (get_or fixed atom 0 ≡ 0 → ⊥) → OfAtom load fixed (place_in load n area) atom each 0 0 each
+  atom_stays h =
       let e : free.targets load fixed (place_in load n area) is_fixed atom ≡ each =
-      atom-fixed load fixed (place_in load n area) long in_range atom can.there ∙ ap (λ t. cond (not t) (length (rising (place_in load n area)) - 1) 0) (ne_eqb (get_or fixed atom 0) 0 h) ∙ sym can.all.others in
+      atom_fixed load fixed (place_in load n area) long in_range atom can.there ∙ ap (λ t. cond (not t) (length (rising (place_in load n area)) - 1) 0) (ne_eqb (get_or fixed atom 0) 0 h) ∙ sym can.all.others in
       record { accepted = omega (arith, whole); rejected = omega (arith, whole); fixed = sym e; sum = omega arith }
 
   -- no atom has more sets than there are
-  pub atom-few : {k : ℕ} → k ≡ counted load (nodes_in load n area) atom (length (sets_in n area)) (fine load (nodes_in load n area) (sets_in n area) atom) → k ≤ each
-  atom-few q =
-      omega (arith, q, can.all.others, atom-accepted load [] (p atom-asks) (range atom-asks) atom can.there, atom-sum load [] (place_in load n area) long in_range atom can.there)
+  pub atom_few : {k : ℕ} → k ≡ counted load (nodes_in load n area) atom (length (sets_in n area)) (fine load (nodes_in load n area) (sets_in n area) atom) → k ≤ each
+  atom_few q =
+      omega (arith, q, can.all.others, atom_accepted load [] (p atom_asks) (range atom_asks) atom can.there, atom_sum load [] (place_in load n area) long in_range atom can.there)
 
   -- another
   module _ (h : get_or fixed atom 0 ≡ 0) {k : ℕ} (q : k ≡ counted load (nodes_in load n area) atom (length (sets_in n area)) (fine load (nodes_in load n area) (sets_in n area) atom)) where
     taken : k ≡ free.targets load fixed (place_in load n area) is_accepted atom
     taken =
-        q ∙ sym (atom-accepted load fixed (p atom-asks) (range atom-asks) atom can.there
+        q ∙ sym (atom_accepted load fixed (p atom_asks) (range atom_asks) atom can.there
         ∙ ap (λ t. cond (not t) 0 (counted load (nodes_in load n area) atom (length (sets_in n area)) (fine load (nodes_in load n area) (sets_in n area) atom))) (eq-eqb (get_or fixed atom 0) 0 h))
 
     unfixed : free.targets load fixed (place_in load n area) is_fixed atom ≡ 0
-    unfixed = atom-fixed load fixed (place_in load n area) long in_range atom can.there ∙ ap (λ t. cond (not t) (length (rising (place_in load n area)) - 1) 0) (eq-eqb (get_or fixed atom 0) 0 h)
+    unfixed = atom_fixed load fixed (place_in load n area) long in_range atom can.there ∙ ap (λ t. cond (not t) (length (rising (place_in load n area)) - 1) 0) (eq-eqb (get_or fixed atom 0) 0 h)
 
-    pub atom-moves : OfAtom load fixed (place_in load n area) atom each k (each - k) 0
-    atom-moves = record { accepted = taken; rejected = omega (arith, whole, taken, unfixed); fixed = sym unfixed; sum = omega (arith, whole, taken) }
+    pub atom_moves : OfAtom load fixed (place_in load n area) atom each k (each - k) 0
+    atom_moves = record { accepted = taken; rejected = omega (arith, whole, taken, unfixed); fixed = sym unfixed; sum = omega (arith, whole, taken) }
 
 pub record CanFree (load : Load) (fixed : List ℕ) (n : ℕ) (area : List ℕ) : Type 0 where
   pub loadable : Loadable load n true (length area)
@@ -262,22 +262,22 @@ module _ {load : Load} {fixed : List ℕ} {n : ℕ} {area : List ℕ} (can : Can
   placing : Placing load (nodes_in load n area) (sets_in n area)
   placing = ranged_placing can.loadable.sizes.sets can.ranged
 
-  pub others-asks : CanOccupied area (n * n + 24 + 8 * n) (get_or area (n * n) 0)
-  others-asks = record { inside = omega (arith, can.ranged.few, can.loadable.sizes.area); few = omega (arith, can.ranged.few, can.loadable.sizes.sets) }
+  pub others_asks : CanOccupied area (n * n + 24 + 8 * n) (get_or area (n * n) 0)
+  others_asks = record { inside = omega (arith, can.ranged.few, can.loadable.sizes.area); few = omega (arith, can.ranged.few, can.loadable.sizes.sets) }
 
-  chunks-are : count (occupied_at area (n * n + 24 + 8 * n)) (get_or area (n * n) 0) ≡ length (rising (place_in load n area))
-  chunks-are =
+  chunks_are : count (occupied_at area (n * n + 24 + 8 * n)) (get_or area (n * n) 0) ≡ length (rising (place_in load n area))
+  chunks_are =
       count_ext _ (λ x. occupied load (nodes_in load n area) x) (get_or area (n * n) 0)
       (λ x b. more_than (get_or area (lane_at n 8 + x) 0) ∙ ap (ltb 0) (can.worked.counts x (omega (arith, can.ranged.few))))
       ∙ ap (count (λ x. occupied load (nodes_in load n area) x)) (sym (sets-length n area)) ∙ sym (chunk_count load fixed placing (λ x b. can.ranged.range x (omega (arith, sets-length n area))))
 
-  pub all-asks : {each : ℕ} → each ≡ count (occupied_at area (n * n + 24 + 8 * n)) (get_or area (n * n) 0) - 1 → CanCountAll load fixed n area each
-  all-asks e = record {
+  pub all_asks : {each : ℕ} → each ≡ count (occupied_at area (n * n + 24 + 8 * n)) (get_or area (n * n) 0) - 1 → CanCountAll load fixed n area each
+  all_asks e = record {
     loadable = can.loadable;
     ranged = can.ranged;
     worked = can.worked;
     marks = can.marks;
-    others = e ∙ ap (λ k. k - 1) chunks-are;
+    others = e ∙ ap (λ k. k - 1) chunks_are;
     few = omega (arith, e, count_le (occupied_at area (n * n + 24 + 8 * n)) (get_or area (n * n) 0), can.ranged.few, can.loadable.sizes.sets);
   }
 

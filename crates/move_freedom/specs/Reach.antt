@@ -2,7 +2,7 @@
 use Rattle.std.specs.Prelude.{ℕ, ◌≤◌, ◌<◌, ◌≡◌, Bool, List, length, get_or}
 use Rattle.std.proofs.Common.{arith, ap, ◌∙◌}
 use Rattle.graphs.specs.Slots.{Ends, slot_edge}
-use Rattle.graph_neighbours.specs.Grouped.{group-graph, group-edges}
+use Rattle.graph_neighbours.specs.Grouped.{group_graph, group_edges}
 use Rattle.graph_neighbours.specs.Lists.{edge}
 use Rattle.graph_neighbours.specs.Steps.{CanGroup, Grouped}
 use Rattle.graph_walks.specs.Marks.{marked}
@@ -20,8 +20,8 @@ pub record CanReach (s t : List ℕ) (m n root : ℕ) (marks : List ℕ) : Type 
   pub fresh : (x : ℕ) → x < n → get_or marks x 0 ≡ 0
 
 module _ {s t : List ℕ} {m n root : ℕ} {marks : List ℕ} (can : CanReach s t m n root marks) {heads list : List ℕ} (long : length heads ≡ 1026) (wide : length list ≡ 8448) where
-  pub reach-group : CanGroup s t m n heads list
-  reach-group = record {
+  pub reach_group : CanGroup s t m n heads list
+  reach_group = record {
     slots = can.slots;
     keys = can.sources;
     values = can.targets;
@@ -31,9 +31,9 @@ module _ {s t : List ℕ} {m n root : ℕ} {marks : List ℕ} (can : CanReach s 
   }
 
   module _ {heads' list' : List ℕ} (g : Grouped s t m n heads heads' list list') where
-    pub reach-can : {stack : List ℕ} → length stack ≡ 1025 → walks.CanReach heads' list' n 1 root marks stack
-    reach-can {stack} deep = record {
-      graph = group-graph g can.ends (omega (arith, can.nodes)) (omega (arith, can.slots)) (omega arith);
+    pub reach_can : {stack : List ℕ} → length stack ≡ 1025 → walks.CanReach heads' list' n 1 root marks stack
+    reach_can {stack} deep = record {
+      graph = group_graph g can.ends (omega (arith, can.nodes)) (omega (arith, can.slots)) (omega arith);
       cells = can.cells;
       room = omega (arith, can.nodes);
       start = can.there;
@@ -41,4 +41,4 @@ module _ {s t : List ℕ} {m n root : ℕ} {marks : List ℕ} (can : CanReach s 
     }
 
     pub reach-done : {marks' : List ℕ} → marks' ≡ marked (edge heads' list' n) n 1 root marks → marks' ≡ marked (slot_edge s t m) n 1 root marks
-    reach-done e = e ∙ ap (λ (f : ℕ → ℕ → Bool). marked f n 1 root marks) (group-edges g can.ends)
+    reach-done e = e ∙ ap (λ (f : ℕ → ℕ → Bool). marked f n 1 root marks) (group_edges g can.ends)

@@ -8,13 +8,13 @@ use Rattle.graphs.specs.Bools.{or_false_left, or_false_right}
 use Rattle.graphs.specs.Slots.{slot_edge, Ends}
 use Rattle.graphs.specs.Lists.{below}
 use Rattle.graphs.specs.Walk.{cyclic}
-use Rattle.graph_neighbours.specs.Grouped.{group-graph, group-edges}
+use Rattle.graph_neighbours.specs.Grouped.{group_graph, group_edges}
 use Rattle.graph_neighbours.specs.Lists.{edge, Graph}
 use Rattle.graph_neighbours.specs.Steps.{CanGroup, Grouped}
 use Rattle.graph_slots.specs.Asked.{Slots}
-use Rattle.graph_slots.specs.Listing.{group-can}
+use Rattle.graph_slots.specs.Listing.{group_can}
 use Rattle.move_free_walks.specs.Joins.{cut}
-use Rattle.move_free_walks.specs.Blanked.{blank, Blanks, blanked-cut}
+use Rattle.move_free_walks.specs.Blanked.{blank, Blanks, blanked_cut}
 
 -- what `unless` answers
 pub blank-source : (u v z x : ℕ) → u ≡ z → 0 ≡ blank z u v x
@@ -88,17 +88,17 @@ module _ {s t : List ℕ} {m z : ℕ} {s₀ t₀ s' t' : List ℕ} (can : CanRes
   }
 
   pub rest-edges : slot_edge s' t' m ≡ cut (slot_edge s t m) z
-  rest-edges = fun_ext (λ x. fun_ext (λ y. blanked-cut v.blanks x y))
+  rest-edges = fun_ext (λ x. fun_ext (λ y. blanked_cut v.blanks x y))
 
-  pub rest-slots : length s' ≡ 8448 → length t' ≡ 8448 → Slots s' t' m z
-  rest-slots p q = record { slots = can.slots; sources = omega (arith, can.slots); targets = omega (arith, can.slots); ends = rest-ends; nodes = can.nodes }
+  pub rest_slots : length s' ≡ 8448 → length t' ≡ 8448 → Slots s' t' m z
+  rest_slots p q = record { slots = can.slots; sources = omega (arith, can.slots); targets = omega (arith, can.slots); ends = rest-ends; nodes = can.nodes }
 
-  pub rest-group : {heads list : List ℕ} → length s' ≡ 8448 → length t' ≡ 8448 → length heads ≡ 1025 → length list ≡ 8448 → CanGroup s' t' m z heads list
-  rest-group p q h l = group-can (rest-slots p q) (record { rows = omega (arith, can.nodes); room = omega (arith, can.slots); short = omega arith })
+  pub rest_group : {heads list : List ℕ} → length s' ≡ 8448 → length t' ≡ 8448 → length heads ≡ 1025 → length list ≡ 8448 → CanGroup s' t' m z heads list
+  rest_group p q h l = group_can (rest_slots p q) (record { rows = omega (arith, can.nodes); room = omega (arith, can.slots); short = omega arith })
 
   module _ {heads list heads' list' : List ℕ} (h : length heads ≡ 1025) (l : length list ≡ 8448) (g : Grouped s' t' m z heads heads' list list') where
-    pub rest-graph : Graph heads' list' z
-    rest-graph = group-graph g rest-ends (omega (arith, can.nodes)) (omega (arith, can.slots)) (omega arith)
+    pub rest_graph : Graph heads' list' z
+    rest_graph = group_graph g rest-ends (omega (arith, can.nodes)) (omega (arith, can.slots)) (omega arith)
 
     pub rest-done : {r : Bool} → r ≡ cyclic (edge heads' list' z) (below z) → r ≡ cyclic (cut (slot_edge s t m) z) (below z)
-    rest-done e = e ∙ ap (λ (f : ℕ → ℕ → Bool). cyclic f (below z)) (group-edges g rest-ends ∙ rest-edges)
+    rest-done e = e ∙ ap (λ (f : ℕ → ℕ → Bool). cyclic f (below z)) (group_edges g rest-ends ∙ rest-edges)

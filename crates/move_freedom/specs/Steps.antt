@@ -77,26 +77,26 @@ module _ (marks flags : List ℕ) (skip u v : ℕ) where
   not_going : goes marks skip u v ≡ false → flags ≡ cond (goes marks skip u v) (set flags v 1) flags
   not_going h = sym (ap (λ t. cond t (set flags v 1) flags) h)
 
-  first-false : (x y : Bool) → x ≡ true → (not x && y) ≡ false
-  first-false true y e = refl
-  first-false false y e = absurd (true≢false (sym e))
+  first_false : (x y : Bool) → x ≡ true → (not x && y) ≡ false
+  first_false true y e = refl
+  first_false false y e = absurd (true≢false (sym e))
 
-  later-false : (x y : Bool) → y ≡ false → (x && y) ≡ false
-  later-false true y e = e
-  later-false false y e = refl
+  later_false : (x y : Bool) → y ≡ false → (x && y) ≡ false
+  later_false true y e = e
+  later_false false y e = refl
 
   pub stays_same : u ≡ v → flags ≡ cond (goes marks skip u v) (set flags v 1) flags
-  stays_same h = not_going (first-false (eqb u v) _ (eq-eqb u v h))
+  stays_same h = not_going (first_false (eqb u v) _ (eq-eqb u v h))
 
   pub stays-source : u ≡ skip → flags ≡ cond (goes marks skip u v) (set flags v 1) flags
-  stays-source h = not_going (later-false (not (eqb u v)) _ (first-false (eqb u skip) _ (eq-eqb u skip h)))
+  stays-source h = not_going (later_false (not (eqb u v)) _ (first_false (eqb u skip) _ (eq-eqb u skip h)))
 
   pub stays-target : v ≡ skip → flags ≡ cond (goes marks skip u v) (set flags v 1) flags
-  stays-target h = not_going (later-false (not (eqb u v)) _ (later-false (not (eqb u skip)) _ (first-false (eqb v skip) _ (eq-eqb v skip h))))
+  stays-target h = not_going (later_false (not (eqb u v)) _ (later_false (not (eqb u skip)) _ (first_false (eqb v skip) _ (eq-eqb v skip h))))
 
   pub stays-unmarked : get_or marks u 0 ≡ 0 → flags ≡ cond (goes marks skip u v) (set flags v 1) flags
   stays-unmarked h =
-      not_going (later-false (not (eqb u v)) _ (later-false (not (eqb u skip)) _ (later-false (not (eqb v skip)) _ (ap not (eq-eqb (get_or marks u 0) 0 h)))))
+      not_going (later_false (not (eqb u v)) _ (later_false (not (eqb u skip)) _ (later_false (not (eqb v skip)) _ (ap not (eq-eqb (get_or marks u 0) 0 h)))))
 
   pub goes_on : (u ≡ v → ⊥) → (u ≡ skip → ⊥) → (v ≡ skip → ⊥) → (get_or marks u 0 ≡ 0 → ⊥) → goes marks skip u v ≡ true
   goes_on a b c d = rw (ne_eqb u v a, ne_eqb u skip b, ne_eqb v skip c, ne_eqb (get_or marks u 0) 0 d) refl

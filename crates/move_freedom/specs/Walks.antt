@@ -67,17 +67,17 @@ module _ (marks : List ℕ) (skip u v : ℕ) (h : goes marks skip u v ≡ true) 
   rest1 : (not (eqb u skip) && (not (eqb v skip) && not (eqb (get_or marks u 0) 0))) ≡ true
   rest1 = and_right (not (eqb u v)) _ h
 
-  source-not : u ≡ skip → ⊥
-  source-not = eqb-false u skip (not-true _ (and_left (not (eqb u skip)) _ rest1))
+  source_not : u ≡ skip → ⊥
+  source_not = eqb-false u skip (not-true _ (and_left (not (eqb u skip)) _ rest1))
 
   rest2 : (not (eqb v skip) && not (eqb (get_or marks u 0) 0)) ≡ true
   rest2 = and_right (not (eqb u skip)) _ rest1
 
-  target-not : v ≡ skip → ⊥
-  target-not = eqb-false v skip (not-true _ (and_left (not (eqb v skip)) _ rest2))
+  target_not : v ≡ skip → ⊥
+  target_not = eqb-false v skip (not-true _ (and_left (not (eqb v skip)) _ rest2))
 
-  is-marked : not (eqb (get_or marks u 0) 0) ≡ true
-  is-marked = and_right (not (eqb v skip)) _ rest2
+  is_marked : not (eqb (get_or marks u 0) 0) ≡ true
+  is_marked = and_right (not (eqb v skip)) _ rest2
 
 module _ (s t : List ℕ) (m z n : ℕ) (ends : Ends s t n m) (marks : List ℕ) (told : (y : ℕ) → y < n → get_or marks y 0 ≡ ind (via (slot_edge s t m) (below n) z y)) where
   -- a step after the marked nodes
@@ -94,8 +94,8 @@ module _ (s t : List ℕ) (m z n : ℕ) (ends : Ends s t n m) (marks : List ℕ)
           some_give (λ y. cut (slot_edge s t m) z y x && via (slot_edge s t m) (below n) z y) n (get_or s r.0 0) b
           (and_both (cut (slot_edge s t m) z (get_or s r.0 0) x) _
           (subst (λ k. cut (slot_edge s t m) z (get_or s r.0 0) k ≡ true) q
-          (edge-cut (slot_edge s t m) z (get_or s r.0 0) (get_or t r.0 0) (edge_of s t m r.0 r.1 (differ marks z (get_or s r.0 0) (get_or t r.0 0) g)) (source-not marks z (get_or s r.0 0) (get_or t r.0 0) g) (target-not marks z (get_or s r.0 0) (get_or t r.0 0) g)))
-          (sym (up (via (slot_edge s t m) (below n) z (get_or s r.0 0)) (told (get_or s r.0 0) b)) ∙ is-marked marks z (get_or s r.0 0) (get_or t r.0 0) g))
+          (edge-cut (slot_edge s t m) z (get_or s r.0 0) (get_or t r.0 0) (edge_of s t m r.0 r.1 (differ marks z (get_or s r.0 0) (get_or t r.0 0) g)) (source_not marks z (get_or s r.0 0) (get_or t r.0 0) g) (target_not marks z (get_or s r.0 0) (get_or t r.0 0) g)))
+          (sym (up (via (slot_edge s t m) (below n) z (get_or s r.0 0)) (told (get_or s r.0 0) b)) ∙ is_marked marks z (get_or s r.0 0) (get_or t r.0 0) g))
 
       here : some_below (λ y. cut (slot_edge s t m) z y x && via (slot_edge s t m) (below n) z y) n ≡ true → some_below (λ i. goes marks z (get_or s i 0) (get_or t i 0) && eqb (get_or t i 0) x) m ≡ true
       here h =
@@ -143,7 +143,7 @@ stepped-out s t m z ends few only e x = alike _ _ there here
         let r = some_take (λ i. goes only none (get_or s i 0) (get_or t i 0) && eqb (get_or t i 0) x) m h in
         let g = and_left (goes only none (get_or s r.0 0) (get_or t r.0 0)) _ r.2 in
         let q : get_or t r.0 0 ≡ x = eqb-true (get_or t r.0 0) x (and_right (goes only none (get_or s r.0 0) (get_or t r.0 0)) _ r.2) in
-        let u = is-z (get_or s r.0 0) (ends.source r.0 r.1) (is-marked only none (get_or s r.0 0) (get_or t r.0 0) g) (ℕ_discrete (get_or s r.0 0) z) in
+        let u = is-z (get_or s r.0 0) (ends.source r.0 r.1) (is_marked only none (get_or s r.0 0) (get_or t r.0 0) g) (ℕ_discrete (get_or s r.0 0) z) in
         subst (λ k. slot_edge s t m k x ≡ true) u (subst (λ k. slot_edge s t m (get_or s r.0 0) k ≡ true) q (edge_of s t m r.0 r.1 (differ only none (get_or s r.0 0) (get_or t r.0 0) g)))
 
     here : slot_edge s t m z x ≡ true → some_below (λ i. goes only none (get_or s i 0) (get_or t i 0) && eqb (get_or t i 0) x) m ≡ true
@@ -178,50 +178,50 @@ pub record Leaves (s t : List ℕ) (m z : ℕ) (out out' : List ℕ) : Type 0 wh
   pub long : length out' ≡ length out
 
 module _ {s t : List ℕ} {m z : ℕ} {out : List ℕ} (can : CanLeave s t m z out) {only : List ℕ} (e : only ≡ set (replicate 1025 0) z 1) where
-  pub leave-can : CanStep s t m only out
-  leave-can = record {
+  pub leave_can : CanStep s t m only out
+  leave_can = record {
     keys = can.sources;
     values = can.targets;
     source = λ k b. omega (arith, can.ends.source k b, can.few, ap length e, length-set (replicate {A = ℕ} 1025 0) z 1);
     target = λ k b. omega (arith, can.ends.target k b, can.few, can.room);
   }
 
-  pub leave-done : {out' : List ℕ} → Flagged s t only none m out out' → Leaves s t m z out out'
-  leave-done {out'} v = record { each = λ x b. v.each x b ∙ ap (λ u. cond u 1 (get_or out x 0)) (stepped-out s t m z can.ends can.few only e x); long = v.long }
+  pub leave_done : {out' : List ℕ} → Flagged s t only none m out out' → Leaves s t m z out out'
+  leave_done {out'} v = record { each = λ x b. v.each x b ∙ ap (λ u. cond u 1 (get_or out x 0)) (stepped-out s t m z can.ends can.few only e x); long = v.long }
 
 module _ {area : List ℕ} {from z own : ℕ} {s t : List ℕ} {m : ℕ} (can : CanOpen area from z own s t m) where
   turned-ends : Ends t s (z + 1) m
   turned-ends = record { source = can.ends.target; target = can.ends.source }
 
-  pub forth-can : CanReach s t m (z + 1) z (replicate 1025 0)
-  forth-can = record { slots = can.slots; sources = can.sources; targets = can.targets; ends = can.ends; nodes = omega (arith, can.few); there = omega arith; cells = omega (arith, can.few); fresh = λ x b. get_or-replicate 1025 x 0 0 (omega (arith, can.few)) }
+  pub forth_can : CanReach s t m (z + 1) z (replicate 1025 0)
+  forth_can = record { slots = can.slots; sources = can.sources; targets = can.targets; ends = can.ends; nodes = omega (arith, can.few); there = omega arith; cells = omega (arith, can.few); fresh = λ x b. get_or-replicate 1025 x 0 0 (omega (arith, can.few)) }
 
-  pub back-can : CanReach t s m (z + 1) z (replicate 1025 0)
-  back-can = record { slots = can.slots; sources = can.targets; targets = can.sources; ends = turned-ends; nodes = omega (arith, can.few); there = omega arith; cells = omega (arith, can.few); fresh = λ x b. get_or-replicate 1025 x 0 0 (omega (arith, can.few)) }
+  pub back_can : CanReach t s m (z + 1) z (replicate 1025 0)
+  back_can = record { slots = can.slots; sources = can.targets; targets = can.sources; ends = turned-ends; nodes = omega (arith, can.few); there = omega arith; cells = omega (arith, can.few); fresh = λ x b. get_or-replicate 1025 x 0 0 (omega (arith, can.few)) }
 
   module _ {fo ba : List ℕ} (p : fo ≡ marked (slot_edge s t m) (z + 1) 1 z (replicate 1025 0)) (q : ba ≡ marked (slot_edge t s m) (z + 1) 1 z (replicate 1025 0)) where
-    pub ahead-can : CanStep s t m fo (replicate 1025 0)
-    ahead-can = record {
+    pub ahead_can : CanStep s t m fo (replicate 1025 0)
+    ahead_can = record {
       keys = can.sources;
       values = can.targets;
       source = λ k b. omega (arith, can.ends.source k b, can.few, reached_long (slot_edge s t m) (z + 1) z p);
       target = λ k b. omega (arith, can.ends.target k b, can.few);
     }
 
-    pub behind-can : CanStep t s m ba (replicate 1025 0)
-    behind-can = record {
+    pub behind_can : CanStep t s m ba (replicate 1025 0)
+    behind_can = record {
       keys = can.targets;
       values = can.sources;
       source = λ k b. omega (arith, can.ends.target k b, can.few, reached_long (slot_edge t s m) (z + 1) z q);
       target = λ k b. omega (arith, can.ends.source k b, can.few);
     }
 
-    pub leaves-can : CanLeave s t m z (replicate 1025 0)
-    leaves-can = record { sources = can.sources; targets = can.targets; ends = can.ends; few = can.few; room = omega arith }
+    pub leaves_can : CanLeave s t m z (replicate 1025 0)
+    leaves_can = record { sources = can.sources; targets = can.targets; ends = can.ends; few = can.few; room = omega arith }
 
     module _ {ah be ou : List ℕ} (v : Flagged s t fo z m (replicate 1025 0) ah) (w : Flagged t s ba z m (replicate 1025 0) be) (l : Leaves s t m z (replicate 1025 0) ou) where
-      pub tally-can : CanTally area from z own ah be ou ba
-      tally-can = record {
+      pub tally_can : CanTally area from z own ah be ou ba
+      tally_can = record {
         inside = can.inside;
         aheads = omega (arith, can.few, v.long);
         behinds = omega (arith, can.few, w.long);
@@ -240,8 +240,8 @@ module _ {area : List ℕ} {from z own : ℕ} {s t : List ℕ} {m : ℕ} (can : 
           v.each x (omega (arith, can.few)) ∙ flat (stepped s t fo z m x) x (omega (arith, can.few))
           ∙ ap ind (stepped-after s t m z (z + 1) can.ends fo (λ y c. reached-at (slot_edge s t m) (z + 1) z p y (omega (arith, can.few))) x)
 
-      behind-at : (x : ℕ) → x < z + 1 → get_or be x 0 ≡ ind (before (slot_edge s t m) z (z + 1) x)
-      behind-at x b =
+      behind_at : (x : ℕ) → x < z + 1 → get_or be x 0 ≡ ind (before (slot_edge s t m) z (z + 1) x)
+      behind_at x b =
           w.each x (omega (arith, can.few)) ∙ flat (stepped t s ba z m x) x (omega (arith, can.few))
           ∙ ap ind (stepped-after t s m z (z + 1) turned-ends ba (λ y c. reached-at (slot_edge t s m) (z + 1) z q y (omega (arith, can.few))) x ∙ sym (before-turned s t m z (z + 1) x))
 
@@ -266,6 +266,6 @@ module _ {area : List ℕ} {from z own : ℕ} {s t : List ℕ} {m : ℕ} (can : 
               ≡ (not (after (slot_edge s t m) z (z + 1) X) && (not (before (slot_edge s t m) z (z + 1) X) && eqb (count (around (slot_edge s t m) z (z + 1)) (z + 1)) (ind (around (slot_edge s t m) z (z + 1) X))))
           each X b =
               ap (λ u. u && (eqb (get_or be X 0) 0 && eqb (count (both ou ba) (z + 1)) (ind (both ou ba X)))) (down (after (slot_edge s t m) z (z + 1) X) (ahead-at X (omega arith)))
-              ∙ ap (λ u. not (after (slot_edge s t m) z (z + 1) X) && (u && eqb (count (both ou ba) (z + 1)) (ind (both ou ba X)))) (down (before (slot_edge s t m) z (z + 1) X) (behind-at X (omega arith)))
+              ∙ ap (λ u. not (after (slot_edge s t m) z (z + 1) X) && (u && eqb (count (both ou ba) (z + 1)) (ind (both ou ba X)))) (down (before (slot_edge s t m) z (z + 1) X) (behind_at X (omega arith)))
               ∙ ap (λ k. not (after (slot_edge s t m) z (z + 1) X) && (not (before (slot_edge s t m) z (z + 1) X) && eqb k (ind (both ou ba X)))) (count_ext _ _ (z + 1) (λ c l. both_at c l))
               ∙ ap (λ u. not (after (slot_edge s t m) z (z + 1) X) && (not (before (slot_edge s t m) z (z + 1) X) && eqb (count (around (slot_edge s t m) z (z + 1)) (z + 1)) (ind u))) (both_at X (omega arith))

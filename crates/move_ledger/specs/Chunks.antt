@@ -13,7 +13,7 @@ use Rattle.move_ledger.specs.Graph.{Load, at, members, occupied, insert, rising,
 use Rattle.move_ledger.specs.GraphLaws.{occupied-by, occupy}
 use Rattle.move_ledger.specs.Listing.{rising-rising, has-rising, one_rising}
 use Rattle.move_ledger.specs.Nodes.{placed, Placing}
-use Rattle.move_ledger.specs.NodeLaws.{placed-length, placed_at, members_nodes}
+use Rattle.move_ledger.specs.NodeLaws.{placed-length, placed_at, members-nodes}
 use Rattle.move_ledger.specs.Ledger.{kept}
 use Rattle.move_ledger.specs.Places.{has_kept, Apart}
 use Rattle.move_ledger.specs.Evict.{total_noughts}
@@ -88,8 +88,8 @@ module _ {load : Load} {nodes sets : List ℕ} (p : Placing load nodes sets) whe
   abbrev busy : ℕ → Bool
   busy X = occupied load place X
 
-  sets-apart : Apart sets
-  sets-apart i j a b e = omega (arith, p.distinct i j (omega arith) b e)
+  sets_apart : Apart sets
+  sets_apart i j a b e = omega (arith, p.distinct i j (omega arith) b e)
 
   chunks : rising place ≡ rising (kept busy sets)
   chunks = one_rising (rising-rising place) (rising-rising (kept busy sets)) (λ Z. has-rising Z place ∙ same Z ∙ sym (has_kept busy Z sets) ∙ sym (has-rising Z (kept busy sets)))
@@ -114,13 +114,13 @@ module _ {load : Load} {nodes sets : List ℕ} (p : Placing load nodes sets) whe
               subst (λ u. has u place ≡ true) r.2 (has-at place r.0 (omega (arith, r.1, long)))
 
   -- what is added up over the chunks is added up over the nodes
-  pub chunk-sum : (f : ℕ → ℕ) (n : ℕ) → length sets ≤ n
+  pub chunk_sum : (f : ℕ → ℕ) (n : ℕ) → length sets ≤ n
       → sum f (rising place) ≡ total (λ x. cond (occupied load nodes x) (f (at sets x)) 0) n
   unfolding members
-  chunk-sum f n few =
-      ap (sum f) chunks ∙ sum-rising f (kept busy sets) (once_apart (once_kept busy (apart_once sets sets-apart))) ∙ sum_kept f busy sets
+  chunk_sum f n few =
+      ap (sum f) chunks ∙ sum-rising f (kept busy sets) (once_apart (once_kept busy (apart_once sets sets_apart))) ∙ sum_kept f busy sets
       ∙ sum-total (λ X. cond (busy X) (f X) 0) sets
-      ∙ total-same _ _ (length sets) (λ x b. ap (λ k. cond (ltb 0 k) (f (at sets x)) 0) (sym (members_nodes p x b)))
+      ∙ total-same _ _ (length sets) (λ x b. ap (λ k. cond (ltb 0 k) (f (at sets x)) 0) (sym (members-nodes p x b)))
       ∙ longer (n - length sets) ∙ ap (total (λ x. cond (occupied load nodes x) (f (at sets x)) 0)) (end)
     where
       end : length sets + (n - length sets) ≡ n
@@ -152,9 +152,9 @@ pub pair_sum : {load : Load} {nodes sets : List ℕ} → Placing load nodes sets
     → ((x y : ℕ) → x < n → y < n → cond (occupied load nodes x) (cond (occupied load nodes y) (f (at sets x) (at sets y)) 0) 0 ≡ cell (x * n + y))
     → sum (λ X. sum (f X) (rising (placed nodes sets))) (rising (placed nodes sets)) ≡ total cell (n * n)
 pair_sum {load} {nodes} {sets} p f cell n few h =
-    chunk-sum p (λ X. sum (f X) (rising (placed nodes sets))) n few
+    chunk_sum p (λ X. sum (f X) (rising (placed nodes sets))) n few
     ∙ total-same _ _ n (λ x hx.
-    ap (λ k. cond (occupied load nodes x) k 0) (chunk-sum p (f (at sets x)) n few)
+    ap (λ k. cond (occupied load nodes x) k 0) (chunk_sum p (f (at sets x)) n few)
     ∙ pull (occupied load nodes x) (λ y. cond (occupied load nodes y) (f (at sets x) (at sets y)) 0) n
     ∙ total-same _ _ n (λ y hy. h x y hx hy))
     ∙ sym (rows-total cell n n)

@@ -105,11 +105,11 @@ kth_past [] k h = refl
 kth_past (e ∷ es) zero h = absurd (omega arith)
 kth_past (e ∷ es) (suc k) h = kth_past es k (omega arith)
 
-kth_left : (es fs : List Edge) (k : ℕ) → k < length es → kth (es ++ fs) k ≡ kth es k
+kth-left : (es fs : List Edge) (k : ℕ) → k < length es → kth (es ++ fs) k ≡ kth es k
 unfolding kth
-kth_left [] fs k h = absurd (omega arith)
-kth_left (e ∷ es) fs zero h = refl
-kth_left (e ∷ es) fs (suc k) h = kth_left es fs k (omega arith)
+kth-left [] fs k h = absurd (omega arith)
+kth-left (e ∷ es) fs zero h = refl
+kth-left (e ∷ es) fs (suc k) h = kth-left es fs k (omega arith)
 
 kth_right : (es fs : List Edge) (k : ℕ) → kth (es ++ fs) (length es + k) ≡ kth fs k
 unfolding kth
@@ -162,7 +162,7 @@ module _ (load : Load) (p : List ℕ) where
       → kth (rows load p Xs Ys) (total (λ i. length (row load p (at Xs i) Ys)) i + c) ≡ kth (row load p (at Xs i) Ys) c
   unfolding rows total
   kth-rows [] Ys i c h l = absurd (omega arith)
-  kth-rows (X ∷ Xs) Ys zero c h l = let z : 0 + c ≡ c = omega arith in rw z (kth_left (row load p X Ys) (rows load p Xs Ys) c l)
+  kth-rows (X ∷ Xs) Ys zero c h l = let z : 0 + c ≡ c = omega arith in rw z (kth-left (row load p X Ys) (rows load p Xs Ys) c l)
   kth-rows (X ∷ Xs) Ys (suc i) c h l =
       let n : ℕ = total (λ i. length (row load p (at Xs i) Ys)) i in
       let z : total (λ i. length (row load p (at (X ∷ Xs) i) Ys)) (suc i) + c ≡ length (row load p X Ys) + (n + c) = omega (arith, total_first (λ i. length (row load p (at (X ∷ Xs) i) Ys)) i) in

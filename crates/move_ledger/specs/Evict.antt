@@ -15,7 +15,7 @@ use Rattle.graphs.specs.Lists.{any, has, has-at, some_below, some_take, some_non
 use Rattle.move_ledger.specs.Graph.{Load, at, members, occupied, rising}
 use Rattle.move_ledger.specs.Ledger.{kept, index, put, smallest_empty, free_place, register}
 use Rattle.move_ledger.specs.Listing.{Rising, none, next, rising-rising, has-rising, has_bound}
-use Rattle.move_ledger.specs.Places.{has_kept, index-has, Apart, put-grows, put-most, put-there, put_same}
+use Rattle.move_ledger.specs.Places.{has_kept, index-has, Apart, put_grows, put_most, put-there, put_same}
 
 -- sums of two, of ones and of noughts
 pub total_add : (f g : ℕ → ℕ) (n : ℕ) → total (λ i. f i + g i) n ≡ total f n + total g n
@@ -58,9 +58,9 @@ module _ (l : List ℕ) (d : Apart l) where
       )
 
   -- more distinct sets than atoms: one of them is empty
-  pub some-empty : (load : Load) (place : List ℕ) → load.A < length l → (i : ℕ) × (i < length l) × (occupied load place (at l i) ≡ false)
+  pub some_empty : (load : Load) (place : List ℕ) → load.A < length l → (i : ℕ) × (i < length l) × (occupied load place (at l i) ≡ false)
   unfolding members
-  some-empty load place more = go (some_below (λ i. not (occupied load place (at l i))) (length l)) refl
+  some_empty load place more = go (some_below (λ i. not (occupied load place (at l i))) (length l)) refl
     where
       go : (t : Bool) → some_below (λ i. not (occupied load place (at l i))) (length l) ≡ t → (i : ℕ) × (i < length l) × (occupied load place (at l i) ≡ false)
       go true q = let r = some_take (λ i. not (occupied load place (at l i))) (length l) q in (r.0, r.1, not-true _ r.2)
@@ -107,15 +107,15 @@ module _ (load : Load) (N : ℕ) (place seen : List ℕ) (d : Apart seen) (few :
       go : (t : Bool) → ltb (length seen) N ≡ t → Free load N place seen (cond t (length seen) (index (smallest_empty load place seen) seen))
       go true q = record { within = omega arith; room = ltb-true _ _ q; empty = λ h. absurd (omega arith) }
       go false q =
-          let y = some-empty seen d load place (omega (arith, ltb-false (length seen) N q)) in
+          let y = some_empty seen d load place (omega (arith, ltb-false (length seen) N q)) in
           let s = smallest load place seen (at seen y.0) (has-at seen y.0 y.1) y.2 in
           let x = index-has (smallest_empty load place seen) seen s.there in
           record { within = omega (arith, x.0); room = omega (arith, x.0); empty = λ h. rw x.1 s.empty }
 
 -- registering
-pub register_old : (load : Load) (N : ℕ) (place : List ℕ) (T : ℕ) (seen : List ℕ) → has T seen ≡ true → register load N place T seen ≡ seen
+pub register-old : (load : Load) (N : ℕ) (place : List ℕ) (T : ℕ) (seen : List ℕ) → has T seen ≡ true → register load N place T seen ≡ seen
 unfolding register
-register_old load N place T seen q = rw q refl
+register-old load N place T seen q = rw q refl
 
 pub register-new : (load : Load) (N : ℕ) (place : List ℕ) (T : ℕ) (seen : List ℕ) → has T seen ≡ false
     → register load N place T seen ≡ put (free_place load N place seen) T seen
@@ -136,12 +136,12 @@ registered load N place seen d few more T = go (has T seen) refl
     r = free_place load N place seen
 
     go : (t : Bool) → has T seen ≡ t → Registered N T seen (register load N place T seen)
-    go true q = rw (register_old load N place T seen q) (record { has_target = q; grows = omega arith; few = few })
+    go true q = rw (register-old load N place T seen q) (record { has_target = q; grows = omega arith; few = few })
     go false q =
         let f = place-free load N place seen d few more in
         rw (register-new load N place T seen q)
         (record {
           has_target = subst (λ X. has X (put r T seen) ≡ true) (put_same r T seen f.within) (has-at (put r T seen) r (put-there r T seen f.within));
-          grows = put-grows r T seen f.within;
-          few = put-most r T seen f.within N few f.room;
+          grows = put_grows r T seen f.within;
+          few = put_most r T seen f.within N few f.room;
         })

@@ -16,7 +16,7 @@ use Rattle.move_ledger.specs.Graph.{Load, at, members, occupied, mult, edge, gai
 use Rattle.move_ledger.specs.GraphLaws.{occupy, edge-source, edge-target}
 use Rattle.move_ledger.specs.LoadLaws.{InOrder}
 use Rattle.move_ledger.specs.Nodes.{placed, Placing, sources, targets, node_mult}
-use Rattle.move_ledger.specs.NodeLaws.{placed-length, members_nodes}
+use Rattle.move_ledger.specs.NodeLaws.{placed-length, members-nodes}
 use Rattle.move_ledger.specs.NodeWalks.{mult-nodes, mult-outside, ends-nodes}
 use Rattle.move_ledger.specs.Chunks.{pair_sum}
 
@@ -70,7 +70,7 @@ module _ {load : Load} {nodes nodes' sets : List ℕ} (o : InOrder load) (p : Pl
           Y = at sets y
 
           there : (z : ℕ) → z < length sets → has (at sets z) Q ≡ true → occupied load nodes' z ≡ true
-          there z c h = ap (ltb 0) (members_nodes q z c) ∙ busy (at sets z) h
+          there z c h = ap (ltb 0) (members-nodes q z c) ∙ busy (at sets z) h
 
           by : (t : Bool) → ltb 0 (mult load Q X Y) ≡ t
               → cond (occupied load nodes' x) (cond (occupied load nodes' y) (ind (t && not (ltb 0 (mult load P X Y)))) 0) 0 ≡ ind (eqb (mult load P X Y) 0 && t)
@@ -79,8 +79,8 @@ module _ {load : Load} {nodes nodes' sets : List ℕ} (o : InOrder load) (p : Pl
       go (yes a) (no b) = rw (out y b, mult-outside o q x y (λ c d. b d)) (none (occupied load nodes' x) ∙ sym (ap ind (and-false (eqb (node_mult load nodes sets x y) 0))))
       go (no a) b = rw (out x a, mult-outside o q x y (λ c d. a c)) (sym (ap ind (and-false (eqb (node_mult load nodes sets x y) 0))))
 
-  pub gained-cells : gained load P Q ≡ count (λ i. eqb (flat (sources load nodes sets) (targets load nodes sets) n m i) 0 && ltb 0 (flat (sources load nodes' sets) (targets load nodes' sets) n m i)) (n * n)
+  pub gained_cells : gained load P Q ≡ count (λ i. eqb (flat (sources load nodes sets) (targets load nodes sets) n m i) 0 && ltb 0 (flat (sources load nodes' sets) (targets load nodes' sets) n m i)) (n * n)
   unfolding gained
-  gained-cells =
+  gained_cells =
       pair_sum q (λ X Y. ind (edge load Q X Y && not (edge load P X Y))) cell n few one
       ∙ sym (count-total (λ i. eqb (flat (sources load nodes sets) (targets load nodes sets) n m i) 0 && ltb 0 (flat (sources load nodes' sets) (targets load nodes' sets) n m i)) (n * n))

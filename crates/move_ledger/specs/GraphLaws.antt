@@ -9,13 +9,13 @@ use Rattle.graphs.specs.Bools.{and_left, and_right, and_both, alike}
 use Rattle.graphs.specs.Count.{count, count_pos, count-found}
 use Rattle.graphs.specs.Lists.{has, has-at}
 use Rattle.graphs.specs.Walk.{Walk, via, cyclic, only}
-use Rattle.graphs.specs.Walks.{join, closed, via-walk, cyclic-walk, acyclic-walk, only-walk}
+use Rattle.graphs.specs.Walks.{join, closed, via_walk, cyclic_walk, acyclic_walk, only_walk}
 use Rattle.move_ledger.specs.Graph.{Load, none, at, owner, lies, members, occupied, entry, facade, mult, edge}
 
 module _ (load : Load) (p : List ℕ) (X : ℕ) where
-  pub lies-atom : (i : ℕ) → lies load p i X ≡ true → i < load.A
+  pub lies_atom : (i : ℕ) → lies load p i X ≡ true → i < load.A
   unfolding lies
-  lies-atom i h = ltb-true i _ (and_left (ltb i load.A) _ h)
+  lies_atom i h = ltb-true i _ (and_left (ltb i load.A) _ h)
 
   pub lies-set : (i : ℕ) → lies load p i X ≡ true → at p i ≡ X
   unfolding lies
@@ -76,9 +76,9 @@ pub data Why (load : Load) (p : List ℕ) (X Y : ℕ) : Type 0 where
   by_facade : (e : ℕ) → e < load.E → Faces load p X Y e → Why load p X Y
 
 module _ (load : Load) (p : List ℕ) (X Y : ℕ) where
-  pub edge-why : edge load p X Y ≡ true → (X ≡ Y → ⊥) × Why load p X Y
+  pub edge_why : edge load p X Y ≡ true → (X ≡ Y → ⊥) × Why load p X Y
   unfolding edge mult
-  edge-why h = go (eqb X Y) refl (ltb-true 0 _ h)
+  edge_why h = go (eqb X Y) refl (ltb-true 0 _ h)
     where
       n : ℕ
       n = count (entry load p X Y) load.D
@@ -96,9 +96,9 @@ module _ (load : Load) (p : List ℕ) (X Y : ℕ) where
       go true q l = absurd (omega arith)
       go false q l = (eqb-false X Y q, why (ltb 0 n) refl l)
 
-  pub why-edge : (X ≡ Y → ⊥) → Why load p X Y → edge load p X Y ≡ true
+  pub why_edge : (X ≡ Y → ⊥) → Why load p X Y → edge load p X Y ≡ true
   unfolding edge mult
-  why-edge d w = rw (ne_eqb X Y d) (lt-ltb 0 _ (go w))
+  why_edge d w = rw (ne_eqb X Y d) (lt-ltb 0 _ (go w))
     where
       go : Why load p X Y → 0 < count (entry load p X Y) load.D + count (facade load p X Y) load.E
       go (by_entry k l h) = omega (arith, count_pos (entry load p X Y) load.D k l h)
@@ -111,18 +111,18 @@ module _ (load : Load) (p : List ℕ) (n : length p ≡ load.A) where
   held X i l q = rw (← q) (has-at p i (omega arith))
 
   pub edge-source : (X Y : ℕ) → edge load p X Y ≡ true → has X p ≡ true
-  edge-source X Y h = go (edge-why load p X Y h).1
+  edge-source X Y h = go (edge_why load p X Y h).1
     where
       go : Why load p X Y → has X p ≡ true
-      go (by_entry k l q) = let r = (entry-lies load p X Y k q).0 in held X _ (lies-atom load p X _ r) (lies-set load p X _ r)
+      go (by_entry k l q) = let r = (entry-lies load p X Y k q).0 in held X _ (lies_atom load p X _ r) (lies-set load p X _ r)
       go (by_facade e l q) = let r = occupied-by load p X q.here in held X r.0 r.1 r.2
 
   pub edge-target : (X Y : ℕ) → edge load p X Y ≡ true → has Y p ≡ true
-  edge-target X Y h = go (edge-why load p X Y h).1
+  edge-target X Y h = go (edge_why load p X Y h).1
     where
       go : Why load p X Y → has Y p ≡ true
-      go (by_entry k l q) = let r = (entry-lies load p X Y k q).1 in held Y _ (lies-atom load p Y _ r) (lies-set load p Y _ r)
-      go (by_facade e l q) = held Y _ (lies-atom load p Y _ q.there) (lies-set load p Y _ q.there)
+      go (by_entry k l q) = let r = (entry-lies load p X Y k q).1 in held Y _ (lies_atom load p Y _ r) (lies-set load p Y _ r)
+      go (by_facade e l q) = held Y _ (lies_atom load p Y _ q.there) (lies-set load p Y _ q.there)
 
 -- two placements that differ at atom a only
 pub record Apart (p q : List ℕ) (a : ℕ) : Type 0 where
@@ -140,10 +140,10 @@ module _ (load : Load) {p q : List ℕ} {a : ℕ} (s : Apart p q a) where
   stays X i d h = sym (s.else i (λ z. d (sym h ∙ ap (at p) z))) ∙ h
 
   lies-kept : (X i : ℕ) → (X ≡ at p a → ⊥) → lies load p i X ≡ true → lies load q i X ≡ true
-  lies-kept X i d h = lies_in load q X i (lies-atom load p X i h) (stays X i d (lies-set load p X i h))
+  lies-kept X i d h = lies_in load q X i (lies_atom load p X i h) (stays X i d (lies-set load p X i h))
 
   pub edge_kept : (X Y : ℕ) → (X ≡ at p a → ⊥) → (Y ≡ at p a → ⊥) → edge load p X Y ≡ true → edge load q X Y ≡ true
-  edge_kept X Y c d h = let r = edge-why load p X Y h in why-edge load q X Y r.0 (go r.1)
+  edge_kept X Y c d h = let r = edge_why load p X Y h in why_edge load q X Y r.0 (go r.1)
     where
       go : Why load p X Y → Why load q X Y
       go (by_entry k l t) = let r = entry-lies load p X Y k t in by_entry k l (lies-entry load q X Y k (lies-kept X _ c r.0) (lies-kept Y _ d r.1))
@@ -171,19 +171,19 @@ module _ (load : Load) (p : List ℕ) (a T : ℕ) (n : length p ≡ load.A) wher
 
       go : (t : Bool) → cyclic (edge load (set p a T)) (set p a T) ≡ t → t ≡ true
       go true q = refl
-      go false q = absurd (true≢false (sym ((only-walk (edge load p) p (edge-source load p n) f).1 (join c.1 c.0, λ Y w. let r = meets Y w in (r.1, r.0))) ∙ o))
+      go false q = absurd (true≢false (sym ((only_walk (edge load p) p (edge-source load p n) f).1 (join c.1 c.0, λ Y w. let r = meets Y w in (r.1, r.0))) ∙ o))
         where
           meets : (Y : ℕ) → Walk (edge load p) Y Y → Walk (edge load p) Y f × Walk (edge load p) f Y
           meets Y w =
-              ⊎_elim (λ u. absurd ((acyclic-walk (edge load (set p a T)) (set p a T) (edge-source load (set p a T) moved_length)).0 q Y u)) (λ v. v)
+              ⊎_elim (λ u. absurd ((acyclic_walk (edge load (set p a T)) (set p a T) (edge-source load (set p a T) moved_length)).0 q Y u)) (λ v. v)
               (closed f (edge_kept load (apart_back p a T)) Y w)
 
-          c : Walk (edge load p) ((cyclic-walk (edge load p) p (edge-source load p n)).0 h).0 f × Walk (edge load p) f ((cyclic-walk (edge load p) p (edge-source load p n)).0 h).0
-          c = meets _ ((cyclic-walk (edge load p) p (edge-source load p n)).0 h).1
+          c : Walk (edge load p) ((cyclic_walk (edge load p) p (edge-source load p n)).0 h).0 f × Walk (edge load p) f ((cyclic_walk (edge load p) p (edge-source load p n)).0 h).0
+          c = meets _ ((cyclic_walk (edge load p) p (edge-source load p n)).0 h).1
 
   -- from an acyclic graph it is enough to walk from the target: edges between sets other than it were there before
-  pub target-decides : a < load.A → cyclic (edge load p) p ≡ false → cyclic (edge load (set p a T)) (set p a T) ≡ via (edge load (set p a T)) (set p a T) T T
-  target-decides b h = alike _ _ there (λ r. (cyclic-walk (edge load q) q from).1 (T, (via-walk (edge load q) q from T T).0 r))
+  pub target_decides : a < load.A → cyclic (edge load p) p ≡ false → cyclic (edge load (set p a T)) (set p a T) ≡ via (edge load (set p a T)) (set p a T) T T
+  target_decides b h = alike _ _ there (λ r. (cyclic_walk (edge load q) q from).1 (T, (via_walk (edge load q) q from T T).0 r))
     where
       q : List ℕ
       q = set p a T
@@ -199,6 +199,6 @@ module _ (load : Load) (p : List ℕ) (a T : ℕ) (n : length p ≡ load.A) wher
 
       there : cyclic (edge load q) q ≡ true → via (edge load q) q T T ≡ true
       there g =
-          let w = (cyclic-walk (edge load q) q from).0 g in
-          (via-walk (edge load q) q from T T).1
-          (⊎_elim (λ u. absurd ((acyclic-walk (edge load p) p (edge-source load p n)).0 h w.0 u)) (λ v. join v.1 v.0) (closed T keep w.0 w.1))
+          let w = (cyclic_walk (edge load q) q from).0 g in
+          (via_walk (edge load q) q from T T).1
+          (⊎_elim (λ u. absurd ((acyclic_walk (edge load p) p (edge-source load p n)).0 h w.0 u)) (λ v. join v.1 v.0) (closed T keep w.0 w.1))

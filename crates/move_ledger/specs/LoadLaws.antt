@@ -80,9 +80,9 @@ row4_starts load h =
     falling i = ltb (at load.starts (suc i)) (at load.starts i)
 
 module _ {load : Load} (s : Starts load) where
-  pub starts-up : (j i : ℕ) → i ≤ j → j ≤ load.A → at load.starts i ≤ at load.starts j
-  starts-up zero i a b = let e : i ≡ 0 = omega arith in rw e (omega arith)
-  starts-up (suc j) i a b = go (ℕ_discrete i (suc j)) (starts-up j i)
+  pub starts_up : (j i : ℕ) → i ≤ j → j ≤ load.A → at load.starts i ≤ at load.starts j
+  starts_up zero i a b = let e : i ≡ 0 = omega arith in rw e (omega arith)
+  starts_up (suc j) i a b = go (ℕ_discrete i (suc j)) (starts_up j i)
     where
       go : Dec (i ≡ suc j) → (i ≤ j → j ≤ load.A → at load.starts i ≤ at load.starts j) → at load.starts i ≤ at load.starts (suc j)
       go (yes e) f = rw e (omega arith)
@@ -91,18 +91,18 @@ module _ {load : Load} (s : Starts load) where
   ends : ℕ → ℕ → Bool
   ends k i = leb (at load.starts (suc i)) k
 
-  ends-falls : (k i : ℕ) → i < load.A → (ends k i ≡ true) ↔ (i < owner load k)
+  ends_falls : (k i : ℕ) → i < load.A → (ends k i ≡ true) ↔ (i < owner load k)
   unfolding owner ends
-  ends-falls k i l =
+  ends_falls k i l =
       falls (ends k) load.A
-      (λ i j a b h. le-leb (at load.starts (suc i)) k (omega (arith, leb-true (at load.starts (suc j)) k h, starts-up (suc j) (suc i) (omega arith) (omega arith)))) i l
+      (λ i j a b h. le-leb (at load.starts (suc i)) k (omega (arith, leb-true (at load.starts (suc j)) k h, starts_up (suc j) (suc i) (omega arith) (omega arith)))) i l
 
   owned : (k : ℕ) → k < load.D → (owner load k < load.A) × (at load.starts (owner load k) ≤ k) × (k < at load.starts (suc (owner load k)))
   unfolding ends
   owned k l = (small, from (owner load k) refl, upto)
     where
       last : (m : ℕ) → load.A ≡ suc m → Dec (m < owner load k) → owner load k < load.A
-      last m e (yes h) = absurd (omega (arith, leb-true (at load.starts (suc m)) k ((ends-falls k m (omega arith)).1 h), ap (at load.starts) e, s.last))
+      last m e (yes h) = absurd (omega (arith, leb-true (at load.starts (suc m)) k ((ends_falls k m (omega arith)).1 h), ap (at load.starts) e, s.last))
       last m e (no h) = omega arith
 
       small_at : (n : ℕ) → load.A ≡ n → owner load k < load.A
@@ -114,26 +114,26 @@ module _ {load : Load} (s : Starts load) where
 
       from : (c : ℕ) → owner load k ≡ c → at load.starts c ≤ k
       from zero e = omega (arith, s.first)
-      from (suc c) e = leb-true _ _ ((ends-falls k c (omega (arith, small))).1 (omega arith))
+      from (suc c) e = leb-true _ _ ((ends_falls k c (omega (arith, small))).1 (omega arith))
 
       upto : k < at load.starts (suc (owner load k))
-      upto = leb-false _ _ (fails _ (λ h. omega (arith, (ends-falls k (owner load k) small).0 h)))
+      upto = leb-false _ _ (fails _ (λ h. omega (arith, (ends_falls k (owner load k) small).0 h)))
 
   -- the owner of an entry is the one atom between whose starts it lies
-  pub owner-is : (k i : ℕ) → i < load.A → at load.starts i ≤ k → k < at load.starts (suc i) → owner load k ≡ i
+  pub owner_is : (k i : ℕ) → i < load.A → at load.starts i ≤ k → k < at load.starts (suc i) → owner load k ≡ i
   unfolding ends
-  owner-is k i l a b = go i refl
+  owner_is k i l a b = go i refl
     where
       low : owner load k ≤ i
       low = pick (dec_lt i (owner load k))
         where
           pick : Dec (i < owner load k) → owner load k ≤ i
-          pick (yes h) = absurd (omega (arith, leb-true (at load.starts (suc i)) k ((ends-falls k i l).1 h)))
+          pick (yes h) = absurd (omega (arith, leb-true (at load.starts (suc i)) k ((ends_falls k i l).1 h)))
           pick (no h) = omega arith
 
       go : (j : ℕ) → i ≡ j → owner load k ≡ i
       go zero e = omega (arith, low)
-      go (suc j) e = omega (arith, low, (ends-falls k j (omega arith)).0 (le-leb (at load.starts (suc j)) k (rw e at a)))
+      go (suc j) e = omega (arith, low, (ends_falls k j (omega arith)).0 (le-leb (at load.starts (suc j)) k (rw e at a)))
 
 pub in_order : (load : Load) → row4 load ≡ false → row5 load ≡ false → row6 load ≡ false → InOrder load
 unfolding row5 row6
@@ -226,8 +226,8 @@ module _ (load : Load) (fixed : List ℕ) (N : ℕ) (sets : List ℕ) (size : �
       go true e f = (eqb-true _ _ e, f)
       go false e f = absurd (eqb-false _ _ e f)
 
-  pub loading-row-none : loading_row load fixed N sets size ≡ 0 → Loadable-sets load N sets size
-  loading-row-none h =
+  pub loading_row-none : loading_row load fixed N sets size ≡ 0 → Loadable-sets load N sets size
+  loading_row-none h =
       let b = both-none h in
       let l = first_row-none load N lists size b.0 in
       let p₇ = none-fits (row7 load sets) 7 _ (omega arith) b.1 in
@@ -239,16 +239,16 @@ module _ (load : Load) (fixed : List ℕ) (N : ℕ) (sets : List ℕ) (size : �
       }
 
   -- and a later call's rows 1 to 6 don't
-  pub loading-row-later : loading_row load fixed N sets size ≡ 0 → refusal load fixed N size ≡ 0
-  loading-row-later h =
+  pub loading_row-later : loading_row load fixed N sets size ≡ 0 → refusal load fixed N size ≡ 0
+  loading_row-later h =
       let q = (both-none h).0 in
       let l = (first_row-none load N lists size q).lengths in
       subst (λ t. first_row load N t size ≡ 0) (l ∙ sym (and_left (marks_fit load fixed) _ l)) q
 
   -- a loading is refused exactly where a row fits
-  pub loading-unrefused : is_refused (loading load fixed N sets size) ≡ false → loading_row load fixed N sets size ≡ 0
+  pub loading_unrefused : is_refused (loading load fixed N sets size) ≡ false → loading_row load fixed N sets size ≡ 0
   unfolding loading
-  loading-unrefused h = go (eqb (loading_row load fixed N sets size) 0) refl h
+  loading_unrefused h = go (eqb (loading_row load fixed N sets size) 0) refl h
     where
       c : Bool
       c = cyclic (edge load (entry_sets load sets)) (entry_sets load sets)
@@ -260,19 +260,19 @@ module _ (load : Load) (fixed : List ℕ) (N : ℕ) (sets : List ℕ) (size : �
 
 -- what the rows 7 and 8 leave, number by number
 module _ (load : Load) (sets : List ℕ) where
-  pub row7-small : row7 load sets ≡ false → (i : ℕ) → i < load.A → lent_set load sets i < 2 ^ load.E
+  pub row7_small : row7 load sets ≡ false → (i : ℕ) → i < load.A → lent_set load sets i < 2 ^ load.E
   unfolding row7
-  row7-small h i l = leb-false _ _ (some_none (λ i. leb (2 ^ load.E) (lent_set load sets i)) load.A h i l)
+  row7_small h i l = leb-false _ _ (some_none (λ i. leb (2 ^ load.E) (lent_set load sets i)) load.A h i l)
 
-  pub row8-apart : row8 load sets ≡ false → (i j : ℕ) → j < i → i < load.A → lent_set load sets j ≡ lent_set load sets i → ⊥
+  pub row8_apart : row8 load sets ≡ false → (i j : ℕ) → j < i → i < load.A → lent_set load sets j ≡ lent_set load sets i → ⊥
   unfolding row8
-  row8-apart h i j a b =
+  row8_apart h i j a b =
       eqb-false _ _ (some_none (λ j. eqb (lent_set load sets j) (lent_set load sets i)) i (some_none (λ i. some_below (λ j. eqb (lent_set load sets j) (lent_set load sets i)) i) load.A h i b) j a)
 
-  pub entry-sets-length : length (entry_sets load sets) ≡ load.A
+  pub entry_sets-length : length (entry_sets load sets) ≡ load.A
   unfolding entry_sets
-  entry-sets-length = tab-length (lent_set load sets) load.A
+  entry_sets-length = tab-length (lent_set load sets) load.A
 
-  pub entry-sets-at : (i : ℕ) → i < load.A → at (entry_sets load sets) i ≡ lent_set load sets i
+  pub entry_sets-at : (i : ℕ) → i < load.A → at (entry_sets load sets) i ≡ lent_set load sets i
   unfolding entry_sets
-  entry-sets-at i l = tab-at (lent_set load sets) load.A i l
+  entry_sets-at i l = tab-at (lent_set load sets) load.A i l

@@ -49,36 +49,36 @@ choose_accepted false false false false false true r h = absurd (true≢false (s
 choose_accepted false false false false false false r h = record { passed = record { at10 = refl; at24 = refl; at11 = refl; at12 = refl }; inside = refl; no_cycle = refl }
 
 module _ (load : Load) (fixed place : List ℕ) (a : ℕ) (s : List ℕ) where
-  pub decide-chooses : decide load fixed place a s
+  pub decide_chooses : decide load fixed place a s
       ≡ choose (leb load.A a) (stays fixed a) (not (legal load.E s)) (eqb (value s) (at place a)) (step1 load place a) (cyclic (edge load (set place a (value s))) (set place a (value s)))
       (report load place (set place a (value s)) (value s))
   unfolding decide choose
-  decide-chooses = refl
+  decide_chooses = refl
 
   pub decide-passed : is_refused (decide load fixed place a s) ≡ false → Passed (leb load.A a) (stays fixed a) (not (legal load.E s)) (eqb (value s) (at place a))
-  decide-passed h = choose-passed _ _ _ _ _ _ _ (subst (λ x. is_refused x ≡ false) decide-chooses h)
+  decide-passed h = choose-passed _ _ _ _ _ _ _ (subst (λ x. is_refused x ≡ false) decide_chooses h)
 
-  pub decide-accepted : is_accepted (decide load fixed place a s) ≡ true
+  pub decide_accepted : is_accepted (decide load fixed place a s) ≡ true
       → Accepted (leb load.A a) (stays fixed a) (not (legal load.E s)) (eqb (value s) (at place a)) (step1 load place a) (cyclic (edge load (set place a (value s))) (set place a (value s)))
-  decide-accepted h = choose_accepted _ _ _ _ _ _ _ (subst (λ x. is_accepted x ≡ true) decide-chooses h)
+  decide_accepted h = choose_accepted _ _ _ _ _ _ _ (subst (λ x. is_accepted x ≡ true) decide_chooses h)
 
   -- past its rows a move is decided by its steps
   pub decide-late : Passed (leb load.A a) (stays fixed a) (not (legal load.E s)) (eqb (value s) (at place a))
       → decide load fixed place a s ≡ cond (step1 load place a || cyclic (edge load (set place a (value s))) (set place a (value s))) rejected (accepted (report load place (set place a (value s)) (value s)))
   unfolding choose
-  decide-late p = decide-chooses ∙ rw (p.at10, p.at24, p.at11, p.at12) refl
+  decide-late p = decide_chooses ∙ rw (p.at10, p.at24, p.at11, p.at12) refl
 
-  pub decide-unrefused : Passed (leb load.A a) (stays fixed a) (not (legal load.E s)) (eqb (value s) (at place a)) → is_refused (decide load fixed place a s) ≡ false
-  decide-unrefused p = ap is_refused (decide-late p) ∙ go (step1 load place a || cyclic (edge load (set place a (value s))) (set place a (value s)))
+  pub decide_unrefused : Passed (leb load.A a) (stays fixed a) (not (legal load.E s)) (eqb (value s) (at place a)) → is_refused (decide load fixed place a s) ≡ false
+  decide_unrefused p = ap is_refused (decide-late p) ∙ go (step1 load place a || cyclic (edge load (set place a (value s))) (set place a (value s)))
     where
       go : (t : Bool) → is_refused (cond t rejected (accepted (report load place (set place a (value s)) (value s)))) ≡ false
       go true = refl
       go false = refl
 
   -- what step 1 rejects, step 3 would reject too: the moved graph alone decides
-  pub decide-exactly : length place ≡ load.A → is_refused (decide load fixed place a s) ≡ false
+  pub decide_exactly : length place ≡ load.A → is_refused (decide load fixed place a s) ≡ false
       → decide load fixed place a s ≡ cond (cyclic (edge load (set place a (value s))) (set place a (value s))) rejected (accepted (report load place (set place a (value s)) (value s)))
-  decide-exactly n u = decide-late (decide-passed u) ∙ ap (λ t. cond t rejected (accepted (report load place (set place a (value s)) (value s)))) (go (step1 load place a) refl)
+  decide_exactly n u = decide-late (decide-passed u) ∙ ap (λ t. cond t rejected (accepted (report load place (set place a (value s)) (value s)))) (go (step1 load place a) refl)
     where
       go : (t : Bool) → step1 load place a ≡ t → (t || cyclic (edge load (set place a (value s))) (set place a (value s))) ≡ cyclic (edge load (set place a (value s))) (set place a (value s))
       go true h = sym (outside-stays load place a (value s) n (and_left (cyclic (edge load place) place) _ h) (not-true _ (and_right (cyclic (edge load place) place) _ h)))
@@ -90,14 +90,14 @@ module _ (load : Load) (fixed : List ℕ) (N : ℕ) (l : Ledger) (a : ℕ) (s : 
   x = decide load fixed l.place a s
 
   -- a refused move changes nothing
-  pub refused-keeps : is_refused (decide load fixed l.place a s) ≡ true → (move load fixed N l a s).after ≡ l
+  pub refused_keeps : is_refused (decide load fixed l.place a s) ≡ true → (move load fixed N l a s).after ≡ l
   unfolding move
-  refused-keeps h = rw h refl
+  refused_keeps h = rw h refl
 
   -- nor does one that step 1 rejects
-  pub step1-keeps : step1 load l.place a ≡ true → (move load fixed N l a s).after ≡ l
+  pub step1_keeps : step1 load l.place a ≡ true → (move load fixed N l a s).after ≡ l
   unfolding move
-  step1-keeps h = rw h (go (is_refused x) _)
+  step1_keeps h = rw h (go (is_refused x) _)
     where
       go : (r : Bool) (m : Ledger) → cond (not (r || true)) m l ≡ l
       go true m = refl
@@ -115,7 +115,7 @@ module _ (load : Load) (fixed : List ℕ) (N : ℕ) (l : Ledger) (a : ℕ) (s : 
   place_after = go (is_accepted x) refl
     where
       go : (t : Bool) → is_accepted x ≡ t → (move load fixed N l a s).after.place ≡ cond t (set l.place a (value s)) l.place
-      go true h = let y = decide-accepted load fixed l.place a s h in rw (decide-unrefused load fixed l.place a s y.passed, y.inside, h) refl
+      go true h = let y = decide_accepted load fixed l.place a s h in rw (decide_unrefused load fixed l.place a s y.passed, y.inside, h) refl
       go false h = keeps (is_refused x) (step1 load l.place a)
         where
           keeps : (r s1 : Bool) → (cond (not (r || s1)) (cond (is_accepted x) (step3 load N l a (value s)) (step2 load N l (value s))) l).place ≡ l.place
@@ -124,11 +124,11 @@ module _ (load : Load) (fixed : List ℕ) (N : ℕ) (l : Ledger) (a : ℕ) (s : 
           keeps false false = rw h refl
 
   -- 02: "forms stay in their chunk": a fixed atom has its set
-  pub fixed-atom : (b : ℕ) → stays fixed b ≡ true → at (move load fixed N l a s).after.place b ≡ at l.place b
-  fixed-atom b h = ap (λ p. at p b) place_after ∙ go (is_accepted x) refl
+  pub fixed_atom : (b : ℕ) → stays fixed b ≡ true → at (move load fixed N l a s).after.place b ≡ at l.place b
+  fixed_atom b h = ap (λ p. at p b) place_after ∙ go (is_accepted x) refl
     where
       go : (t : Bool) → is_accepted x ≡ t → at (cond t (set l.place a (value s)) l.place) b ≡ at l.place b
-      go true e = get_or-set_other l.place a b (value s) 0 (λ z. true≢false (sym h ∙ ap (stays fixed) z ∙ (decide-accepted load fixed l.place a s e).passed.at24))
+      go true e = get_or-set_other l.place a b (value s) 0 (λ z. true≢false (sym h ∙ ap (stays fixed) z ∙ (decide_accepted load fixed l.place a s e).passed.at24))
       go false e = refl
 
   -- the target is registered where the move is tried, accepted or not; which sets are empty is a matter of the placement before the move
@@ -142,10 +142,10 @@ module _ (load : Load) (fixed : List ℕ) (N : ℕ) (l : Ledger) (a : ℕ) (s : 
       go false false = refl
 
   -- what holds of the ledger before, and of what steps 2 and 3 make of it, holds afterwards
-  pub move-keeps : (P : Ledger → Type 0) → P l → (is_refused (decide load fixed l.place a s) ≡ false → P (step2 load N l (value s)))
+  pub move_keeps : (P : Ledger → Type 0) → P l → (is_refused (decide load fixed l.place a s) ≡ false → P (step2 load N l (value s)))
       → (is_refused (decide load fixed l.place a s) ≡ false → P (step3 load N l a (value s))) → P (move load fixed N l a s).after
   unfolding move
-  move-keeps P p₁ p₂ p₃ = go (is_refused x) refl (step1 load l.place a) (is_accepted x)
+  move_keeps P p₁ p₂ p₃ = go (is_refused x) refl (step1 load l.place a) (is_accepted x)
     where
       go : (r : Bool) → is_refused x ≡ r → (s1 t : Bool) → P (cond (not (r || s1)) (cond t (step3 load N l a (value s)) (step2 load N l (value s))) l)
       go true q s1 t = p₁
@@ -156,7 +156,7 @@ module _ (load : Load) (fixed : List ℕ) (N : ℕ) (l : Ledger) (a : ℕ) (s : 
 -- the ledger goes on with as many atoms
 pub call_length : (load : Load) (fixed : List ℕ) (N : ℕ) (l : Ledger) (c : Call) → length l.place ≡ load.A → length (call load fixed N l c).after.place ≡ load.A
 unfolding call
-call_length load fixed N l (try_move a s) h = move-keeps load fixed N l a s (λ m. length m.place ≡ load.A) h (λ u. h) (λ u. rw length-set h)
+call_length load fixed N l (try_move a s) h = move_keeps load fixed N l a s (λ m. length m.place ≡ load.A) h (λ u. h) (λ u. rw length-set h)
 call_length load fixed N l (asks q) h = h
 
 pub ledger-length : (load : Load) (fixed : List ℕ) (N : ℕ) (l : Ledger) (cs : List Call) → length l.place ≡ load.A → length (ledger load fixed N l cs).place ≡ load.A

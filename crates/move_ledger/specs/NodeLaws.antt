@@ -32,9 +32,9 @@ placed-set (x ∷ l) sets zero y = refl
 placed-set (x ∷ l) sets (suc a) y = ap (λ r. at sets x ∷ r) (placed-set l sets a y)
 
 -- a node's atom count is its set's
-pub members_nodes : {load : Load} {nodes sets : List ℕ} → Placing load nodes sets → (x : ℕ) → x < length sets → members load nodes x ≡ members load (placed nodes sets) (at sets x)
+pub members-nodes : {load : Load} {nodes sets : List ℕ} → Placing load nodes sets → (x : ℕ) → x < length sets → members load nodes x ≡ members load (placed nodes sets) (at sets x)
 unfolding members
-members_nodes {load} {nodes} {sets} p x b =
+members-nodes {load} {nodes} {sets} p x b =
     count_ext _ _ load.A (λ i l. let c : i < length nodes = omega (arith, p.atoms) in
     alike _ _ (λ h. eq-eqb _ _ (placed_at nodes sets i c ∙ ap (at sets) (eqb-true _ _ h)))
     (λ h. eq-eqb _ _ (p.distinct _ _ (p.inside i l) b (sym (placed_at nodes sets i c) ∙ eqb-true _ _ h))))
@@ -96,21 +96,21 @@ module _ (load : Load) (nodes sets : List ℕ) where
   target-entry k l = tab-at (target load nodes sets) (load.D + load.E) k (omega arith) ∙ rw (lt-ltb k load.D l) refl
 
   -- slots of facade edges
-  pub source-face : (e : ℕ) → e < load.E → get_or (sources load nodes sets) (load.D + e) 0 ≡ face_source (front load nodes sets e) (at load.hosts e)
+  pub source_face : (e : ℕ) → e < load.E → get_or (sources load nodes sets) (load.D + e) 0 ≡ face_source (front load nodes sets e) (at load.hosts e)
   unfolding sources source
-  source-face e l =
+  source_face e l =
       let z : load.D + e - load.D ≡ e = omega arith in
       tab-at (source load nodes sets) (load.D + load.E) (load.D + e) (omega arith) ∙ rw (le-ltb (load.D + e) load.D (omega arith), z) refl
 
-  pub target-face : (e : ℕ) → e < load.E → get_or (targets load nodes sets) (load.D + e) 0 ≡ face_target nodes (front load nodes sets e) (at load.hosts e)
+  pub target_face : (e : ℕ) → e < load.E → get_or (targets load nodes sets) (load.D + e) 0 ≡ face_target nodes (front load nodes sets e) (at load.hosts e)
   unfolding targets target
-  target-face e l =
+  target_face e l =
       let z : load.D + e - load.D ≡ e = omega arith in
       tab-at (target load nodes sets) (load.D + load.E) (load.D + e) (omega arith) ∙ rw (le-ltb (load.D + e) load.D (omega arith), z) refl
 
-  facing-of : (e : ℕ) → length sets ≤ none → Facing load nodes sets e (face_source (front load nodes sets e) (at load.hosts e)) (face_target nodes (front load nodes sets e) (at load.hosts e))
+  facing_of : (e : ℕ) → length sets ≤ none → Facing load nodes sets e (face_source (front load nodes sets e) (at load.hosts e)) (face_target nodes (front load nodes sets e) (at load.hosts e))
   unfolding front face_source face_target
-  facing-of e few = go (ℕ_discrete (at load.hosts e) none) (highest_is (fronts load nodes sets e) (length sets))
+  facing_of e few = go (ℕ_discrete (at load.hosts e) none) (highest_is (fronts load nodes sets e) (length sets))
     where
       h : ℕ
       h = at load.hosts e
@@ -126,5 +126,5 @@ module _ (load : Load) (nodes sets : List ℕ) where
       go (no q) (nowhere r g) =
           let z : faced f h ≡ false = ap (λ t. not t && not (eqb h none)) (eq-eqb f none r) in rw z (blank refl refl q g)
 
-  pub slot-facing : (e : ℕ) → e < load.E → length sets ≤ none → Facing load nodes sets e (get_or (sources load nodes sets) (load.D + e) 0) (get_or (targets load nodes sets) (load.D + e) 0)
-  slot-facing e l few = rw (source-face e l, target-face e l) (facing-of e few)
+  pub slot_facing : (e : ℕ) → e < load.E → length sets ≤ none → Facing load nodes sets e (get_or (sources load nodes sets) (load.D + e) 0) (get_or (targets load nodes sets) (load.D + e) 0)
+  slot_facing e l few = rw (source_face e l, target_face e l) (facing_of e few)

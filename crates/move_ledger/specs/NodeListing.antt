@@ -95,5 +95,5 @@ module _ {load : Load} {nodes sets order : List ℕ} (o : InOrder load) (p : Pla
       same = rw (mult-at i j a b, placed_at order sets i a, placed_at order sets j b) refl
 
   -- "past the last edge the answer is none"
-  pub edge-past-nodes : (k : ℕ) → in_rows load nodes sets order (length order) ≤ k → kth (edges load (placed nodes sets)) k ≡ answer.none
-  edge-past-nodes k h = kth_past (edges load (placed nodes sets)) k (omega (arith, edge-count-nodes))
+  pub edge_past_nodes : (k : ℕ) → in_rows load nodes sets order (length order) ≤ k → kth (edges load (placed nodes sets)) k ≡ answer.none
+  edge_past_nodes k h = kth_past (edges load (placed nodes sets)) k (omega (arith, edge-count-nodes))

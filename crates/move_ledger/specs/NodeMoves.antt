@@ -6,9 +6,9 @@ use Rattle.graphs.specs.Lists.{below}
 use Rattle.graphs.specs.Tab.{tab, tab-length, tab-at}
 use Rattle.graphs.specs.Walk.{via, cyclic, only}
 use Rattle.move_ledger.specs.Graph.{Load, at, edge}
-use Rattle.move_ledger.specs.GraphLaws.{target-decides}
+use Rattle.move_ledger.specs.GraphLaws.{target_decides}
 use Rattle.move_ledger.specs.Ledger.{step1}
-use Rattle.move_ledger.specs.LoadLaws.{InOrder, Loadable-sets, row8-apart, entry-sets-length, entry-sets-at}
+use Rattle.move_ledger.specs.LoadLaws.{InOrder, Loadable-sets, row8_apart, entry_sets-length, entry_sets-at}
 use Rattle.move_ledger.specs.Loading.{lent_set, entry_sets}
 use Rattle.move_ledger.specs.Nodes.{placed, Placing, node_edge}
 use Rattle.move_ledger.specs.NodeLaws.{placed-length, placed_at, placed-set}
@@ -25,11 +25,11 @@ placed_first sets n e =
 
 pub placing_first : {load : Load} {N : ℕ} {sets : List ℕ} {size : ℕ} → Loadable-sets load N sets size → Placing load (tab (λ i. i) load.A) (entry_sets load sets)
 placing_first {load} {N} {sets} {size} r =
-    let long : length (entry_sets load sets) ≡ load.A = entry-sets-length load sets in
+    let long : length (entry_sets load sets) ≡ load.A = entry_sets-length load sets in
     record {
       atoms = tab-length _ load.A;
       few = omega (arith, r.loadable.sizes.atoms);
-      distinct = λ x y a b e. one x y (omega arith) (omega arith) (sym (entry-sets-at load sets x (omega arith)) ∙ e ∙ entry-sets-at load sets y (omega arith));
+      distinct = λ x y a b e. one x y (omega arith) (omega arith) (sym (entry_sets-at load sets x (omega arith)) ∙ e ∙ entry_sets-at load sets y (omega arith));
       inside = λ i b. rw (tab-at (λ i. i) load.A i b) (omega arith);
     }
   where
@@ -37,8 +37,8 @@ placing_first {load} {N} {sets} {size} r =
     one x y a b e = pick (dec_lt x y) (dec_lt y x)
       where
         pick : Dec (x < y) → Dec (y < x) → x ≡ y
-        pick (yes h) k = absurd (row8-apart load sets r.eight y x h b e)
-        pick (no h) (yes k) = absurd (row8-apart load sets r.eight x y k a (sym e))
+        pick (yes h) k = absurd (row8_apart load sets r.eight y x h b e)
+        pick (no h) (yes k) = absurd (row8_apart load sets r.eight x y k a (sym e))
         pick (no h) (no k) = omega arith
 
 -- an atom moved to node y
@@ -53,29 +53,29 @@ placing_set {load} {nodes} {sets} p a y b =
 -- the move of atom a to the set T, which has the node y; n is at least the number of nodes
 module _ {load : Load} {nodes sets : List ℕ} (o : InOrder load) (p : Placing load nodes sets) {place : List ℕ} (is : placed nodes sets ≡ place)
     (a T y : ℕ) (b : y < length sets) (e : at sets y ≡ T) (n : ℕ) (wide : length sets ≤ n) where
-  pub placing-moved : Placing load (set nodes a y) sets
-  placing-moved = placing_set p a y b
+  pub placing_moved : Placing load (set nodes a y) sets
+  placing_moved = placing_set p a y b
 
   pub placed-moved : placed (set nodes a y) sets ≡ set place a T
   placed-moved = placed-set nodes sets a y ∙ ap₂ (λ l X. set l a X) is e
 
   -- step 3's test
   pub moved-cyclic : cyclic (edge load (set place a T)) (set place a T) ≡ cyclic (node_edge load (set nodes a y) sets) (below n)
-  moved-cyclic = ap (λ q. cyclic (edge load q) q) (sym placed-moved) ∙ sym (cyclic-nodes o placing-moved n wide)
+  moved-cyclic = ap (λ q. cyclic (edge load q) q) (sym placed-moved) ∙ sym (cyclic-nodes o placing_moved n wide)
 
   -- what the walk from the target's node marks
-  pub moved-reaches : (x : ℕ) → x < length sets → via (edge load (set place a T)) (set place a T) T (at sets x) ≡ via (node_edge load (set nodes a y) sets) (below n) y x
-  moved-reaches x c = ap₂ (λ q X. via (edge load q) q X (at sets x)) (sym placed-moved) (sym e) ∙ sym (via-nodes o placing-moved n wide y x b c)
+  pub moved_reaches : (x : ℕ) → x < length sets → via (edge load (set place a T)) (set place a T) T (at sets x) ≡ via (node_edge load (set nodes a y) sets) (below n) y x
+  moved_reaches x c = ap₂ (λ q X. via (edge load q) q X (at sets x)) (sym placed-moved) (sym e) ∙ sym (via-nodes o placing_moved n wide y x b c)
 
   -- from an acyclic graph, whether it marks that node itself
-  pub moved-decides : a < load.A → cyclic (edge load place) place ≡ false → cyclic (edge load (set place a T)) (set place a T) ≡ via (node_edge load (set nodes a y) sets) (below n) y y
-  moved-decides l h =
-      target-decides load place a T (sym (ap length is) ∙ placed-length nodes sets ∙ p.atoms) l h
-      ∙ ap (λ X. via (edge load (set place a T)) (set place a T) T X) (sym e) ∙ moved-reaches y b
+  pub moved_decides : a < load.A → cyclic (edge load place) place ≡ false → cyclic (edge load (set place a T)) (set place a T) ≡ via (node_edge load (set nodes a y) sets) (below n) y y
+  moved_decides l h =
+      target_decides load place a T (sym (ap length is) ∙ placed-length nodes sets ∙ p.atoms) l h
+      ∙ ap (λ X. via (edge load (set place a T)) (set place a T) T X) (sym e) ∙ moved_reaches y b
 
 -- step 1's test
-pub step1_nodes : {load : Load} {nodes sets : List ℕ} → InOrder load → Placing load nodes sets → (a n : ℕ) → a < load.A → length sets ≤ n
+pub step1-nodes : {load : Load} {nodes sets : List ℕ} → InOrder load → Placing load nodes sets → (a n : ℕ) → a < load.A → length sets ≤ n
     → step1 load (placed nodes sets) a ≡ (cyclic (node_edge load nodes sets) (below n) && not (only (node_edge load nodes sets) (below n) (at nodes a)))
-step1_nodes {load} {nodes} {sets} o p a n l wide =
+step1-nodes {load} {nodes} {sets} o p a n l wide =
     ap₂ (λ c t. c && not t) (sym (cyclic-nodes o p n wide))
     (ap (λ X. only (edge load (placed nodes sets)) (placed nodes sets) X) (placed_at nodes sets a (omega (arith, p.atoms))) ∙ sym (only-nodes o p n wide (at nodes a) (p.inside a l)))

@@ -11,10 +11,10 @@ use Rattle.graphs.specs.Tab.{tab_alike}
 use Rattle.move_ledger.specs.Graph.{Load, none, at, owner, members, occupied}
 use Rattle.move_ledger.specs.GraphLaws.{occupy}
 use Rattle.move_ledger.specs.Ledger.{put, free_place, register}
-use Rattle.move_ledger.specs.Places.{Apart, put-grows, put-inside, put-behind, put_other, put_apart}
-use Rattle.move_ledger.specs.Evict.{Free, place-free, Registered, registered, register_old, register-new}
+use Rattle.move_ledger.specs.Places.{Apart, put_grows, put-inside, put_behind, put_other, put_apart}
+use Rattle.move_ledger.specs.Evict.{Free, place-free, Registered, registered, register-old, register-new}
 use Rattle.move_ledger.specs.Nodes.{placed, Placing, highest, fronts, front, face_source, face_target, source, target, sources, targets}
-use Rattle.move_ledger.specs.NodeLaws.{placed-length, placed_at, members_nodes, highest-more, highest_ext}
+use Rattle.move_ledger.specs.NodeLaws.{placed-length, placed_at, members-nodes, highest-more, highest_ext}
 
 -- each node has a set of its own
 pub placing_apart : {load : Load} {nodes sets : List ℕ} → Placing load nodes sets → Apart sets
@@ -33,15 +33,15 @@ module _ {load : Load} {nodes sets : List ℕ} (p : Placing load nodes sets) (r 
       ext_get_or 0 (placed nodes new) (placed nodes sets) (placed-length nodes new ∙ sym (placed-length nodes sets)) (λ i b.
       let c : i < length nodes = omega (arith, placed-length nodes new) in
       let d : i < load.A = omega (arith, p.atoms) in
-      placed_at nodes new i c ∙ (put_other r T sets within (at nodes i) (omega (arith, p.inside i d, put-grows r T sets within)) (away i d)).1 ∙ sym (placed_at nodes sets i c))
+      placed_at nodes new i c ∙ (put_other r T sets within (at nodes i) (omega (arith, p.inside i d, put_grows r T sets within)) (away i d)).1 ∙ sym (placed_at nodes sets i c))
 
-  pub placing-put : has T sets ≡ false → length new ≤ none → Placing load nodes new
-  placing-put unseen few =
+  pub placing_put : has T sets ≡ false → length new ≤ none → Placing load nodes new
+  placing_put unseen few =
       record {
         atoms = p.atoms;
         few = few;
         distinct = λ x y a b e. one x y a b e (dec_lt x y) (dec_lt y x);
-        inside = λ i b. omega (arith, p.inside i b, put-grows r T sets within);
+        inside = λ i b. omega (arith, p.inside i b, put_grows r T sets within);
       }
     where
       one : (x y : ℕ) → x < length new → y < length new → at new x ≡ at new y → Dec (x < y) → Dec (y < x) → x ≡ y
@@ -59,7 +59,7 @@ module _ {load : Load} {nodes sets : List ℕ} (p : Placing load nodes sets) (r 
         where
           pick : Dec (x ≡ r) → fronts load nodes new e x ≡ fronts load nodes sets e x
           pick (yes f) = rw (f, empty) (and-false (eqb (at new r) (2 ^ e)) ∙ sym (and-false (eqb (at sets r) (2 ^ e))))
-          pick (no f) = rw (put_other r T sets within x (omega (arith, put-grows r T sets within)) f).1 refl
+          pick (no f) = rw (put_other r T sets within x (omega (arith, put_grows r T sets within)) f).1 refl
 
       ends : fronts load nodes new e r ≡ false
       ends = rw empty (and-false (eqb (at new r) (2 ^ e)))
@@ -68,7 +68,7 @@ module _ {load : Load} {nodes sets : List ℕ} (p : Placing load nodes sets) (r 
       go (yes h) = ap (highest (fronts load nodes new e)) (put-inside r T sets within h) ∙ highest_ext (fronts load nodes new e) (fronts load nodes sets e) (length sets) same
       go (no h) =
           let z : r ≡ length sets = omega arith in
-          ap (highest (fronts load nodes new e)) (put-behind r T sets within z) ∙ highest-more (fronts load nodes new e) (length sets)
+          ap (highest (fronts load nodes new e)) (put_behind r T sets within z) ∙ highest-more (fronts load nodes new e) (length sets)
           ∙ ap (λ t. cond t (length sets) (highest (fronts load nodes new e) (length sets))) (subst (λ k. fronts load nodes new e k ≡ false) z ends)
           ∙ highest_ext (fronts load nodes new e) (fronts load nodes sets e) (length sets) same
 
@@ -91,7 +91,7 @@ unfolding members
 free_node {load} {nodes} {sets} p N r f = go (dec_lt r (length sets))
   where
     go : Dec (r < length sets) → occupied load nodes r ≡ false
-    go (yes h) = ap (ltb 0) (members_nodes p r h) ∙ f.empty h
+    go (yes h) = ap (ltb 0) (members-nodes p r h) ∙ f.empty h
     go (no h) = ap (ltb 0) (count-all_no (λ i. eqb (at nodes i) r) load.A (λ i c. ne_eqb (at nodes i) r (λ e. omega (arith, p.inside i c))))
 
 -- the target registered, if unseen, changes no placement and no slot
@@ -112,14 +112,14 @@ register-kept {load} {N} {nodes} {sets} p few more small T = go (has T sets) ref
     w = registered load N (placed nodes sets) sets (placing_apart p) few more T
 
     go : (t : Bool) → has T sets ≡ t → Kept load N nodes sets (register load N (placed nodes sets) T sets)
-    go true q = rw (register_old load N (placed nodes sets) T sets q) (record { placing = p; placed = refl; sources = refl; targets = refl })
+    go true q = rw (register-old load N (placed nodes sets) T sets q) (record { placing = p; placed = refl; sources = refl; targets = refl })
     go false q =
         let f = place-free load N (placed nodes sets) sets (placing_apart p) few more in
         let e = free_node p N r f in
         let z = register-new load N (placed nodes sets) T sets q in
         rw z
         (record {
-          placing = placing-put p r T f.within e q (omega (arith, w.few, ap length z));
+          placing = placing_put p r T f.within e q (omega (arith, w.few, ap length z));
           placed = placed-put p r T f.within e;
           sources = sources-put p r T f.within e;
           targets = targets-put p r T f.within e;

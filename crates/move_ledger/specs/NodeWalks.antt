@@ -16,30 +16,30 @@ use Rattle.graphs.specs.Slots.{same, slot, slot_edge, Ends}
 use Rattle.graphs.specs.Slots as slots
 use Rattle.graphs.specs.SlotLaws.{same-yes, same_ends, edge-slot, mult_self}
 use Rattle.graphs.specs.Walk.{via, cyclic, only}
-use Rattle.graphs.specs.Walks.{only-walk, walk_from, via-lists, cyclic-lists, only-lists}
+use Rattle.graphs.specs.Walks.{only_walk, walk_from, via-lists, cyclic-lists, only-lists}
 use Rattle.graphs.specs.Relabel.{Named, via-named, cyclic-named, only-named}
 use Rattle.move_ledger.specs.Graph.{Load, none, at, owner, lies, members, occupied, entry, facade, mult, edge}
-use Rattle.move_ledger.specs.GraphLaws.{lies-atom, lies-set, lies_in, occupied-by, entry-lies, lies-entry, facade_faces, faces_facade, edge-source, edge-target}
+use Rattle.move_ledger.specs.GraphLaws.{lies_atom, lies-set, lies_in, occupied-by, entry-lies, lies-entry, facade_faces, faces_facade, edge-source, edge-target}
 use Rattle.move_ledger.specs.LoadLaws.{InOrder}
 use Rattle.move_ledger.specs.Nodes.{placed, Placing, sources, targets, node_edge, node_mult}
-use Rattle.move_ledger.specs.NodeLaws.{placed-length, placed_at, members_nodes, source-entry, target-entry, Facing, facing, blank, hostless, slot-facing}
+use Rattle.move_ledger.specs.NodeLaws.{placed-length, placed_at, members-nodes, source-entry, target-entry, Facing, facing, blank, hostless, slot_facing}
 
 module _ {load : Load} {nodes sets : List ℕ} (o : InOrder load) (p : Placing load nodes sets) where
   at-placed : (i : ℕ) → i < load.A → at (placed nodes sets) i ≡ at sets (at nodes i)
   at-placed i l = placed_at nodes sets i (omega (arith, p.atoms))
 
   -- atom i lies in the set of node x exactly if x is its node
-  lies-node : (i x : ℕ) → i < load.A → at nodes i ≡ x → lies load (placed nodes sets) i (at sets x) ≡ true
-  lies-node i x l e = lies_in load (placed nodes sets) (at sets x) i l (at-placed i l ∙ ap (at sets) e)
+  lies_node : (i x : ℕ) → i < load.A → at nodes i ≡ x → lies load (placed nodes sets) i (at sets x) ≡ true
+  lies_node i x l e = lies_in load (placed nodes sets) (at sets x) i l (at-placed i l ∙ ap (at sets) e)
 
-  node-lies : (i x : ℕ) → x < length sets → lies load (placed nodes sets) i (at sets x) ≡ true → at nodes i ≡ x
-  node-lies i x b h =
-      let l = lies-atom load (placed nodes sets) (at sets x) i h in
+  node_lies : (i x : ℕ) → x < length sets → lies load (placed nodes sets) i (at sets x) ≡ true → at nodes i ≡ x
+  node_lies i x b h =
+      let l = lies_atom load (placed nodes sets) (at sets x) i h in
       p.distinct _ _ (p.inside i l) b (sym (at-placed i l) ∙ lies-set load (placed nodes sets) (at sets x) i h)
 
   -- the host's node
-  host-inside : (e : ℕ) → e < load.E → (at load.hosts e ≡ none → ⊥) → at nodes (at load.hosts e) < length sets
-  host-inside e l q = p.inside _ (o.host_atom e l q)
+  host_inside : (e : ℕ) → e < load.E → (at load.hosts e ≡ none → ⊥) → at nodes (at load.hosts e) < length sets
+  host_inside e l q = p.inside _ (o.host_atom e l q)
 
   module _ (x y : ℕ) (bx : x < length sets) (by : y < length sets) (d : x ≡ y → ⊥) where
     at_entry : (k : ℕ) → k < load.D → slot (sources load nodes sets) (targets load nodes sets) x y k ≡ entry load (placed nodes sets) (at sets x) (at sets y) k
@@ -48,16 +48,16 @@ module _ {load : Load} {nodes sets : List ℕ} (o : InOrder load) (p : Placing l
         right : same (at nodes (owner load k)) (at nodes (at load.dependencies k)) x y ≡ true → entry load (placed nodes sets) (at sets x) (at sets y) k ≡ true
         right h =
             let r = same_ends _ _ x y h in
-            lies-entry load (placed nodes sets) _ _ k (lies-node _ x (o.owner_atom k l) r.0) (lies-node _ y (o.dependency_atom k l) r.1)
+            lies-entry load (placed nodes sets) _ _ k (lies_node _ x (o.owner_atom k l) r.0) (lies_node _ y (o.dependency_atom k l) r.1)
 
         left : entry load (placed nodes sets) (at sets x) (at sets y) k ≡ true → same (at nodes (owner load k)) (at nodes (at load.dependencies k)) x y ≡ true
-        left h = let r = entry-lies load (placed nodes sets) _ _ k h in same-yes _ _ x y d (node-lies _ x bx r.0) (node-lies _ y by r.1)
+        left h = let r = entry-lies load (placed nodes sets) _ _ k h in same-yes _ _ x y d (node_lies _ x bx r.0) (node_lies _ y by r.1)
 
     at-facade : (e : ℕ) → e < load.E → slot (sources load nodes sets) (targets load nodes sets) x y (load.D + e) ≡ facade load (placed nodes sets) (at sets x) (at sets y) e
-    at-facade e l = go _ _ (slot-facing load nodes sets e l p.few)
+    at-facade e l = go _ _ (slot_facing load nodes sets e l p.few)
       where
         here : (z : ℕ) → z < length sets → occupied load nodes z ≡ occupied load (placed nodes sets) (at sets z)
-        here z b = ap (ltb 0) (members_nodes p z b)
+        here z b = ap (ltb 0) (members-nodes p z b)
 
         empty : (s t : ℕ) → s ≡ 0 → t ≡ 0 → (facade load (placed nodes sets) (at sets x) (at sets y) e ≡ true → ⊥) → same s t x y ≡ facade load (placed nodes sets) (at sets x) (at sets y) e
         empty s t u v g = fails _ (λ h. let r = same_ends s t x y h in r.2 (sym r.0 ∙ u ∙ sym v ∙ r.1)) ∙ sym (fails _ g)
@@ -72,13 +72,13 @@ module _ {load : Load} {nodes sets : List ℕ} (o : InOrder load) (p : Placing l
                   bit = ap (at sets) (sym w.0) ∙ q;
                   here = subst (λ i. occupied load (placed nodes sets) (at sets i) ≡ true) w.0 (sym (here s b) ∙ u);
                   hosted = r;
-                  there = lies-node _ y (o.host_atom e l r) (sym z ∙ w.1);
+                  there = lies_node _ y (o.host_atom e l r) (sym z ∙ w.1);
                 })
 
             left : facade load (placed nodes sets) (at sets x) (at sets y) e ≡ true → same s t x y ≡ true
             left h =
                 let w = facade_faces load (placed nodes sets) _ _ e h in
-                same-yes s t x y d (p.distinct s x b bx (q ∙ sym w.bit)) (z ∙ node-lies _ y by w.there)
+                same-yes s t x y d (p.distinct s x b bx (q ∙ sym w.bit)) (z ∙ node_lies _ y by w.there)
         go s t (blank u v r g) =
             empty s t u v (λ h.
             let w = facade_faces load (placed nodes sets) _ _ e h in
@@ -107,14 +107,14 @@ module _ {load : Load} {nodes sets : List ℕ} (o : InOrder load) (p : Placing l
   slot-inside k l = pick (dec_lt k load.D)
     where
       face : (e : ℕ) → e < load.E → (s t : ℕ) → Facing load nodes sets e s t → ((s < length sets) × (t < length sets)) ⊎ ((s ≡ 0) × (t ≡ 0))
-      face e m s t (facing b q u r z) = inl (b, rw z (host-inside e m r))
+      face e m s t (facing b q u r z) = inl (b, rw z (host_inside e m r))
       face e m s t (blank u v r g) = inr (u, v)
       face e m s t (hostless u v r) = inr (u, v)
 
       late : (e : ℕ) → k ≡ load.D + e
           → ((get_or (sources load nodes sets) k 0 < length sets) × (get_or (targets load nodes sets) k 0 < length sets))
           ⊎ ((get_or (sources load nodes sets) k 0 ≡ 0) × (get_or (targets load nodes sets) k 0 ≡ 0))
-      late e z = let m : e < load.E = omega arith in rw z (face e m _ _ (slot-facing load nodes sets e m p.few))
+      late e z = let m : e < load.E = omega arith in rw z (face e m _ _ (slot_facing load nodes sets e m p.few))
 
       pick : Dec (k < load.D)
           → ((get_or (sources load nodes sets) k 0 < length sets) × (get_or (targets load nodes sets) k 0 < length sets))
@@ -172,29 +172,29 @@ module _ {load : Load} {nodes sets : List ℕ} (o : InOrder load) (p : Placing l
 
   -- so the graph's tests over nodes below n, at least the number of registered sets, are those over the sets
   module _ (n : ℕ) (wide : length sets ≤ n) where
-    nodes-hold : (x y : ℕ) → node_edge load nodes sets x y ≡ true → has x (below n) ≡ true
-    nodes-hold x y h = has-below x n (omega (arith, (edge-inside x y h).0))
+    nodes_hold : (x y : ℕ) → node_edge load nodes sets x y ≡ true → has x (below n) ≡ true
+    nodes_hold x y h = has-below x n (omega (arith, (edge-inside x y h).0))
 
-    few-hold : (x y : ℕ) → node_edge load nodes sets x y ≡ true → has x (below (length sets)) ≡ true
-    few-hold x y h = has-below x (length sets) (edge-inside x y h).0
+    few_hold : (x y : ℕ) → node_edge load nodes sets x y ≡ true → has x (below (length sets)) ≡ true
+    few_hold x y h = has-below x (length sets) (edge-inside x y h).0
 
-    sets-hold : (X Y : ℕ) → edge load (placed nodes sets) X Y ≡ true → has X (placed nodes sets) ≡ true
-    sets-hold = edge-source load (placed nodes sets) (placed-length nodes sets ∙ p.atoms)
+    sets_hold : (X Y : ℕ) → edge load (placed nodes sets) X Y ≡ true → has X (placed nodes sets) ≡ true
+    sets_hold = edge-source load (placed nodes sets) (placed-length nodes sets ∙ p.atoms)
 
     pub cyclic-nodes : cyclic (node_edge load nodes sets) (below n) ≡ cyclic (edge load (placed nodes sets)) (placed nodes sets)
-    cyclic-nodes = cyclic-lists _ (below n) (below (length sets)) nodes-hold few-hold ∙ cyclic-named named (placed nodes sets) sets-hold
+    cyclic-nodes = cyclic-lists _ (below n) (below (length sets)) nodes_hold few_hold ∙ cyclic-named named (placed nodes sets) sets_hold
 
     pub via-nodes : (x y : ℕ) → x < length sets → y < length sets
         → via (node_edge load nodes sets) (below n) x y ≡ via (edge load (placed nodes sets)) (placed nodes sets) (at sets x) (at sets y)
-    via-nodes x y bx by = via-lists _ (below n) (below (length sets)) nodes-hold few-hold x y ∙ via-named named (placed nodes sets) sets-hold x y bx by
+    via-nodes x y bx by = via-lists _ (below n) (below (length sets)) nodes_hold few_hold x y ∙ via-named named (placed nodes sets) sets_hold x y bx by
 
     pub only-nodes : (x : ℕ) → x < length sets
         → only (node_edge load nodes sets) (below n) x ≡ only (edge load (placed nodes sets)) (placed nodes sets) (at sets x)
-    only-nodes x b = only-lists _ (below n) (below (length sets)) nodes-hold few-hold x ∙ only-named named (placed nodes sets) sets-hold x b
+    only-nodes x b = only-lists _ (below n) (below (length sets)) nodes_hold few_hold x ∙ only-named named (placed nodes sets) sets_hold x b
 
     -- a node that has no set is in no component
     pub only-outside : (x : ℕ) → length sets ≤ x → only (node_edge load nodes sets) (below n) x ≡ false
-    only-outside x b = fails _ (λ h. omega (arith, walk_from (λ x y q. (edge-inside x y q).0) ((only-walk _ (below n) nodes-hold x).0 h).0))
+    only-outside x b = fails _ (λ h. omega (arith, walk_from (λ x y q. (edge-inside x y q).0) ((only_walk _ (below n) nodes_hold x).0 h).0))
 
 -- a set that isn't registered has no atom and no edge: "both 0 where a set is unseen"
 module _ {load : Load} {nodes sets : List ℕ} (p : Placing load nodes sets) where
@@ -207,16 +207,16 @@ module _ {load : Load} {nodes sets : List ℕ} (p : Placing load nodes sets) whe
       let r = has-place X (placed nodes sets) h in
       seen X r.0 (omega (arith, r.1, placed-length nodes sets, p.atoms)) r.2
 
-  pub members-unseen : (X : ℕ) → has X sets ≡ false → members load (placed nodes sets) X ≡ 0
-  members-unseen X h = go (dec_lt 0 (members load (placed nodes sets) X))
+  pub members_unseen : (X : ℕ) → has X sets ≡ false → members load (placed nodes sets) X ≡ 0
+  members_unseen X h = go (dec_lt 0 (members load (placed nodes sets) X))
     where
       go : Dec (0 < members load (placed nodes sets) X) → members load (placed nodes sets) X ≡ 0
       go (yes l) = let r = occupied-by load (placed nodes sets) X (lt-ltb 0 _ l) in absurd (true≢false (sym (seen X r.0 r.1 r.2) ∙ h))
       go (no l) = omega arith
 
-  pub mult-unseen : (X Y : ℕ) → (has X sets && has Y sets) ≡ false → mult load (placed nodes sets) X Y ≡ 0
+  pub mult_unseen : (X Y : ℕ) → (has X sets && has Y sets) ≡ false → mult load (placed nodes sets) X Y ≡ 0
   unfolding edge
-  mult-unseen X Y h = go (dec_lt 0 (mult load (placed nodes sets) X Y))
+  mult_unseen X Y h = go (dec_lt 0 (mult load (placed nodes sets) X Y))
     where
       long : length (placed nodes sets) ≡ load.A
       long = placed-length nodes sets ∙ p.atoms

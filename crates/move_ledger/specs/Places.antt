@@ -44,8 +44,8 @@ module _ (seen : List ℕ) (T : ℕ) where
   snoc_new : (i : ℕ) → i ≡ length seen → at (seen ++ T ∷ []) i ≡ T
   snoc_new i h = get_or_at seen T [] 0 i (sym h)
 
-  snoc-length : length (seen ++ T ∷ []) ≡ length seen + 1
-  snoc-length = simp length-append
+  snoc_length : length (seen ++ T ∷ []) ≡ length seen + 1
+  snoc_length = simp length-append
 
 -- one number at a place of a list or behind it: the two ways of registering by one law each
 module _ (r T : ℕ) (seen : List ℕ) (within : r ≤ length seen) where
@@ -53,25 +53,25 @@ module _ (r T : ℕ) (seen : List ℕ) (within : r ≤ length seen) where
   unfolding put
   put-inside h = rw (lt-ltb r (length seen) h) (length-set seen r T)
 
-  pub put-behind : r ≡ length seen → length (put r T seen) ≡ length seen + 1
+  pub put_behind : r ≡ length seen → length (put r T seen) ≡ length seen + 1
   unfolding put
-  put-behind e = rw (le-ltb r (length seen) (omega arith)) (snoc-length seen T)
+  put_behind e = rw (le-ltb r (length seen) (omega arith)) (snoc_length seen T)
 
-  pub put-grows : length seen ≤ length (put r T seen)
+  pub put_grows : length seen ≤ length (put r T seen)
   unfolding put
-  put-grows = go (ltb r (length seen))
+  put_grows = go (ltb r (length seen))
     where
       go : (t : Bool) → length seen ≤ length (cond t (set seen r T) (seen ++ T ∷ []))
       go true = omega (arith, length-set seen r T)
-      go false = omega (arith, snoc-length seen T)
+      go false = omega (arith, snoc_length seen T)
 
-  pub put-most : (N : ℕ) → length seen ≤ N → r < N → length (put r T seen) ≤ N
+  pub put_most : (N : ℕ) → length seen ≤ N → r < N → length (put r T seen) ≤ N
   unfolding put
-  put-most N few free = go (ltb r (length seen)) refl
+  put_most N few free = go (ltb r (length seen)) refl
     where
       go : (t : Bool) → ltb r (length seen) ≡ t → length (cond t (set seen r T) (seen ++ T ∷ [])) ≤ N
       go true q = omega (arith, length-set seen r T)
-      go false q = omega (arith, snoc-length seen T, ltb-false r (length seen) q)
+      go false q = omega (arith, snoc_length seen T, ltb-false r (length seen) q)
 
   pub put-there : r < length (put r T seen)
   unfolding put
@@ -79,7 +79,7 @@ module _ (r T : ℕ) (seen : List ℕ) (within : r ≤ length seen) where
     where
       go : (t : Bool) → ltb r (length seen) ≡ t → r < length (cond t (set seen r T) (seen ++ T ∷ []))
       go true q = omega (arith, length-set seen r T, ltb-true r (length seen) q)
-      go false q = omega (arith, snoc-length seen T)
+      go false q = omega (arith, snoc_length seen T)
 
   pub put_same : at (put r T seen) r ≡ T
   unfolding put
@@ -96,7 +96,7 @@ module _ (r T : ℕ) (seen : List ℕ) (within : r ≤ length seen) where
       go : (t : Bool) → ltb r (length seen) ≡ t → i < length (cond t (set seen r T) (seen ++ T ∷ [])) → (i < length seen) × (at (cond t (set seen r T) (seen ++ T ∷ [])) i ≡ at seen i)
       go true q c = (omega (arith, length-set seen r T), get_or-set_other seen r i T 0 d)
       go false q c =
-          let k : i < length seen = omega (arith, snoc-length seen T, ltb-false r (length seen) q) in
+          let k : i < length seen = omega (arith, snoc_length seen T, ltb-false r (length seen) q) in
           (k, snoc_old seen T i k)
 
 -- no number stands at two places

@@ -13,16 +13,16 @@ use Rattle.graphs.specs.Count.{ind, count, count-all_no}
 use Rattle.graphs.specs.Total.{total-same, count-total}
 use Rattle.graphs.specs.Lists.{any, has, below, has-place}
 use Rattle.graphs.specs.Walk.{Walk, one, more, via, cyclic}
-use Rattle.graphs.specs.Walks.{sound, walk_to, acyclic-walk}
+use Rattle.graphs.specs.Walks.{sound, walk_to, acyclic_walk}
 use Rattle.move_ledger.specs.Graph.{Load, at, members, occupied, edge, insert, rising, sum, reach}
 use Rattle.move_ledger.specs.GraphLaws.{occupy, edge-source, edge-target}
 use Rattle.move_ledger.specs.LoadLaws.{InOrder}
 use Rattle.move_ledger.specs.Listing.{Rising, none, next, rising-rising, has-rising, has_bound}
 use Rattle.move_ledger.specs.Places.{Apart}
 use Rattle.move_ledger.specs.Nodes.{placed, Placing, node_edge}
-use Rattle.move_ledger.specs.NodeLaws.{placed-length, members_nodes}
+use Rattle.move_ledger.specs.NodeLaws.{placed-length, members-nodes}
 use Rattle.move_ledger.specs.NodeWalks.{via-nodes, edge-inside}
-use Rattle.move_ledger.specs.Chunks.{chunk-sum}
+use Rattle.move_ledger.specs.Chunks.{chunk_sum}
 
 -- sums over the members of a list, one at most or just as much as another
 sum_le : (f g : ℕ → ℕ) (l : List ℕ) → ((X : ℕ) → f X ≤ g X) → sum f l ≤ sum g l
@@ -58,9 +58,9 @@ module _ (load : Load) (place : List ℕ) (T : ℕ) (there : has T place ≡ tru
   all_others = sum_others T (rising-rising place) (has-rising T place ∙ there)
 
   -- 02: "Show that this is at most occupied sets - 1"
-  pub reach-bound : reach load place T + 1 ≤ length (rising place)
+  pub reach_bound : reach load place T + 1 ≤ length (rising place)
   unfolding reach
-  reach-bound = omega (arith, all_others, sum_le (λ X. ind (via (edge load place) place T X && not (eqb T X))) (other T) (rising place) (λ X. go (via (edge load place) place T X) (not (eqb T X))))
+  reach_bound = omega (arith, all_others, sum_le (λ X. ind (via (edge load place) place T X && not (eqb T X))) (other T) (rising place) (λ X. go (via (edge load place) place T X) (not (eqb T X))))
     where
       go : (t u : Bool) → ind (t && u) ≤ ind u
       go true u = omega arith
@@ -108,7 +108,7 @@ module _ {load : Load} {nodes sets : List ℕ} (o : InOrder load) (p : Placing l
   pub reach-nodes : (y : ℕ) → y < length sets → cyclic (edge load place) place ≡ false → reach load place (at sets y) ≡ count (via (node_edge load nodes sets) (below n) y) n
   unfolding reach members
   reach-nodes y hy acyclic =
-      chunk-sum p (λ X. ind (via (edge load place) place (at sets y) X && not (eqb (at sets y) X))) n few
+      chunk_sum p (λ X. ind (via (edge load place) place (at sets y) X && not (eqb (at sets y) X))) n few
       ∙ total-same _ _ n (λ x b. by x (dec_lt x (length sets)))
       ∙ sym (count-total (via (node_edge load nodes sets) (below n) y) n)
     where
@@ -126,13 +126,13 @@ module _ {load : Load} {nodes sets : List ℕ} (o : InOrder load) (p : Placing l
       reached x b h =
           let m : has (at sets x) place ≡ true = ends (sound (edge load place) place T (at sets x) h) in
           let r = has-place (at sets x) place m in
-          ap (ltb 0) (members_nodes p x b) ∙ occupy load place (at sets x) r.0 (omega (arith, r.1, long)) r.2
+          ap (ltb 0) (members-nodes p x b) ∙ occupy load place (at sets x) r.0 (omega (arith, r.1, long)) r.2
 
       by : (x : ℕ) → Dec (x < length sets)
           → cond (occupied load nodes x) (ind (via (edge load place) place T (at sets x) && not (eqb T (at sets x)))) 0 ≡ ind (via (node_edge load nodes sets) (below n) y x)
       by x (yes b) = rw (via-nodes o p n few y x hy b) (go (via (edge load place) place T (at sets x)) refl)
         where
           go : (t : Bool) → via (edge load place) place T (at sets x) ≡ t → cond (occupied load nodes x) (ind (t && not (eqb T (at sets x)))) 0 ≡ ind t
-          go true h = rw (reached x b h, ne_eqb T (at sets x) (λ e. (acyclic-walk (edge load place) place (edge-source load place long)).0 acyclic T (subst (Walk (edge load place) T) (sym e) (sound (edge load place) place T (at sets x) h)))) refl
+          go true h = rw (reached x b h, ne_eqb T (at sets x) (λ e. (acyclic_walk (edge load place) place (edge-source load place long)).0 acyclic T (subst (Walk (edge load place) T) (sym e) (sound (edge load place) place T (at sets x) h)))) refl
           go false h = nought (occupied load nodes x)
       by x (no b) = rw (out x b) (ap ind (sym (fails _ (λ h. b (walk_to (λ i j k. (edge-inside o p i j k).1) (sound (node_edge load nodes sets) (below n) y x h))))))

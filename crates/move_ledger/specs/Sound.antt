@@ -13,11 +13,11 @@ use Rattle.move_ledger.specs.Graph.{Load, at}
 use Rattle.move_ledger.specs.GraphLaws.{occupy}
 use Rattle.move_ledger.specs.Answer.{is_refused}
 use Rattle.move_ledger.specs.Ledger.{Ledger, loaded, put, free_place, register, step2, step3, decide, Call, try_move, asks, call, ledger}
-use Rattle.move_ledger.specs.Places.{Apart, put-grows, put-most, put_same, put_other, put_apart}
+use Rattle.move_ledger.specs.Places.{Apart, put_grows, put_most, put_same, put_other, put_apart}
 use Rattle.move_ledger.specs.Evict.{Free, place-free, registered}
-use Rattle.move_ledger.specs.MoveLaws.{decide-passed, move-keeps}
+use Rattle.move_ledger.specs.MoveLaws.{decide-passed, move_keeps}
 use Rattle.move_ledger.specs.Loading.{entry_sets}
-use Rattle.move_ledger.specs.LoadLaws.{Loadable-sets, row7-small, row8-apart, entry-sets-length, entry-sets-at}
+use Rattle.move_ledger.specs.LoadLaws.{Loadable-sets, row7_small, row8_apart, entry_sets-length, entry_sets-at}
 
 -- "registered sets are distinct, in range and at most N, every atom has one"
 pub record Sound (load : Load) (N : ℕ) (l : Ledger) : Type 0 where
@@ -38,16 +38,16 @@ module _ {load : Load} {N : ℕ} {l : Ledger} (v : Sound load N l) (more : load.
   free = place-free load N l.place seen v.distinct v.room more
 
   -- step 2 keeps it: the set that goes has no atom
-  pub step2-sound : Sound load N (step2 load N l T)
+  pub step2_sound : Sound load N (step2 load N l T)
   unfolding register
-  step2-sound = go (has T seen) refl
+  step2_sound = go (has T seen) refl
     where
       go : (t : Bool) → has T seen ≡ t → Sound load N (record { place = l.place; registered = cond t seen (put r T seen) })
       go true q = v
       go false q =
           record {
             atoms = v.atoms;
-            room = put-most r T seen free.within N v.room free.room;
+            room = put_most r T seen free.within N v.room free.room;
             distinct = put_apart r T seen free.within q v.distinct;
             in_range = λ i b. range i b (ℕ_discrete i r);
             registered = λ i b. stays i b (has-place (at l.place i) seen (v.registered i b));
@@ -63,29 +63,29 @@ module _ {load : Load} {N : ℕ} {l : Ledger} (v : Sound load N l) (more : load.
               other : (x : ℕ) → x < length seen → at seen x ≡ at l.place i → Dec (x ≡ r) → has (at l.place i) (put r T seen) ≡ true
               other x c e (yes f) = absurd (true≢false (sym (occupy load l.place (at seen r) i b (sym e ∙ ap (at seen) f)) ∙ free.empty (omega arith)))
               other x c e (no f) =
-                  let z : x < length (put r T seen) = omega (arith, put-grows r T seen free.within) in
+                  let z : x < length (put r T seen) = omega (arith, put_grows r T seen free.within) in
                   subst (λ u. has u (put r T seen) ≡ true) ((put_other r T seen free.within x z f).1 ∙ e) (has-at (put r T seen) x z)
 
   -- step 3 keeps it
-  pub step3-sound : (a : ℕ) → a < load.A → Sound load N (step3 load N l a T)
-  step3-sound a b =
+  pub step3_sound : (a : ℕ) → a < load.A → Sound load N (step3 load N l a T)
+  step3_sound a b =
       record {
         atoms = rw length-set v.atoms;
-        room = step2-sound.room;
-        distinct = step2-sound.distinct;
-        in_range = step2-sound.in_range;
+        room = step2_sound.room;
+        distinct = step2_sound.distinct;
+        in_range = step2_sound.in_range;
         registered = λ i c. pick i c (ℕ_discrete i a);
       }
     where
       pick : (i : ℕ) → i < load.A → Dec (i ≡ a) → has (at (set l.place a T) i) (register load N l.place T l.registered) ≡ true
       pick i c (yes e) = rw (e, get_or-set_same l.place a T 0 (omega (arith, v.atoms))) (registered load N l.place seen v.distinct v.room more T).has_target
-      pick i c (no d) = rw (get_or-set_other l.place a i T 0 d) (step2-sound.registered i c)
+      pick i c (no d) = rw (get_or-set_other l.place a i T 0 d) (step2_sound.registered i c)
 
 pub call_sound : (load : Load) (fixed : List ℕ) (N : ℕ) (l : Ledger) (c : Call) → load.A < N → Sound load N l → Sound load N (call load fixed N l c).after
 unfolding call
 call_sound load fixed N l (try_move a s) more v =
-    move-keeps load fixed N l a s (Sound load N) v (λ u. step2-sound v more (value s) (range u))
-    (λ u. step3-sound v more (value s) (range u) a (leb-false _ _ (decide-passed load fixed l.place a s u).at10))
+    move_keeps load fixed N l a s (Sound load N) v (λ u. step2_sound v more (value s) (range u))
+    (λ u. step3_sound v more (value s) (range u) a (leb-false _ _ (decide-passed load fixed l.place a s u).at10))
   where
     range : is_refused (decide load fixed l.place a s) ≡ false → value s < 2 ^ load.E
     range u = ltb-true _ _ (and_right (eqb (length s) (width load.E)) _ (not-false _ (decide-passed load fixed l.place a s u).at11))
@@ -100,13 +100,13 @@ ledger_sound load fixed N l (c ∷ cs) more v = ledger_sound load fixed N (call 
 -- an unrefused loading gives a sound ledger
 pub loading_sound : {load : Load} {N : ℕ} {sets : List ℕ} {size : ℕ} → Loadable-sets load N sets size → Sound load N (loaded (entry_sets load sets))
 loading_sound {load} {N} {sets} {size} r =
-    let long : length (entry_sets load sets) ≡ load.A = entry-sets-length load sets in
+    let long : length (entry_sets load sets) ≡ load.A = entry_sets-length load sets in
     record {
       atoms = long;
       room = omega (arith, r.loadable.sizes.wide);
       distinct = λ i j a b e.
           let k : j < load.A = omega arith in
-          row8-apart load sets r.eight j i a k (sym (entry-sets-at load sets i (omega arith)) ∙ e ∙ entry-sets-at load sets j k);
-      in_range = λ i b. let k : i < load.A = omega arith in rw (entry-sets-at load sets i k) (row7-small load sets r.seven i k);
+          row8_apart load sets r.eight j i a k (sym (entry_sets-at load sets i (omega arith)) ∙ e ∙ entry_sets-at load sets j k);
+      in_range = λ i b. let k : i < load.A = omega arith in rw (entry_sets-at load sets i k) (row7_small load sets r.seven i k);
       registered = λ i b. has-at (entry_sets load sets) i (omega arith);
     }

@@ -17,10 +17,10 @@ use Rattle.move_ledger.specs.Graph.{Load, at, members, occupied, mult, edge, ris
 use Rattle.move_ledger.specs.GraphLaws.{occupy, edge-source, edge-target}
 use Rattle.move_ledger.specs.LoadLaws.{InOrder}
 use Rattle.move_ledger.specs.Nodes.{placed, Placing, sources, targets, node_mult, node_edge}
-use Rattle.move_ledger.specs.NodeLaws.{placed-length, members_nodes}
+use Rattle.move_ledger.specs.NodeLaws.{placed-length, members-nodes}
 use Rattle.move_ledger.specs.NodeWalks.{mult-nodes, mult-outside, ends-nodes}
 use Rattle.move_ledger.specs.Edges.{row-length, rows-length}
-use Rattle.move_ledger.specs.Chunks.{sum-total, chunk-sum, rows-total, pair_sum}
+use Rattle.move_ledger.specs.Chunks.{sum-total, chunk_sum, rows-total, pair_sum}
 
 -- how many of n nodes have an atom
 unfoldable pub busy_nodes : Load → List ℕ → ℕ → ℕ
@@ -44,10 +44,10 @@ nothing true = refl
 nothing false = refl
 
 -- "the number of occupied sets" is that of the nodes that have an atom
-pub chunk_count_nodes : {load : Load} {nodes sets : List ℕ} → Placing load nodes sets → (n : ℕ) → length sets ≤ n → length (rising (placed nodes sets)) ≡ busy_nodes load nodes n
+pub chunk_count-nodes : {load : Load} {nodes sets : List ℕ} → Placing load nodes sets → (n : ℕ) → length sets ≤ n → length (rising (placed nodes sets)) ≡ busy_nodes load nodes n
 unfolding busy_nodes
-chunk_count_nodes {load} {nodes} {sets} p n few =
-    sym (sum_ones (rising (placed nodes sets))) ∙ chunk-sum p (λ X. 1) n few ∙ total-same _ _ n (λ x b. one_or_none (occupied load nodes x)) ∙ sym (count-total (occupied load nodes) n)
+chunk_count-nodes {load} {nodes} {sets} p n few =
+    sym (sum_ones (rising (placed nodes sets))) ∙ chunk_sum p (λ X. 1) n few ∙ total-same _ _ n (λ x b. one_or_none (occupied load nodes x)) ∙ sym (count-total (occupied load nodes) n)
 
 -- a row's length and the number of edges, added up over the sets
 edges-sum : (load : Load) (place : List ℕ) → length (edges load place) ≡ sum (λ X. sum (λ Y. ind (edge load place X Y)) (rising place)) (rising place)
@@ -69,7 +69,7 @@ module _ {load : Load} {nodes sets : List ℕ} (o : InOrder load) (p : Placing l
   busy : (z : ℕ) → z < length sets → has (at sets z) place ≡ true → occupied load nodes z ≡ true
   busy z c h =
       let r = has-place (at sets z) place h in
-      ap (ltb 0) (members_nodes p z c) ∙ occupy load place (at sets z) r.0 (omega (arith, r.1, placed-length nodes sets, p.atoms)) r.2
+      ap (ltb 0) (members-nodes p z c) ∙ occupy load place (at sets z) r.0 (omega (arith, r.1, placed-length nodes sets, p.atoms)) r.2
 
   free : (x : ℕ) → (x < length sets → ⊥) → occupied load nodes x ≡ false
   unfolding members
@@ -92,18 +92,18 @@ module _ {load : Load} {nodes sets : List ℕ} (o : InOrder load) (p : Placing l
       go (yes a) (no b) = rw (free y b, mult-outside o p x y (λ c d. b d)) (nothing (occupied load nodes x))
       go (no a) b = rw (free x a, mult-outside o p x y (λ c d. a c)) refl
 
-  pub edge-count-cells : length (edges load place) ≡ filled_cells (sources load nodes sets) (targets load nodes sets) n m
+  pub edge-count_cells : length (edges load place) ≡ filled_cells (sources load nodes sets) (targets load nodes sets) n m
   unfolding filled_cells
-  edge-count-cells =
+  edge-count_cells =
       edges-sum load place
       ∙ pair_sum p (λ X Y. ind (edge load place X Y)) (λ i. ind (ltb 0 (flat (sources load nodes sets) (targets load nodes sets) n m i))) n few
       (λ x y hx hy. one x y ∙ ap (λ k. ind (ltb 0 k)) (sym (flat-mult _ _ n m x y (ends-nodes o p n few (omega arith)) hy)))
       ∙ sym (count-total (λ i. ltb 0 (flat (sources load nodes sets) (targets load nodes sets) n m i)) (n * n))
 
   -- and the sum of how many nodes each node has an edge to
-  pub degrees-cells : (f : ℕ → ℕ) → ((x : ℕ) → x < n → f x ≡ count (node_edge load nodes sets x) n) → total f n ≡ filled_cells (sources load nodes sets) (targets load nodes sets) n m
+  pub degrees_cells : (f : ℕ → ℕ) → ((x : ℕ) → x < n → f x ≡ count (node_edge load nodes sets x) n) → total f n ≡ filled_cells (sources load nodes sets) (targets load nodes sets) n m
   unfolding filled_cells slot_edge
-  degrees-cells f h =
+  degrees_cells f h =
       total-same _ _ n (λ x hx.
       h x hx ∙ count-total (node_edge load nodes sets x) n
       ∙ total-same _ _ n (λ y hy. ap (λ k. ind (ltb 0 k)) (sym (flat-mult _ _ n m x y (ends-nodes o p n few (omega arith)) hy))))
@@ -124,9 +124,9 @@ count-full p zero h = refl
 count-full p (suc k) h = rw (h k (omega arith)) (omega (arith, count-full p k (λ x b. h x (omega arith))))
 
 -- with a node of its own for each atom, as many nodes have one as there are atoms
-pub busy_first : (load : Load) (n : ℕ) → load.A ≤ n → busy_nodes load (tab (λ i. i) load.A) n ≡ load.A
+pub busy-first : (load : Load) (n : ℕ) → load.A ≤ n → busy_nodes load (tab (λ i. i) load.A) n ≡ load.A
 unfolding busy_nodes members
-busy_first load n few = count_ext _ (λ x. ltb x load.A) n (λ x b. go x (dec_lt x load.A)) ∙ ap (count (λ x. ltb x load.A)) (sym split) ∙ count_add (λ x. ltb x load.A) load.A (n - load.A) ∙ both
+busy-first load n few = count_ext _ (λ x. ltb x load.A) n (λ x b. go x (dec_lt x load.A)) ∙ ap (count (λ x. ltb x load.A)) (sym split) ∙ count_add (λ x. ltb x load.A) load.A (n - load.A) ∙ both
   where
     go : (x : ℕ) → Dec (x < load.A) → occupied load (tab (λ i. i) load.A) x ≡ ltb x load.A
     go x (yes b) =
@@ -179,10 +179,10 @@ count_two p q k x y hx hy ne same =
     late z b d (no e) = rw (ne_eqb z x e) (ap ind (same z b e d))
 
 -- an atom moved from x to y: the nodes that have an atom are one more where y had none, one fewer where x has none left
-pub busy_moved : (load : Load) (nodes : List ℕ) (a y n : ℕ) → length nodes ≡ load.A → a < load.A → at nodes a < n → y < n
+pub busy-moved : (load : Load) (nodes : List ℕ) (a y n : ℕ) → length nodes ≡ load.A → a < load.A → at nodes a < n → y < n
     → busy_nodes load (set nodes a y) n + ind (eqb (members load (set nodes a y) (at nodes a)) 0) ≡ busy_nodes load nodes n + ind (eqb (members load nodes y) 0)
 unfolding busy_nodes members
-busy_moved load nodes a y n long ha hx hy = go (ℕ_discrete (at nodes a) y)
+busy-moved load nodes a y n long ha hx hy = go (ℕ_discrete (at nodes a) y)
   where
     x : ℕ
     x = at nodes a

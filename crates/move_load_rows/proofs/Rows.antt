@@ -42,14 +42,14 @@ module _ (a d e : ℕ) (starts dependencies hosts : List ℕ) where
       }
 
   -- the rows 4 to 6 by the lists that each looks at
-  pub list-is : length hosts ≡ e → list_row (lent a d e starts dependencies hosts) ≡ cond (bad_starts starts a d) 4 (cond (row5 (spans a d starts dependencies)) 5 (cond (bad_hosts hosts a) 6 0))
+  pub list_is : length hosts ≡ e → list_row (lent a d e starts dependencies hosts) ≡ cond (bad_starts starts a d) 4 (cond (row5 (spans a d starts dependencies)) 5 (cond (bad_hosts hosts a) 6 0))
   unfolding list_row bad_starts falling row4 row5 owner row6 bad_hosts
-  list-is h = rw h refl
+  list_is h = rw h refl
 
   -- and the rows 1 to 6
-  pub first-is : (n : ℕ) (fit : Bool) (size : ℕ) → first_row (lent a d e starts dependencies hosts) n fit size ≡ cond (row1 (lent a d e [] [] []) n) 1 (cond (row2 (lent a d e starts dependencies hosts) || not fit) 2 (cond (row3 (lent a d e [] [] []) n size) 3 (list_row (lent a d e starts dependencies hosts))))
+  pub first_is : (n : ℕ) (fit : Bool) (size : ℕ) → first_row (lent a d e starts dependencies hosts) n fit size ≡ cond (row1 (lent a d e [] [] []) n) 1 (cond (row2 (lent a d e starts dependencies hosts) || not fit) 2 (cond (row3 (lent a d e [] [] []) n size) 3 (list_row (lent a d e starts dependencies hosts))))
   unfolding first_row list_row
-  first-is n fit size = refl
+  first_is n fit size = refl
 
 pub can_own : (a d : ℕ) (starts dependencies : List ℕ) → length starts ≡ a + 1 → length dependencies ≡ d → bad_starts starts a d ≡ false → CanOwn a d starts dependencies
 can_own a d starts dependencies long full h = record { long = long; full = full; rise = good_starts starts a d dependencies h }

@@ -36,8 +36,8 @@ alike_is sets w a {d} r = repeats (nth_set sets w) a d r
 
 -- the rows 7 and 8 by what the code looks for
 module _ (a e w : ℕ) (sets : List ℕ) (wide : w ≡ width e) where
-  pub can-sets : (a ≤ 512) × (e ≤ 256) × (length sets ≡ a * width e) → CanSets sets w a
-  can-sets h = record { narrow = omega (arith, h.1); full = h.2 ∙ ap (λ v. a * v) (sym wide) }
+  pub can_sets : (a ≤ 512) × (e ≤ 256) × (length sets ≡ a * width e) → CanSets sets w a
+  can_sets h = record { narrow = omega (arith, h.1); full = h.2 ∙ ap (λ v. a * v) (sym wide) }
 
   pub set_is : set_row (lent a 0 e [] [] []) sets ≡ cond (too_high sets w a e) 7 (cond (alike_sets sets w a) 8 0)
   unfolding set_row row7 row8 too_high alike_sets met
@@ -64,5 +64,5 @@ module _ (a d e : ℕ) (starts dependencies hosts : List ℕ) (fixed : List ℕ)
   unfolding loading_row set_row row7 row8
   loading-late r h q = rw (← fit_is, eq-eqb row 0 h) q
 
-  pub loading-can : row ≡ 0 → (a ≤ 512) × (e ≤ 256) × (length sets ≡ a * width e)
-  loading-can h = let l = first_row-none load n (eqb (length fixed) a && eqb (length sets) (a * width e)) size (sym fit_is ∙ h) in (l.sizes.atoms, l.sizes.bits, eqb-true _ _ (and_right (eqb (length fixed) a) _ l.lengths))
+  pub loading_can : row ≡ 0 → (a ≤ 512) × (e ≤ 256) × (length sets ≡ a * width e)
+  loading_can h = let l = first_row-none load n (eqb (length fixed) a && eqb (length sets) (a * width e)) size (sym fit_is ∙ h) in (l.sizes.atoms, l.sizes.bits, eqb-true _ _ (and_right (eqb (length fixed) a) _ l.lengths))

@@ -12,7 +12,7 @@ use Rattle.graphs.specs.Bools.{and_left, and_right}
 use Rattle.graphs.specs.Lists.{some_take, some_give, some_none, some_below, none_below, none_left}
 use Rattle.move_ledger.specs.Graph.{Load, at, owner}
 use Rattle.move_ledger.specs.Loading.{row5}
-use Rattle.move_ledger.specs.LoadLaws.{Starts, starts-up, owner-is}
+use Rattle.move_ledger.specs.LoadLaws.{Starts, starts_up, owner_is}
 use Rattle.move_load_rows.specs.Checks.{not_other, bad_span, span, CanSpan, CanOwn}
 
 -- entry k is no atom, or its owner
@@ -23,14 +23,14 @@ module _ {load : Load} (s : Starts load) where
   pub span-first : some_below (wrong load) (at load.starts 0) ≡ false
   span-first = none_below (wrong load) _ (λ x b. absurd (omega (arith, s.first)))
 
-  pub span-hit : (i : ℕ) → i < load.A → span load i ≡ true → true ≡ row5 load
+  pub span_hit : (i : ℕ) → i < load.A → span load i ≡ true → true ≡ row5 load
   unfolding bad_span row5
-  span-hit i l h =
+  span_hit i l h =
       let from = at load.starts i in
       let r = some_take (λ k. leb from k && not_other load.A i (at load.dependencies k)) (at load.starts (suc i)) (rw (add-one i) at h) in
       let k = r.0 in
-      let own = owner-is s k i l (leb-true from k (and_left (leb from k) _ r.2)) r.1 in
-      sym (some_give (wrong load) load.D k (omega (arith, r.1, starts-up s load.A (suc i) (omega arith) (omega arith), s.last)) (rw own (and_right (leb from k) _ r.2)))
+      let own = owner_is s k i l (leb-true from k (and_left (leb from k) _ r.2)) r.1 in
+      sym (some_give (wrong load) load.D k (omega (arith, r.1, starts_up s load.A (suc i) (omega arith) (omega arith), s.last)) (rw own (and_right (leb from k) _ r.2)))
 
   pub span_more : (i : ℕ) → some_below (wrong load) (at load.starts i) ≡ false → i < load.A → span load i ≡ false → some_below (wrong load) (at load.starts (i + 1)) ≡ false
   unfolding bad_span
@@ -43,7 +43,7 @@ module _ {load : Load} (s : Starts load) where
       pick k b (yes c) = some_none (wrong load) from f k c
       pick k b (no c) =
           let q = some_none (λ k. leb from k && not_other load.A i (at load.dependencies k)) (at load.starts (suc i)) (rw (add-one i) at h) k b in
-          rw (owner-is s k i l (omega arith) b) (rw (le-leb from k (omega arith)) at q)
+          rw (owner_is s k i l (omega arith) b) (rw (le-leb from k (omega arith)) at q)
 
   pub span-done : (i : ℕ) → some_below (wrong load) (at load.starts i) ≡ false → i ≡ load.A → false ≡ row5 load
   unfolding row5
@@ -55,5 +55,5 @@ span_can {a} {d} can i l =
     record {
       within = omega (arith, can.long);
       rise = rw (add-one i) (can.rise.step i l);
-      upto = rw (add-one i) (omega (arith, can.full, can.rise.last, starts-up can.rise a (suc i) (omega arith) (omega arith)));
+      upto = rw (add-one i) (omega (arith, can.full, can.rise.last, starts_up can.rise a (suc i) (omega arith) (omega arith)));
     }

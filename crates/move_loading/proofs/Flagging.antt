@@ -27,8 +27,8 @@ use Rattle.move_loading.specs.Steps.{GraphWritten, component_lane, FlagsWritten}
 
 module _ {load : Load} {n : ℕ} {l counts s₀ t₀ : List ℕ} (can : CanFillOwn load n l counts s₀ t₀) (ranged : Ranged load n l) {counts' s t : List ℕ} (f : Filled load n (nodes_in load n l) (sets_in n l) counts' s t)
     {m : ℕ} (q : m ≡ slot_count n load.D load.E) where
-  own-counted : Counted load (nodes_in load n l) (sets_in n l) s t n m
-  own-counted = record {
+  own_counted : Counted load (nodes_in load n l) (sets_in n l) s t n m
+  own_counted = record {
     order = can.loadable.order;
     placing = ranged_placing can.loadable.sizes.sets ranged;
     few = omega (arith, sets-length n l, can.few);
@@ -37,22 +37,22 @@ module _ {load : Load} {n : ℕ} {l counts s₀ t₀ : List ℕ} (can : CanFillO
   }
 
   -- the slots may be counted into the matrix
-  pub fill-can : {l' : List ℕ} → length l' ≡ length l → length s ≡ length s₀ → length t ≡ length t₀ → CanFill l' n s t m × (n * n + 5 ≤ length l')
-  fill-can {l'} a b c =
-      let z = counted_le own-counted in (
+  pub fill_can : {l' : List ℕ} → length l' ≡ length l → length s ≡ length s₀ → length t ≡ length t₀ → CanFill l' n s t m × (n * n + 5 ≤ length l')
+  fill_can {l'} a b c =
+      let z = counted_le own_counted in (
         record {
           square = omega (arith, can.loadable.sizes.area);
           sources = omega (arith, can.sources_long);
           targets = omega (arith, can.targets_long);
-          ends = counted-ends own-counted;
+          ends = counted-ends own_counted;
           few = omega (arith, can.loadable.sizes.entries, can.loadable.sizes.bits);
         },
         omega (arith, can.loadable.sizes.area),
       )
 
-  pub graph-written : {l₁ l₂ : List ℕ} → l₁ ≡ patch (lane_at n 8) (part 0 n counts') l → l₂ ≡ set (patch 0 (matrix s t n m) l₁) (n * n + 4) (filled_cells s t n m)
+  pub graph_written : {l₁ l₂ : List ℕ} → l₁ ≡ patch (lane_at n 8) (part 0 n counts') l → l₂ ≡ set (patch 0 (matrix s t n m) l₁) (n * n + 4) (filled_cells s t n m)
       → GraphWritten load n l counts' s t m l₂
-  graph-written e₁ e₂ = record { filled = f; many = q; area = e₂ ∙ ap (λ (u : List ℕ). set (patch 0 (matrix s t n m) u) (n * n + 4) (filled_cells s t n m)) e₁ }
+  graph_written e₁ e₂ = record { filled = f; many = q; area = e₂ ∙ ap (λ (u : List ℕ). set (patch 0 (matrix s t n m) u) (n * n + 4) (filled_cells s t n m)) e₁ }
 
 -- the numbers of the written matrix that aren't 0 are the cells that the slots fill
 pub edges_written : (n m : ℕ) (s t l : List ℕ) {e : List ℕ} {k : ℕ} → n * n ≤ length l → k ≡ filled e n → e ≡ patch 0 (matrix s t n m) l
@@ -76,5 +76,5 @@ module _ {edge : ℕ → ℕ → Bool} {n : ℕ} {l : List ℕ} {r : Bool} (e : 
   pub flags-none : r ≡ false → FlagsWritten edge n l false (set l (n * n + 2) 1)
   flags-none h = record { says = sym h ∙ e; some = λ z. absurd (true≢false (sym z)); none = λ z. refl }
 
-  pub flags-some : {l' : List ℕ} (flags : List ℕ) {flags' : List ℕ} → r ≡ true → n ≤ length flags → flags' ≡ flagged edge n flags → l' ≡ patch (lane_at n 10) (part 0 n flags') l → FlagsWritten edge n l true l'
-  flags-some flags h b k q = record { says = sym h ∙ e; some = λ z. q ∙ ap (λ (u : List ℕ). patch (lane_at n 10) u l) (flags-part edge n flags b k); none = λ z. absurd (true≢false z) }
+  pub flags_some : {l' : List ℕ} (flags : List ℕ) {flags' : List ℕ} → r ≡ true → n ≤ length flags → flags' ≡ flagged edge n flags → l' ≡ patch (lane_at n 10) (part 0 n flags') l → FlagsWritten edge n l true l'
+  flags_some flags h b k q = record { says = sym h ∙ e; some = λ z. q ∙ ap (λ (u : List ℕ). patch (lane_at n 10) u l) (flags-part edge n flags b k); none = λ z. absurd (true≢false z) }

@@ -17,13 +17,13 @@ use Rattle.layout.specs.Patch.{patch, part, part_long, part_at, patch_long}
 use Rattle.move_edges.specs.Matrix.{matrix}
 use Rattle.move_ledger.specs.Graph.{Load, at, edge, members}
 use Rattle.move_ledger.specs.Loading.{entry_sets}
-use Rattle.move_ledger.specs.LoadLaws.{Loadable-sets, entry-sets-length}
+use Rattle.move_ledger.specs.LoadLaws.{Loadable-sets, entry_sets-length}
 use Rattle.move_ledger.specs.Nodes.{sources, targets, node_edge}
 use Rattle.move_ledger.specs.NodeMoves.{placed_first, placing_first}
 use Rattle.move_ledger.specs.NodeWalks.{cyclic-nodes}
-use Rattle.move_ledger.specs.Totals.{filled_cells, busy_first}
+use Rattle.move_ledger.specs.Totals.{filled_cells, busy-first}
 use Rattle.move_area.specs.Bodies.{lane_at, Header, Bodies, write, Sized}
-use Rattle.move_area.specs.BodyLaws.{set_header, renew-edges, renew-counts, renew-component, renew-header}
+use Rattle.move_area.specs.BodyLaws.{set_header, renew_edges, renew_counts, renew_component, renew_header}
 use Rattle.move_area.specs.Area.{encode}
 use Rattle.move_area.specs.Calls.{first}
 use Rattle.move_area.specs.NodeBodies.{Nodes, node_bodies, state_of, encode-nodes}
@@ -32,7 +32,7 @@ use Rattle.move_slots.specs.Counted.{Counted, counted-ends, counted_le, counted-
 use Rattle.move_slots.specs.Slots.{bounds}
 use Rattle.move_loading.specs.Start.{start_bodies}
 use Rattle.move_loading.specs.Steps.{GraphWritten, component_lane, CanWriteFlags, FlagsWritten, CanLoad}
-use Rattle.move_loading.proofs.Reading.{same-sets, room-is, start_of, start-sized, start-long, sets-are, nodes-are}
+use Rattle.move_loading.proofs.Reading.{same-sets, room_is, start_of, start-sized, start_long, sets_are, nodes_are}
 
 module _ (load : Load) (n : ℕ) (sets l : List ℕ) (r : Loadable-sets load n sets (length l)) where
   abbrev X : List ℕ
@@ -46,17 +46,17 @@ module _ (load : Load) (n : ℕ) (sets l : List ℕ) (r : Loadable-sets load n s
   edges = node_edge load nodes X
 
   long : length X ≡ load.A
-  long = entry-sets-length load sets
+  long = entry_sets-length load sets
 
   few : length X ≤ n
   few = omega (arith, long, r.loadable.sizes.wide)
 
-  abbrev firstNodes : Nodes
-  firstNodes = record { sets = X; nodes = nodes; counter = 0; marks = replicate n 0 }
+  abbrev first_nodes : Nodes
+  first_nodes = record { sets = X; nodes = nodes; counter = 0; marks = replicate n 0 }
 
   -- what the area holds when the graph is written, with an acyclic flag and a component
-  abbrev graphHeader : ℕ → Header
-  graphHeader y =
+  abbrev graph_header : ℕ → Header
+  graph_header y =
       record {
         registered = load.A;
         counter = 0;
@@ -65,11 +65,11 @@ module _ (load : Load) (n : ℕ) (sets l : List ℕ) (r : Loadable-sets load n s
         distinct = filled_cells (sources load nodes X) (targets load nodes X) n (load.D + load.E);
       }
 
-  abbrev graphBodies : ℕ → List ℕ → Bodies
-  graphBodies y w =
+  abbrev graph_bodies : ℕ → List ℕ → Bodies
+  graph_bodies y w =
       record {
         edges = tab (flat (sources load nodes X) (targets load nodes X) n (load.D + load.E)) (n * n);
-        header = graphHeader y;
+        header = graph_header y;
         words = (start_of load n sets l r).words;
         counts = tab (members load nodes) n;
         marks = replicate n 0;
@@ -77,8 +77,8 @@ module _ (load : Load) (n : ℕ) (sets l : List ℕ) (r : Loadable-sets load n s
         nodes = nodes;
       }
 
-  graph-sized : (y : ℕ) (w : List ℕ) → length w ≡ n → Sized n load.A (graphBodies y w)
-  graph-sized y w e =
+  graph_sized : (y : ℕ) (w : List ℕ) → length w ≡ n → Sized n load.A (graph_bodies y w)
+  graph_sized y w e =
       record {
         edges = tab-length _ (n * n);
         few = omega (arith, r.loadable.sizes.wide);
@@ -90,51 +90,51 @@ module _ (load : Load) (n : ℕ) (sets l : List ℕ) (r : Loadable-sets load n s
       }
 
   -- with the flag and the component of the edges, it is the first state
-  bodies-are : graphBodies (ind (not (cyclic edges (below n)))) (component_lane edges n) ≡ node_bodies load n firstNodes
+  bodies_are : graph_bodies (ind (not (cyclic edges (below n)))) (component_lane edges n) ≡ node_bodies load n first_nodes
   unfolding node_bodies
-  bodies-are = rw (long, busy_first load n (omega (arith, r.loadable.sizes.wide))) refl
+  bodies_are = rw (long, busy-first load n (omega (arith, r.loadable.sizes.wide))) refl
 
-  state-is : state_of firstNodes ≡ first load n sets
-  state-is = rw (placed_first X load.A long) refl
+  state_is : state_of first_nodes ≡ first load n sets
+  state_is = rw (placed_first X load.A long) refl
 
-  whole : {y : ℕ} {w : List ℕ} → y ≡ ind (not (cyclic edges (below n))) → w ≡ component_lane edges n → write n (graphBodies y w) l ≡ encode load n (first load n sets) l
+  whole : {y : ℕ} {w : List ℕ} → y ≡ ind (not (cyclic edges (below n))) → w ≡ component_lane edges n → write n (graph_bodies y w) l ≡ encode load n (first load n sets) l
   whole p q =
-      ap₂ (λ y w. write n (graphBodies y w) l) p q ∙ ap (λ b. write n b l) bodies-are
-      ∙ sym (encode-nodes load n firstNodes r.loadable.order (placing_first r) few l) ∙ ap (λ s. encode load n s l) state-is
+      ap₂ (λ y w. write n (graph_bodies y w) l) p q ∙ ap (λ b. write n b l) bodies_are
+      ∙ sym (encode-nodes load n first_nodes r.loadable.order (placing_first r) few l) ∙ ap (λ s. encode load n s l) state_is
 
   -- the acyclic flag is set
-  set-flag : (y z : ℕ) (w : List ℕ) → length w ≡ n → set (write n (graphBodies y w) l) (n * n + 2) z ≡ write n (graphBodies z w) l
+  set-flag : (y z : ℕ) (w : List ℕ) → length w ≡ n → set (write n (graph_bodies y w) l) (n * n + 2) z ≡ write n (graph_bodies z w) l
   set-flag y z w e =
-      set_header n load.A (graphBodies y w) (graph-sized y w e) l (room-is load n sets l r) 2 z (omega arith) ∙ renew-header n load.A (graphBodies y w) (graph-sized y w e) l (graphHeader z)
+      set_header n load.A (graph_bodies y w) (graph_sized y w e) l (room_is load n sets l r) 2 z (omega arith) ∙ renew_header n load.A (graph_bodies y w) (graph_sized y w e) l (graph_header z)
 
   module _ (l₁ : List ℕ) (e₁ : l₁ ≡ write n (start_of load n sets l r) l) {counts s t : List ℕ} {m : ℕ} {l₂ : List ℕ} (g : GraphWritten load n l₁ counts s t m l₂) where
     filled : Filled load n nodes X counts s t
-    filled = rw (nodes-are load n sets l r l₁ e₁, sets-are load n sets l r l₁ e₁) at g.filled
+    filled = rw (nodes_are load n sets l r l₁ e₁, sets_are load n sets l r l₁ e₁) at g.filled
 
     pub counted : Counted load nodes X s t n m
     counted = record { order = r.loadable.order; placing = placing_first r; few = few; slots = filled.slots; many = g.many }
 
-    counts-are : part 0 n counts ≡ tab (members load nodes) n
-    counts-are = is_tab (part 0 n counts) n _ (part_long 0 n counts) (λ x b. part_at 0 n counts x b ∙ ap (λ i. get_or counts i 0) (zero-add x) ∙ filled.count_at x b)
+    counts_are : part 0 n counts ≡ tab (members load nodes) n
+    counts_are = is_tab (part 0 n counts) n _ (part_long 0 n counts) (λ x b. part_at 0 n counts x b ∙ ap (λ i. get_or counts i 0) (zero-add x) ∙ filled.count_at x b)
 
-    matrix-is : matrix s t n m ≡ tab (flat (sources load nodes X) (targets load nodes X) n (load.D + load.E)) (n * n)
+    matrix_is : matrix s t n m ≡ tab (flat (sources load nodes X) (targets load nodes X) n (load.D + load.E)) (n * n)
     unfolding matrix
-    matrix-is = tab_alike _ _ (n * n) (counted-flat counted)
+    matrix_is = tab_alike _ _ (n * n) (counted-flat counted)
 
     cells_are : filled_cells s t n m ≡ filled_cells (sources load nodes X) (targets load nodes X) n (load.D + load.E)
     unfolding filled_cells
     cells_are = count_ext _ _ (n * n) (λ i b. ap (ltb 0) (counted-flat counted i b))
 
-    graph_is : l₂ ≡ write n (graphBodies 0 (replicate n 0)) l
+    graph_is : l₂ ≡ write n (graph_bodies 0 (replicate n 0)) l
     graph_is =
         g.area ∙ ap (set (patch 0 (matrix s t n m) (patch (lane_at n 8) (part 0 n counts) l₁)) (n * n + 4)) cells_are
-        ∙ ap₂ (λ (u v : List ℕ). set (patch 0 u (patch (lane_at n 8) v l₁)) (n * n + 4) F) matrix-is counts-are
+        ∙ ap₂ (λ (u v : List ℕ). set (patch 0 u (patch (lane_at n 8) v l₁)) (n * n + 4) F) matrix_is counts_are
         ∙ ap (λ (u : List ℕ). set (patch 0 M (patch (lane_at n 8) (tab (members load nodes) n) u)) (n * n + 4) F) e₁
         ∙ ap (λ (u : List ℕ). set (patch 0 M u) (n * n + 4) F)
-        (renew-counts n load.A (start_of load n sets l r) (start-sized load n sets l r) l (tab (members load nodes) n) (tab-length _ n))
-        ∙ ap (λ (u : List ℕ). set u (n * n + 4) F) (renew-edges n load.A (made (part 0 (n * n) l)) (made-sized (part 0 (n * n) l) (part_long 0 (n * n) l)) l M (tab-length _ (n * n)))
-        ∙ set_header n load.A (made M) (made-sized M (tab-length _ (n * n))) l (room-is load n sets l r) 4 F (omega arith)
-        ∙ renew-header n load.A (made M) (made-sized M (tab-length _ (n * n))) l (graphHeader 0)
+        (renew_counts n load.A (start_of load n sets l r) (start-sized load n sets l r) l (tab (members load nodes) n) (tab-length _ n))
+        ∙ ap (λ (u : List ℕ). set u (n * n + 4) F) (renew_edges n load.A (made (part 0 (n * n) l)) (made-sized (part 0 (n * n) l) (part_long 0 (n * n) l)) l M (tab-length _ (n * n)))
+        ∙ set_header n load.A (made M) (made-sized M (tab-length _ (n * n))) l (room_is load n sets l r) 4 F (omega arith)
+        ∙ renew_header n load.A (made M) (made-sized M (tab-length _ (n * n))) l (graph_header 0)
       where
         M : List ℕ
         M = tab (flat (sources load nodes X) (targets load nodes X) n (load.D + load.E)) (n * n)
@@ -167,15 +167,15 @@ module _ (load : Load) (n : ℕ) (sets l : List ℕ) (r : Loadable-sets load n s
               nodes = tab-length _ load.A;
             }
 
-    component-is : component_lane (slot_edge s t m) n ≡ component_lane edges n
-    component-is = tab_alike _ _ n (λ x b. ap (λ e. ind (only e (below n) x)) (counted-edge counted (omega arith)))
+    component_is : component_lane (slot_edge s t m) n ≡ component_lane edges n
+    component_is = tab_alike _ _ n (λ x b. ap (λ e. ind (only e (below n) x)) (counted-edge counted (omega arith)))
 
     -- what is answered, and the area
     pub loaded-says : {c : Bool} {l₃ : List ℕ} → FlagsWritten (slot_edge s t m) n l₂ c l₃ → c ≡ cyclic (edge load X) X
     loaded-says f = f.says ∙ counted-cyclic counted ∙ cyclic-nodes r.loadable.order (placing_first r) n few ∙ ap (λ (p : List ℕ). cyclic (edge load p) p) (placed_first X load.A long)
 
-    pub loaded-is : {c : Bool} {l₃ : List ℕ} → FlagsWritten (slot_edge s t m) n l₂ c l₃ → l₃ ≡ encode load n (first load n sets) l
-    loaded-is {c} {l₃} f = go c refl
+    pub loaded_is : {c : Bool} {l₃ : List ℕ} → FlagsWritten (slot_edge s t m) n l₂ c l₃ → l₃ ≡ encode load n (first load n sets) l
+    loaded_is {c} {l₃} f = go c refl
       where
         flag : (b : Bool) → c ≡ b → cyclic edges (below n) ≡ b
         flag b h = sym (counted-cyclic counted) ∙ sym f.says ∙ h
@@ -183,8 +183,8 @@ module _ (load : Load) (n : ℕ) (sets l : List ℕ) (r : Loadable-sets load n s
         go : (b : Bool) → c ≡ b → l₃ ≡ encode load n (first load n sets) l
         go true h =
             f.some h ∙ ap (patch (lane_at n 10) (component_lane (slot_edge s t m) n)) graph_is
-            ∙ renew-component n load.A (graphBodies 0 (replicate n 0)) (graph-sized 0 (replicate n 0) (length-replicate n 0)) l (component_lane (slot_edge s t m) n) (tab-length _ n)
-            ∙ whole (sym (ap (λ b. ind (not b)) (flag true h))) component-is
+            ∙ renew_component n load.A (graph_bodies 0 (replicate n 0)) (graph_sized 0 (replicate n 0) (length-replicate n 0)) l (component_lane (slot_edge s t m) n) (tab-length _ n)
+            ∙ whole (sym (ap (λ b. ind (not b)) (flag true h))) component_is
         go false h =
             f.none h ∙ ap (λ (u : List ℕ). set u (n * n + 2) 1) graph_is ∙ set-flag 0 1 (replicate n 0) (length-replicate n 0)
             ∙ whole (sym (ap (λ b. ind (not b)) (flag false h))) (is_tab (replicate n 0) n _ (length-replicate n 0) (λ x b. zeros n x ∙ sym (ap ind (acyclic_none edges n x (flag false h) b))))
@@ -194,13 +194,13 @@ module _ {load : Load} {n : ℕ} {sets area sources targets heads list : List �
   pub start_is : {l : List ℕ} → l ≡ write n (start_bodies load.A n (entry_sets (bounds load.A load.E) sets) area) area → l ≡ write n (start_of load n sets area can.loadable) area
   start_is e = e ∙ ap (λ (X : List ℕ). write n (start_bodies load.A n X area) area) (same-sets load sets)
 
-  pub flags-can : {l heads' s t : List ℕ} {m : ℕ} {l' : List ℕ} → l ≡ write n (start_of load n sets area can.loadable) area → GraphWritten load n l heads' s t m l'
+  pub flags_can : {l heads' s t : List ℕ} {m : ℕ} {l' : List ℕ} → l ≡ write n (start_of load n sets area can.loadable) area → GraphWritten load n l heads' s t m l'
       → length heads' ≡ length heads → length s ≡ length sources → length t ≡ length targets → CanWriteFlags l' n m s t heads' list
-  flags-can {l} {heads'} {s} {t} {m} {l'} e g h a b =
+  flags_can {l} {heads'} {s} {t} {m} {l'} e g h a b =
       let q = counted load n sets area can.loadable l e g in
       let z = counted_le q in
       let graph : List ℕ = patch 0 (matrix s t n m) (patch (lane_at n 8) (part 0 n heads') l) in
-      let y : length l' ≡ length area = ap length g.area ∙ length-set graph (n * n + 4) (filled_cells s t n m) ∙ patch_long 0 (matrix s t n m) (patch (lane_at n 8) (part 0 n heads') l) ∙ patch_long (lane_at n 8) (part 0 n heads') l ∙ start-long load n sets area can.loadable l e in
+      let y : length l' ≡ length area = ap length g.area ∙ length-set graph (n * n + 4) (filled_cells s t n m) ∙ patch_long 0 (matrix s t n m) (patch (lane_at n 8) (part 0 n heads') l) ∙ patch_long (lane_at n 8) (part 0 n heads') l ∙ start_long load n sets area can.loadable l e in
       record {
         room = omega (arith, can.loadable.loadable.sizes.area);
         slots = record {

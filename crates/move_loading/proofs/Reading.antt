@@ -12,7 +12,7 @@ use Rattle.entry_set.specs.LaneLaws.{lanes_is}
 use Rattle.entry_set.specs.SetLaws.{below_256}
 use Rattle.move_ledger.specs.Graph.{Load, at}
 use Rattle.move_ledger.specs.Loading.{entry_sets}
-use Rattle.move_ledger.specs.LoadLaws.{Loadable, Loadable-sets, entry-sets-length}
+use Rattle.move_ledger.specs.LoadLaws.{Loadable, Loadable-sets, entry_sets-length}
 use Rattle.move_ledger.specs.Sound.{loading_sound}
 use Rattle.move_area.specs.Bodies.{lane_at, atom_at, Bodies, write, Sized}
 use Rattle.move_area.specs.BodyLaws.{write_long, read-registered, read-words, read-marks, read-nodes}
@@ -32,14 +32,14 @@ module _ (load : Load) (n : ℕ) (sets l : List ℕ) (r : Loadable-sets load n s
   pub passes : Loadable load n true (length l)
   passes = record { sizes = r.loadable.sizes; lengths = refl; order = r.loadable.order }
 
-  pub room-is : atom_at n + load.A ≤ length l
-  room-is = omega (arith, r.loadable.sizes.area)
+  pub room_is : atom_at n + load.A ≤ length l
+  room_is = omega (arith, r.loadable.sizes.area)
 
   abbrev pub start_of : Bodies
   start_of = start_bodies load.A n (entry_sets load sets) l
 
   long : length (entry_sets load sets) ≡ load.A
-  long = entry-sets-length load sets
+  long = entry_sets-length load sets
 
   pub start-sized : Sized n load.A start_of
   start-sized =
@@ -54,11 +54,11 @@ module _ (load : Load) (n : ℕ) (sets l : List ℕ) (r : Loadable-sets load n s
       }
 
   module _ (l₁ : List ℕ) (e : l₁ ≡ write n start_of l) where
-    pub start-long : length l₁ ≡ length l
-    start-long = ap length e ∙ write_long n start_of l
+    pub start_long : length l₁ ≡ length l
+    start_long = ap length e ∙ write_long n start_of l
 
-    count-is : get_or l₁ (n * n) 0 ≡ load.A
-    count-is = ap (λ (u : List ℕ). get_or u (n * n) 0) e ∙ read-registered n load.A start_of start-sized l room-is
+    count_is : get_or l₁ (n * n) 0 ≡ load.A
+    count_is = ap (λ (u : List ℕ). get_or u (n * n) 0) e ∙ read-registered n load.A start_of start-sized l room_is
 
     cell : (b k : ℕ) (w : List ℕ) → part b k (write n start_of l) ≡ w → (x : ℕ) → x < k → get_or l₁ (b + x) 0 ≡ get_or w x 0
     cell b k w h x z = ap (λ (u : List ℕ). get_or u (b + x) 0) e ∙ sym (part_at b k (write n start_of l) x z) ∙ ap (λ (u : List ℕ). get_or u x 0) h
@@ -66,33 +66,33 @@ module _ (load : Load) (n : ℕ) (sets l : List ℕ) (r : Loadable-sets load n s
     wide : (x : ℕ) → x < load.A → at (entry_sets load sets) x < 2 ^ 256
     wide x b = below_256 r.loadable.sizes.bits ((loading_sound r).in_range x (omega (arith, long)))
 
-    pub sets-are : sets_in n l₁ ≡ entry_sets load sets
+    pub sets_are : sets_in n l₁ ≡ entry_sets load sets
     unfolding sets_in
-    sets-are =
-        sym (is_tab (entry_sets load sets) (get_or l₁ (n * n) 0) _ (long ∙ sym count-is) (λ x b.
-        let c : x < load.A = omega (arith, count-is) in
+    sets_are =
+        sym (is_tab (entry_sets load sets) (get_or l₁ (n * n) 0) _ (long ∙ sym count_is) (λ x b.
+        let c : x < load.A = omega (arith, count_is) in
         sym (lanes_is l₁ (lane_at n 0 + x) n (at (entry_sets load sets) x) (wide x c) (λ j h.
         let q : lane_at n 0 + x + j * n ≡ lane_at n j + x = omega arith in
-        ap (λ i. get_or l₁ i 0) q ∙ cell (lane_at n j) load.A _ (read-words n load.A start_of start-sized l room-is j h) x c ∙ tab-at _ load.A x c))))
+        ap (λ i. get_or l₁ i 0) q ∙ cell (lane_at n j) load.A _ (read-words n load.A start_of start-sized l room_is j h) x c ∙ tab-at _ load.A x c))))
 
-    pub nodes-are : nodes_in load n l₁ ≡ tab (λ i. i) load.A
-    nodes-are = ap (part (atom_at n) load.A) e ∙ read-nodes n load.A start_of start-sized l room-is
+    pub nodes_are : nodes_in load n l₁ ≡ tab (λ i. i) load.A
+    nodes_are = ap (part (atom_at n) load.A) e ∙ read-nodes n load.A start_of start-sized l room_is
 
-    pub start-ranged : Ranged load n l₁
-    start-ranged =
+    pub start_ranged : Ranged load n l₁
+    start_ranged =
         record {
-          few = omega (arith, count-is, r.loadable.sizes.wide);
-          nodes = λ i b. omega (arith, count-is, cell (atom_at n) load.A _ (read-nodes n load.A start_of start-sized l room-is) i b, tab-at (λ i. i) load.A i b);
-          distinct = rw sets-are (record { apart = (loading_sound r).distinct });
-          range = λ x b. rw sets-are ((loading_sound r).in_range x (omega (arith, count-is, long)));
-          marks = λ x b. omega (arith, cell (lane_at n 9) n _ (read-marks n load.A start_of start-sized l room-is) x b, zeros n x);
+          few = omega (arith, count_is, r.loadable.sizes.wide);
+          nodes = λ i b. omega (arith, count_is, cell (atom_at n) load.A _ (read-nodes n load.A start_of start-sized l room_is) i b, tab-at (λ i. i) load.A i b);
+          distinct = rw sets_are (record { apart = (loading_sound r).distinct });
+          range = λ x b. rw sets_are ((loading_sound r).in_range x (omega (arith, count_is, long)));
+          marks = λ x b. omega (arith, cell (lane_at n 9) n _ (read-marks n load.A start_of start-sized l room_is) x b, zeros n x);
         }
 
 -- what the steps ask
 module _ {load : Load} {n : ℕ} {sets area sources targets heads list : List ℕ} (can : CanLoad load n sets area sources targets heads list) where
-  pub start-can : CanStart area load.A load.E n sets
-  start-can = record {
-    room = room-is load n sets area can.loadable;
+  pub start_can : CanStart area load.A load.E n sets
+  start_can = record {
+    room = room_is load n sets area can.loadable;
     few = omega (arith, can.loadable.loadable.sizes.wide);
     nodes = can.loadable.loadable.sizes.sets;
     atoms = can.loadable.loadable.sizes.atoms;
@@ -101,11 +101,11 @@ module _ {load : Load} {n : ℕ} {sets area sources targets heads list : List �
   }
 
   pub ranged : {l : List ℕ} → l ≡ write n (start_of load n sets area can.loadable) area → Ranged load n l
-  ranged {l} e = start-ranged load n sets area can.loadable l e
+  ranged {l} e = start_ranged load n sets area can.loadable l e
 
-  pub graph-can : {l : List ℕ} → l ≡ write n (start_of load n sets area can.loadable) area → CanFillOwn load n l heads sources targets
-  graph-can {l} e = record {
-    loadable = subst (Loadable load n true) (sym (start-long load n sets area can.loadable l e)) (passes load n sets area can.loadable);
+  pub graph_can : {l : List ℕ} → l ≡ write n (start_of load n sets area can.loadable) area → CanFillOwn load n l heads sources targets
+  graph_can {l} e = record {
+    loadable = subst (Loadable load n true) (sym (start_long load n sets area can.loadable l e)) (passes load n sets area can.loadable);
     few = (ranged e).few;
     inside = (ranged e).nodes;
     counts_long = omega (arith, can.lists.rows);

@@ -14,7 +14,7 @@ use Rattle.entry_set.specs.Joined.{parts}
 use Rattle.entry_set.specs.Sets.{width}
 use Rattle.move_ledger.specs.Graph.{at}
 use Rattle.move_ledger.specs.Loading.{entry_sets}
-use Rattle.move_ledger.specs.LoadLaws.{entry-sets-at}
+use Rattle.move_ledger.specs.LoadLaws.{entry_sets-at}
 use Rattle.move_area.specs.Bodies.{lane_at, atom_at, write}
 use Rattle.move_loading.specs.Start.{lent_word, word_fields, start_bodies, CanWords, CanStart}
 
@@ -56,7 +56,7 @@ sets-lay n w a sets l₀ e₁ e₂ e₃ e₄ e₅ e₆ e₇ e₈ = cc
 
 -- the words of the lent sets are those of the entry sets
 words_alike : (a e w : ℕ) (sets : List ℕ) → w ≡ width e → (j : ℕ) → tab (λ x. get_or (parts 32 8 (at (entry_sets (bounds a e) sets) x)) j 0) a ≡ tab (lent_word w sets j) a
-words_alike a e w sets q j = rw q (tab_alike _ _ a (λ x b. ap (λ X. get_or (parts 32 8 X) j 0) (entry-sets-at (bounds a e) sets x b)))
+words_alike a e w sets q j = rw q (tab_alike _ _ a (λ x b. ap (λ X. get_or (parts 32 8 X) j 0) (entry_sets-at (bounds a e) sets x b)))
 
 -- the start's writes
 pub start_written : (a e n w : ℕ) (sets l₀ : List ℕ) {l₁ l₂ l₃ l₄ l₅ l₆ : List ℕ} → w ≡ width e → l₁ ≡ patch (n * n) (a ∷ 0 ∷ 0 ∷ a ∷ 0 ∷ []) l₀ → l₂ ≡ lay (word_fields n w sets a) l₁

@@ -14,9 +14,9 @@ use Rattle.move_area.specs.Calls.{first, new}
 
 module _ (load : Load) (fixed : List ℕ) (N : ℕ) (sets area : List ℕ) where
   -- row q fits
-  pub new-refused : {q : ℕ} → q ≡ loading_row load fixed N sets (length area) → (q ≡ 0 → ⊥) → (refused q ≡ (new load fixed N sets area).answer) × (area ≡ (new load fixed N sets area).area)
+  pub new_refused : {q : ℕ} → q ≡ loading_row load fixed N sets (length area) → (q ≡ 0 → ⊥) → (refused q ≡ (new load fixed N sets area).answer) × (area ≡ (new load fixed N sets area).area)
   unfolding new loading
-  new-refused {q} e h = rw (← e, ne_eqb q 0 h) (refl, refl)
+  new_refused {q} e h = rw (← e, ne_eqb q 0 h) (refl, refl)
 
   -- none does
   module _ (none : loading_row load fixed N sets (length area) ≡ 0) {c : Bool} (h : c ≡ cyclic (edge load (entry_sets load sets)) (entry_sets load sets)) where
@@ -24,9 +24,9 @@ module _ (load : Load) (fixed : List ℕ) (N : ℕ) (sets area : List ℕ) where
     unfolding new loading
     new-answer = rw (none, ← h) refl
 
-    pub new-area : {l : List ℕ} → l ≡ flag load fixed N (encode load N (first load N sets) area) → l ≡ (new load fixed N sets area).area
+    pub new_area : {l : List ℕ} → l ≡ flag load fixed N (encode load N (first load N sets) area) → l ≡ (new load fixed N sets area).area
     unfolding new loading
-    new-area {l} e = rw (none, ← h) (go c)
+    new_area {l} e = rw (none, ← h) (go c)
       where
         go : (b : Bool) → l ≡ cond (answer.is_refused (cond b answer.cyclic acyclic)) area (flag load fixed N (encode load N (first load N sets) area))
         go true = e

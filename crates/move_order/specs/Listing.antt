@@ -19,8 +19,8 @@ use Rattle.move_order.specs.Order.{ready, first, listing}
 
 -- one number behind a list
 module _ (l : List ℕ) (x : ℕ) where
-  pub snoc-length : length (l ++ x ∷ []) ≡ length l + 1
-  snoc-length = simp length-append
+  pub snoc_length : length (l ++ x ∷ []) ≡ length l + 1
+  snoc_length = simp length-append
 
   pub snoc_old : (i : ℕ) → i < length l → at (l ++ x ∷ []) i ≡ at l i
   snoc_old i h = get_or-append l (x ∷ []) 0 i h
@@ -69,9 +69,9 @@ module _ (e : ℕ → ℕ → Bool) (w : ℕ → Bool) (ks : List ℕ) where
     pub new : has x listed ≡ false
     pub led : (y : ℕ) → has y ks ≡ true → e x y ≡ true → has y listed ≡ true
 
-  pub ready-fit : (listed : List ℕ) (x : ℕ) → ready e w ks listed x ≡ true → Fit listed x
+  pub ready_fit : (listed : List ℕ) (x : ℕ) → ready e w ks listed x ≡ true → Fit listed x
   unfolding ready
-  ready-fit listed x h =
+  ready_fit listed x h =
       let r = and_right (w x) _ h in
       record {
         want = and_left (w x) _ h;
@@ -90,7 +90,7 @@ module _ (e : ℕ → ℕ → Bool) (w : ℕ → Bool) (ks : List ℕ) where
   keeps P step (suc k) l h = go (any (ready e w ks l) ks) refl (λ m q. keeps P step k m q)
     where
       go : (t : Bool) → any (ready e w ks l) ks ≡ t → ((m : List ℕ) → P m → P (listing e w ks k m)) → P (cond t (listing e w ks k (l ++ first (ready e w ks l) ks ∷ [])) l)
-      go true q f = let r = first_is (ready e w ks l) ks q in f (l ++ first (ready e w ks l) ks ∷ []) (step l _ h r.0 (ready-fit l _ r.1))
+      go true q f = let r = first_is (ready e w ks l) ks q in f (l ++ first (ready e w ks l) ks ∷ []) (step l _ h r.0 (ready_fit l _ r.1))
       go false q f = h
 
   -- at most k more
@@ -101,7 +101,7 @@ module _ (e : ℕ → ℕ → Bool) (w : ℕ → Bool) (ks : List ℕ) where
     where
       go : (t : Bool) → length (listing e w ks k (l ++ first (ready e w ks l) ks ∷ [])) ≤ length (l ++ first (ready e w ks l) ks ∷ []) + k
           → length (cond t (listing e w ks k (l ++ first (ready e w ks l) ks ∷ [])) l) ≤ length l + suc k
-      go true f = omega (arith, f, snoc-length l (first (ready e w ks l) ks))
+      go true f = omega (arith, f, snoc_length l (first (ready e w ks l) ks))
       go false f = omega arith
 
   -- only what is wanted
@@ -112,14 +112,14 @@ module _ (e : ℕ → ℕ → Bool) (w : ℕ → Bool) (ks : List ℕ) where
   only-wanted = keeps Only (λ l x h m f z q. ⊎_elim (h z) (λ a. rw (eqb-true z x a) f.want) (or_cases (has z l) _ (sym (has_snoc z x l) ∙ q)))
 
   -- each once
-  pub listed-once : (k : ℕ) (l : List ℕ) → Apart l → Apart (listing e w ks k l)
-  listed-once = keeps Apart step
+  pub listed_once : (k : ℕ) (l : List ℕ) → Apart l → Apart (listing e w ks k l)
+  listed_once = keeps Apart step
     where
       step : (l : List ℕ) (x : ℕ) → Apart l → has x ks ≡ true → Fit l x → Apart (l ++ x ∷ [])
       step l x d m f i j a b q = go (ℕ_discrete j (length l))
         where
           short : j < length l + 1
-          short = omega (arith, b, snoc-length l x)
+          short = omega (arith, b, snoc_length l x)
 
           before : i < length l
           before = omega (arith, short)
@@ -132,14 +132,14 @@ module _ (e : ℕ → ℕ → Bool) (w : ℕ → Bool) (ks : List ℕ) where
   abbrev pub Behind : List ℕ → Type 0
   Behind l = (i : ℕ) → i < length l → (y : ℕ) → has y ks ≡ true → e (at l i) y ≡ true → (j : ℕ) × (j < i) × (at l j ≡ y)
 
-  pub listed-behind : (k : ℕ) (l : List ℕ) → Behind l → Behind (listing e w ks k l)
-  listed-behind = keeps Behind step
+  pub listed_behind : (k : ℕ) (l : List ℕ) → Behind l → Behind (listing e w ks k l)
+  listed_behind = keeps Behind step
     where
       step : (l : List ℕ) (x : ℕ) → Behind l → has x ks ≡ true → Fit l x → Behind (l ++ x ∷ [])
       step l x d m f i b y n q = go (ℕ_discrete i (length l))
         where
           short : i < length l + 1
-          short = omega (arith, b, snoc-length l x)
+          short = omega (arith, b, snoc_length l x)
 
           go : Dec (i ≡ length l) → (j : ℕ) × (j < i) × (at (l ++ x ∷ []) j ≡ y)
           go (yes z) =

@@ -11,7 +11,7 @@ use Rattle.graphs.specs.Bools.{or_false_left, and_left, and_right, and_both, fai
 use Rattle.graphs.specs.Count.{ind, count, count_pos}
 use Rattle.graphs.specs.Lists.{any, has, any_give, any-take, all_give, has-place}
 use Rattle.graphs.specs.Walk.{one, more, via, cyclic}
-use Rattle.graphs.specs.Walks.{via-walk, acyclic-walk}
+use Rattle.graphs.specs.Walks.{via_walk, acyclic_walk}
 use Rattle.move_ledger.specs.Graph.{at}
 use Rattle.move_order.specs.Order.{ready, first, listing}
 use Rattle.move_order.specs.Listing.{has_snoc, first_is}
@@ -27,10 +27,10 @@ count_less p q (suc k) h = go (p k) refl (q k) refl (count_less p q k (λ j b. h
     go true a false b c = absurd (true≢false (sym (h k (omega arith) a) ∙ b))
     go false a u b c = omega arith
 
-count_fewer : (p q : ℕ → Bool) (k : ℕ) → ((j : ℕ) → j < k → p j ≡ true → q j ≡ true) → (i : ℕ) → i < k → p i ≡ false → q i ≡ true → count p k < count q k
+count-fewer : (p q : ℕ → Bool) (k : ℕ) → ((j : ℕ) → j < k → p j ≡ true → q j ≡ true) → (i : ℕ) → i < k → p i ≡ false → q i ≡ true → count p k < count q k
 unfolding count
-count_fewer p q zero h i b x y = absurd (omega arith)
-count_fewer p q (suc k) h i b x y = go (ℕ_discrete i k) (count_less p q k (λ j c. h j (omega arith))) (λ c. count_fewer p q k (λ j d. h j (omega arith)) i c x y) (p k) refl (q k) refl
+count-fewer p q zero h i b x y = absurd (omega arith)
+count-fewer p q (suc k) h i b x y = go (ℕ_discrete i k) (count_less p q k (λ j c. h j (omega arith))) (λ c. count-fewer p q k (λ j d. h j (omega arith)) i c x y) (p k) refl (q k) refl
   where
     go : Dec (i ≡ k) → count p k ≤ count q k → (i < k → count p k < count q k) → (t : Bool) → p k ≡ t → (u : Bool) → q k ≡ u → suc (count p k + ind t) ≤ count q k + ind u
     go (yes e) c f true r u s = absurd (true≢false (sym r ∙ ap p (sym e) ∙ x))
@@ -52,14 +52,14 @@ module _ (e : ℕ → ℕ → Bool) (ks : List ℕ) (f : (x y : ℕ) → e x y �
   fall : (x y : ℕ) → has y ks ≡ true → e x y ≡ true → reached y < reached x
   fall x y m h =
       let r = has-place y ks m in
-      count_fewer (λ j. via e ks y (at ks j)) (λ j. via e ks x (at ks j)) (length ks)
-      (λ j b q. (via-walk e ks f x _).1 (more h ((via-walk e ks f y _).0 q))) r.0 r.1
-      (ap (via e ks y) r.2 ∙ fails _ (λ q. (acyclic-walk e ks f).0 free y ((via-walk e ks f y y).0 q)))
-      (ap (via e ks x) r.2 ∙ (via-walk e ks f x y).1 (one h))
+      count-fewer (λ j. via e ks y (at ks j)) (λ j. via e ks x (at ks j)) (length ks)
+      (λ j b q. (via_walk e ks f x _).1 (more h ((via_walk e ks f y _).0 q))) r.0 r.1
+      (ap (via e ks y) r.2 ∙ fails _ (λ q. (acyclic_walk e ks f).0 free y ((via_walk e ks f y y).0 q)))
+      (ap (via e ks x) r.2 ∙ (via_walk e ks f x y).1 (one h))
 
-  pub some-last : (k x : ℕ) → reached x < k → u x ≡ true → (z : ℕ) × Last z
-  some-last zero x b h = absurd (omega arith)
-  some-last (suc k) x b h = go (any (λ y. e x y && u y) ks) refl (λ y c q. some-last k y c q)
+  pub some_last : (k x : ℕ) → reached x < k → u x ≡ true → (z : ℕ) × Last z
+  some_last zero x b h = absurd (omega arith)
+  some_last (suc k) x b h = go (any (λ y. e x y && u y) ks) refl (λ y c q. some_last k y c q)
     where
       go : (t : Bool) → any (λ y. e x y && u y) ks ≡ t → ((y : ℕ) → reached y < k → u y ≡ true → (z : ℕ) × Last z) → (z : ℕ) × Last z
       go true q g =
@@ -80,7 +80,7 @@ module _ (e : ℕ → ℕ → Bool) (ks : List ℕ) (f : (x y : ℕ) → e x y �
   unfolding ready
   goes_on listed x h d =
       let u : ℕ → Bool = λ z. w z && not (has z listed) in
-      let r = some-last e ks f free u (suc (reached e ks f free u x)) x (omega arith) (and_both (w x) _ h (ap not d)) in
+      let r = some_last e ks f free u (suc (reached e ks f free u x)) x (omega arith) (and_both (w x) _ h (ap not d)) in
       let z : ℕ = r.0 in
       let wz : w z ≡ true = and_left (w z) _ r.1.passes in
       any_give (ready e w ks listed) ks z (inside z wz)
@@ -104,7 +104,7 @@ module _ (e : ℕ → ℕ → Bool) (ks : List ℕ) (f : (x y : ℕ) → e x y �
       let i = has-place z ks r.0 in
       let wz : w z ≡ true = and_left (w z) _ r.1 in
       let nz : not (has z listed) ≡ true = and_left (not (has z listed)) _ (and_right (w z) _ r.1) in
-      count_fewer (λ j. w (at ks j) && not (has (at ks j) (listed ++ z ∷ []))) (λ j. w (at ks j) && not (has (at ks j) listed)) (length ks)
+      count-fewer (λ j. w (at ks j) && not (has (at ks j) (listed ++ z ∷ []))) (λ j. w (at ks j) && not (has (at ks j) listed)) (length ks)
       (λ j b m. and_both (w (at ks j)) _ (and_left (w (at ks j)) _ m) (ap not (or_false_left (has (at ks j) listed) (eqb (at ks j) z) (sym (has_snoc (at ks j) z listed) ∙ not-true _ (and_right (w (at ks j)) _ m)))))
       i.0 i.1
       (rw (i.2, has_snoc z z listed, eq-eqb z z refl) (ap (λ t. w z && not t) (or-true (has z listed)) ∙ and-false (w z)))

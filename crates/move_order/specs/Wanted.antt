@@ -5,7 +5,7 @@ use Rattle.std.proofs.Math.Logic.{⊎_elim}
 use Rattle.graphs.specs.Bools.{or_cases, or_left, or_right, and_left, and_right, and_both}
 use Rattle.graphs.specs.Lists.{has, any_give, any-take}
 use Rattle.graphs.specs.Walk.{Walk, one, more, via}
-use Rattle.graphs.specs.Walks.{join, via-walk}
+use Rattle.graphs.specs.Walks.{join, via_walk}
 use Rattle.move_ledger.specs.Graph.{Load, edge, insert, rising}
 use Rattle.move_ledger.specs.GraphLaws.{edge-source, edge-target}
 use Rattle.move_order.specs.Order.{holds, wanted}
@@ -44,10 +44,10 @@ module _ (load : Load) (place : List ℕ) (b : ℕ) where
     wanted-next X Y h e =
         and_both (has Y place) _ (edge-target load place long X Y e)
         (or_right (holds b Y) _
-        (⊎_elim (λ q. any_give (λ Z. holds b Z && via (edge load place) place Z Y) place X (and_left (has X place) _ h) (and_both (holds b X) _ q ((via-walk (edge load place) place from X Y).1 (one e))))
+        (⊎_elim (λ q. any_give (λ Z. holds b Z && via (edge load place) place Z Y) place X (and_left (has X place) _ h) (and_both (holds b X) _ q ((via_walk (edge load place) place from X Y).1 (one e))))
         (λ q. let r = any-take (λ Z. holds b Z && via (edge load place) place Z X) place q in
         any_give (λ Z. holds b Z && via (edge load place) place Z Y) place r.0 r.1
-        (and_both (holds b r.0) _ (and_left (holds b r.0) _ r.2) ((via-walk (edge load place) place from r.0 Y).1 (join ((via-walk (edge load place) place from r.0 X).0 (and_right (holds b r.0) _ r.2)) (one e)))))
+        (and_both (holds b r.0) _ (and_left (holds b r.0) _ r.2) ((via_walk (edge load place) place from r.0 Y).1 (join ((via_walk (edge load place) place from r.0 X).0 (and_right (holds b r.0) _ r.2)) (one e)))))
         (or_cases (holds b X) _ (and_right (has X place) _ h))))
 
     -- what holds of the chunks with the bit, and is handed on by an edge, holds of all that is wanted
@@ -57,7 +57,7 @@ module _ (load : Load) (place : List ℕ) (b : ℕ) where
     wanted-all P base step X h =
         ⊎_elim (λ q. base X (and_left (has X place) _ h) q)
         (λ q. let r = any-take (λ Z. holds b Z && via (edge load place) place Z X) place q in
-        along (base r.0 r.1 (and_left (holds b r.0) _ r.2)) ((via-walk (edge load place) place from r.0 X).0 (and_right (holds b r.0) _ r.2)))
+        along (base r.0 r.1 (and_left (holds b r.0) _ r.2)) ((via_walk (edge load place) place from r.0 X).0 (and_right (holds b r.0) _ r.2)))
         (or_cases (holds b X) _ (and_right (has X place) _ h))
       where
         along : {X Y : ℕ} → P X → Walk (edge load place) X Y → P Y

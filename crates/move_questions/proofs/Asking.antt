@@ -15,9 +15,9 @@ use Rattle.entry_set.specs.Lanes.{lanes}
 use Rattle.move_ledger.specs.Graph.{Load, at, members, mult, rising, edges}
 use Rattle.move_ledger.specs.LoadLaws.{InOrder}
 use Rattle.move_ledger.specs.Nodes.{placed, Placing, node_edge, node_mult}
-use Rattle.move_ledger.specs.NodeLaws.{members_nodes}
-use Rattle.move_ledger.specs.NodeWalks.{ends-nodes, mult-nodes, members-unseen, mult-unseen}
-use Rattle.move_ledger.specs.Totals.{chunk_count_nodes, edge-count-cells, above_none}
+use Rattle.move_ledger.specs.NodeLaws.{members-nodes}
+use Rattle.move_ledger.specs.NodeWalks.{ends-nodes, mult-nodes, members_unseen, mult_unseen}
+use Rattle.move_ledger.specs.Totals.{chunk_count-nodes, edge-count_cells, above_none}
 use Rattle.move_area.specs.Area.{sets_in, decode}
 use Rattle.move_area.specs.Bodies.{lane_at}
 use Rattle.move_area.specs.Checked.{nodes_in, sets-length, sets-at, ranged_placing}
@@ -25,8 +25,8 @@ use Rattle.set_order.specs.Order.{lane_set, First}
 use Rattle.move_questions.specs.Answers.{place_in, set_lane, Checked}
 
 module _ {load : Load} {n : ℕ} {area : List ℕ} {registered : ℕ} (h : Checked load n area registered) where
-  pub order-of : InOrder load
-  order-of = h.loadable.order
+  pub order_of : InOrder load
+  order_of = h.loadable.order
 
   pub placing : Placing load (nodes_in load n area) (sets_in n area)
   placing = ranged_placing h.loadable.sizes.sets h.ranged
@@ -43,11 +43,11 @@ module _ {load : Load} {n : ℕ} {area : List ℕ} {registered : ℕ} (h : Check
   -- the kept totals are those of the placement
   pub edge-total : get_or area (n * n + 4) 0 ≡ length (edges load (place_in load n area))
   unfolding decode
-  edge-total = h.worked.distinct ∙ sym (edge-count-cells order-of placing n (omega (arith, long, few)))
+  edge-total = h.worked.distinct ∙ sym (edge-count_cells order_of placing n (omega (arith, long, few)))
 
-  pub chunk-total : get_or area (n * n + 3) 0 ≡ length (rising (place_in load n area))
+  pub chunk_total : get_or area (n * n + 3) 0 ≡ length (rising (place_in load n area))
   unfolding decode
-  chunk-total = h.worked.occupied ∙ sym (chunk_count_nodes placing n (omega (arith, long, few)))
+  chunk_total = h.worked.occupied ∙ sym (chunk_count-nodes placing n (omega (arith, long, few)))
 
   -- the set of a node
   pub set_at : (x : ℕ) → x < length (sets_in n area) → lane_set area (set_lane n) n x ≡ at (sets_in n area) x
@@ -58,7 +58,7 @@ module _ {load : Load} {n : ℕ} {area : List ℕ} {registered : ℕ} (h : Check
   -- a cell of the matrix is the multiplicity between two nodes
   pub cell-mult : (x y : ℕ) → x < n → y < n → get_or area (x * n + y) 0 ≡ node_mult load (nodes_in load n area) (sets_in n area) x y
   cell-mult x y bx by =
-      h.worked.edges (x * n + y) (index_lt n x y bx by) ∙ flat-mult _ _ n _ x y (ends-nodes order-of placing n (omega (arith, long, few)) (omega arith)) by
+      h.worked.edges (x * n + y) (index_lt n x y bx by) ∙ flat-mult _ _ n _ x y (ends-nodes order_of placing n (omega (arith, long, few)) (omega arith)) by
 
   pub cell-edge : (x y : ℕ) → x < n → y < n → not (eqb (get_or area (x * n + y) 0) 0) ≡ node_edge load (nodes_in load n area) (sets_in n area) x y
   unfolding slot_edge
@@ -77,27 +77,27 @@ module _ {load : Load} {n : ℕ} {area : List ℕ} {registered : ℕ} (h : Check
   seen {X} {x} f b = sym (set_at x (omega (arith, long))) ∙ f.is b
 
   module _ {X x : ℕ} (f : First (lane_set area (set_lane n) n) registered X x) where
-    pub no-count : registered ≤ x → 0 ≡ members load (place_in load n area) X
+    pub no_count : registered ≤ x → 0 ≡ members load (place_in load n area) X
     unfolding decode
-    no-count b = sym (members-unseen placing X (unseen f b))
+    no_count b = sym (members_unseen placing X (unseen f b))
 
-    pub its-count : x < registered → get_or area (n * n + 24 + 8 * n + x) 0 ≡ members load (place_in load n area) X
+    pub its_count : x < registered → get_or area (n * n + 24 + 8 * n + x) 0 ≡ members load (place_in load n area) X
     unfolding decode members
-    its-count b =
-        h.worked.counts x (omega (arith, few)) ∙ members_nodes placing x (omega (arith, long)) ∙ ap (members load (placed (nodes_in load n area) (sets_in n area))) (seen f b)
+    its_count b =
+        h.worked.counts x (omega (arith, few)) ∙ members-nodes placing x (omega (arith, long)) ∙ ap (members load (placed (nodes_in load n area) (sets_in n area))) (seen f b)
 
     module _ {Y y : ℕ} (g : First (lane_set area (set_lane n) n) registered Y y) where
       pub no_target : registered ≤ y → 0 ≡ mult load (place_in load n area) X Y
       unfolding decode
       no_target b =
           let e = unseen g b in
-          sym (mult-unseen placing X Y (fails _ (λ t. true≢false (sym (and_right (has X (sets_in n area)) _ t) ∙ e))))
+          sym (mult_unseen placing X Y (fails _ (λ t. true≢false (sym (and_right (has X (sets_in n area)) _ t) ∙ e))))
 
-      pub its-mult : x < registered → y < registered → get_or area (x * n + y) 0 ≡ mult load (place_in load n area) X Y
+      pub its_mult : x < registered → y < registered → get_or area (x * n + y) 0 ≡ mult load (place_in load n area) X Y
       unfolding decode
-      its-mult a b =
-          cell-mult x y (omega (arith, few)) (omega (arith, few)) ∙ mult-nodes order-of placing x y (omega (arith, long)) (omega (arith, long)) ∙ ap₂ (mult load (placed (nodes_in load n area) (sets_in n area))) (seen f a) (seen g b)
+      its_mult a b =
+          cell-mult x y (omega (arith, few)) (omega (arith, few)) ∙ mult-nodes order_of placing x y (omega (arith, long)) (omega (arith, long)) ∙ ap₂ (mult load (placed (nodes_in load n area) (sets_in n area))) (seen f a) (seen g b)
 
     pub no_source : (Y : ℕ) → registered ≤ x → 0 ≡ mult load (place_in load n area) X Y
     unfolding decode
-    no_source Y b = sym (mult-unseen placing X Y (rw (unseen f b) refl))
+    no_source Y b = sym (mult_unseen placing X Y (rw (unseen f b) refl))

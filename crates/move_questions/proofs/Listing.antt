@@ -16,16 +16,16 @@ use Rattle.move_ledger.specs.Graph.{Load, Edge, at, edges}
 use Rattle.move_ledger.specs.Answer as answer
 use Rattle.move_ledger.specs.Ledger.{kth}
 use Rattle.move_ledger.specs.Nodes.{node_edge, node_mult}
-use Rattle.move_ledger.specs.NodeListing.{Sorted, in_row, in_rows, edge-at-nodes, edge-past-nodes}
+use Rattle.move_ledger.specs.NodeListing.{Sorted, in_row, in_rows, edge-at-nodes, edge_past_nodes}
 use Rattle.move_area.specs.Area.{sets_in, decode}
 use Rattle.move_area.specs.Checked.{nodes_in}
-use Rattle.set_order.specs.Order.{lane_set, Ordered, order-inside}
+use Rattle.set_order.specs.Order.{lane_set, Ordered, order_inside}
 use Rattle.move_questions.specs.Counts as counts
 use Rattle.move_questions.specs.Steps.{edges_before, cells_before, CanFindRow, RowFound, CanFindCell, CellFound}
 use Rattle.move_questions.specs.Answers.{place_in, set_lane, Listable, CanReadEdge, EdgeRead, of_listed}
 use Rattle.move_questions.specs.declared.Edge as declared
 use Rattle.move_questions.specs.declared.Listed.TheVariants.{Found, None}
-use Rattle.move_questions.proofs.Asking.{order-of, placing, long, few, room, set_at, cell-mult, cell-edge}
+use Rattle.move_questions.proofs.Asking.{order_of, placing, long, few, room, set_at, cell-mult, cell-edge}
 
 module _ {load : Load} {n : ℕ} {area : List ℕ} {registered : ℕ} {order degrees : List ℕ} (l : Listable load n area registered order degrees) where
   -- the nodes by rising sets
@@ -36,22 +36,22 @@ module _ {load : Load} {n : ℕ} {area : List ℕ} {registered : ℕ} {order deg
   ordered = subst (Ordered (lane_set area (set_lane n) n) order) (sym (long l.checked)) l.ordered
 
   sorted : Sorted (nodes_in load n area) (sets_in n area) first
-  sorted = counts.sorted (order-of l.checked) (placing l.checked) ordered (set_at l.checked)
+  sorted = counts.sorted (order_of l.checked) (placing l.checked) ordered (set_at l.checked)
 
-  first-long : length first ≡ registered
-  first-long = part_long 0 (length (sets_in n area)) order ∙ long l.checked
+  first_long : length first ≡ registered
+  first_long = part_long 0 (length (sets_in n area)) order ∙ long l.checked
 
   first-at : (q : ℕ) → q < registered → at first q ≡ at order q
   first-at q b = part_at 0 (length (sets_in n area)) order q (omega (arith, long l.checked)) ∙ ap (λ k. get_or order k 0) (zero-add q)
 
   pub node : (q : ℕ) → q < registered → at order q < registered
-  node q b = order-inside l.ordered q b
+  node q b = order_inside l.ordered q b
 
   -- the degree of the q-th node is its row's
   degree : (q : ℕ) → q < registered → at degrees (at order q) ≡ in_row load (nodes_in load n area) (sets_in n area) first q (length first)
   degree q b =
       l.degree_at (at order q) (omega (arith, node q b, few l.checked))
-      ∙ sym (counts.row_count (order-of l.checked) (placing l.checked) ordered (set_at l.checked) n q (omega (arith, long l.checked, few l.checked)) (omega (arith, long l.checked)))
+      ∙ sym (counts.row_count (order_of l.checked) (placing l.checked) ordered (set_at l.checked) n q (omega (arith, long l.checked, few l.checked)) (omega (arith, long l.checked)))
       ∙ ap (in_row load (nodes_in load n area) (sets_in n area) first q) (sym (part_long 0 (length (sets_in n area)) order))
 
   rows : (i : ℕ) → i ≤ registered → edges_before order degrees i ≡ in_rows load (nodes_in load n area) (sets_in n area) first i
@@ -63,11 +63,11 @@ module _ {load : Load} {n : ℕ} {area : List ℕ} {registered : ℕ} {order deg
       cell-edge l.checked (at order i) (at order q) (omega (arith, node i a, few l.checked)) (omega (arith, node q (omega arith), few l.checked))
       ∙ ap₂ (node_edge load (nodes_in load n area) (sets_in n area)) (sym (first-at i a)) (sym (first-at q (omega arith))))
 
-  pub can-find-row : CanFindRow order degrees registered
-  can-find-row = record { long = l.order_long; node = λ q b. omega (arith, node q b, few l.checked, l.degrees_long) }
+  pub can_find-row : CanFindRow order degrees registered
+  can_find-row = record { long = l.order_long; node = λ q b. omega (arith, node q b, few l.checked, l.degrees_long) }
 
-  pub can-find-cell : (i rest : ℕ) → i < registered → CanFindCell area n (at order i) order registered rest
-  can-find-cell i rest b = record {
+  pub can_find-cell : (i rest : ℕ) → i < registered → CanFindCell area n (at order i) order registered rest
+  can_find-cell i rest b = record {
     long = l.order_long;
     node = λ q c. omega (arith, node q c, few l.checked);
     row = omega (arith, node i b, few l.checked);
@@ -79,7 +79,7 @@ module _ {load : Load} {n : ℕ} {area : List ℕ} {registered : ℕ} {order deg
     unfolding decode
     past b =
         let e : i ≡ registered = omega (arith, f.inside) in
-        sym (edge-past-nodes (order-of l.checked) (placing l.checked) sorted k (omega (arith, f.sum, ap (edges_before order degrees) e, rows registered (omega arith), ap (in_rows load (nodes_in load n area) (sets_in n area) first) first-long)))
+        sym (edge_past_nodes (order_of l.checked) (placing l.checked) sorted k (omega (arith, f.sum, ap (edges_before order degrees) e, rows registered (omega arith), ap (in_rows load (nodes_in load n area) (sets_in n area) first) first_long)))
 
     module _ (b : i < registered) {j : ℕ} (g : CellFound area n (at order i) order registered rest j) where
       pub cell-there : j < registered
@@ -88,10 +88,10 @@ module _ {load : Load} {n : ℕ} {area : List ℕ} {registered : ℕ} {order deg
           go : Dec (j < registered) → j < registered
           go (yes c) = c
           go (no c) =
-              absurd (omega (arith, g.none (omega (arith, g.inside)), f.fits b, degree i b, row i registered b (omega arith), ap (in_row load (nodes_in load n area) (sets_in n area) first i) first-long))
+              absurd (omega (arith, g.none (omega (arith, g.inside)), f.fits b, degree i b, row i registered b (omega arith), ap (in_row load (nodes_in load n area) (sets_in n area) first i) first_long))
 
-      pub can-read : CanReadEdge area n (at order i) (at order j)
-      can-read = record {
+      pub can_read : CanReadEdge area n (at order i) (at order j)
+      can_read = record {
         source = omega (arith, node i b, few l.checked);
         target = omega (arith, node j cell-there, few l.checked);
         room = room l.checked;
@@ -110,15 +110,15 @@ module _ {load : Load} {n : ℕ} {area : List ℕ} {registered : ℕ} {order deg
           edge-there : node_edge load (nodes_in load n area) (sets_in n area) (at first i) (at first j) ≡ true
           edge-there =
               ap₂ (node_edge load (nodes_in load n area) (sets_in n area)) (first-at i b) (first-at j c)
-              ∙ sym (cell-edge l.checked (at order i) (at order j) can-read.source can-read.target)
+              ∙ sym (cell-edge l.checked (at order i) (at order j) can_read.source can_read.target)
               ∙ ap not (ne_eqb _ 0 (g.edge c).0)
 
           same : ◌≡◌ {A = Edge} (record { from = number e.from; to = number e.to; multiplicity = e.multiplicity })
               (record { from = at (sets_in n area) (at first i); to = at (sets_in n area) (at first j); multiplicity = node_mult load (nodes_in load n area) (sets_in n area) (at first i) (at first j) })
           same =
-              rw (first-at i b, first-at j c, ← set_at l.checked (at order i) (omega (arith, node i b, long l.checked)), ← set_at l.checked (at order j) (omega (arith, node j c, long l.checked)), ← cell-mult l.checked (at order i) (at order j) can-read.source can-read.target, r.from, r.to, r.multiplicity)
+              rw (first-at i b, first-at j c, ← set_at l.checked (at order i) (omega (arith, node i b, long l.checked)), ← set_at l.checked (at order j) (omega (arith, node j c, long l.checked)), ← cell-mult l.checked (at order i) (at order j) can_read.source can_read.target, r.from, r.to, r.multiplicity)
               refl
 
           there : kth (edges load (place_in load n area)) (in_rows load (nodes_in load n area) (sets_in n area) first i + in_row load (nodes_in load n area) (sets_in n area) first i j)
               ≡ answer.edge (record { from = at (sets_in n area) (at first i); to = at (sets_in n area) (at first j); multiplicity = node_mult load (nodes_in load n area) (sets_in n area) (at first i) (at first j) })
-          there = edge-at-nodes (order-of l.checked) (placing l.checked) sorted i j (omega (arith, first-long)) (omega (arith, first-long, c)) edge-there
+          there = edge-at-nodes (order_of l.checked) (placing l.checked) sorted i j (omega (arith, first_long)) (omega (arith, first_long, c)) edge-there

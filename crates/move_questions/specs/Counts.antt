@@ -11,12 +11,12 @@ use Rattle.move_ledger.specs.LoadLaws.{InOrder}
 use Rattle.move_ledger.specs.Nodes.{Placing, node_edge}
 use Rattle.move_ledger.specs.NodeWalks.{edge-inside}
 use Rattle.move_ledger.specs.NodeListing.{Sorted, in_row}
-use Rattle.set_order.specs.Order.{Ordered, Distinct, order-inside, order-place, order-one, order-strict}
-use Rattle.move_questions.specs.Permute.{Order, total-order}
+use Rattle.set_order.specs.Order.{Ordered, Distinct, order_inside, order_place, order_one, order_strict}
+use Rattle.move_questions.specs.Permute.{Order, total_order}
 
 -- a count over numbers in another order
 pub count_order : (p : ℕ → Bool) (o place : ℕ → ℕ) (r : ℕ) → Order o place r → count (λ q. p (o q)) r ≡ count p r
-count_order p o place r h = count-total (λ q. p (o q)) r ∙ total-order (λ x. ind (p x)) o place r h ∙ sym (count-total p r)
+count_order p o place r h = count-total (λ q. p (o q)) r ∙ total_order (λ x. ind (p x)) o place r h ∙ sym (count-total p r)
 
 -- nothing passes from r on
 pub count-short : (p : ℕ → Bool) (r n : ℕ) → r ≤ n → ((y : ℕ) → r ≤ y → p y ≡ false) → count p n ≡ count p r
@@ -31,31 +31,31 @@ module _ {key : ℕ → ℕ} {order : List ℕ} {r : ℕ} (o : Ordered key order
   place x = go (dec_lt x r)
     where
       go : Dec (x < r) → ℕ
-      go (yes h) = (order-place o x h).0
+      go (yes h) = (order_place o x h).0
       go (no h) = 0
 
   placed_at : (x : ℕ) → x < r → (place x < r) × (get_or order (place x) 0 ≡ x)
   unfolding place
   placed_at x h = go (dec_lt x r)
     where
-      go : (d : Dec (x < r)) → (elim d [ yes h ↦ (order-place o x h).0 | no h ↦ 0 ] < r) × (get_or order (elim d [ yes h ↦ (order-place o x h).0 | no h ↦ 0 ]) 0 ≡ x)
-      go (yes b) = let s = order-place o x b in (s.1, s.2)
+      go : (d : Dec (x < r)) → (elim d [ yes h ↦ (order_place o x h).0 | no h ↦ 0 ] < r) × (get_or order (elim d [ yes h ↦ (order_place o x h).0 | no h ↦ 0 ]) 0 ≡ x)
+      go (yes b) = let s = order_place o x b in (s.1, s.2)
       go (no b) = absurd (b h)
 
   place-back : (q : ℕ) → q < r → place (get_or order q 0) ≡ q
   place-back q h = go (dec_lt (place (get_or order q 0)) q) (dec_lt q (place (get_or order q 0)))
     where
       s : (place (get_or order q 0) < r) × (get_or order (place (get_or order q 0)) 0 ≡ get_or order q 0)
-      s = placed_at (get_or order q 0) (order-inside o q h)
+      s = placed_at (get_or order q 0) (order_inside o q h)
 
       go : Dec (place (get_or order q 0) < q) → Dec (q < place (get_or order q 0)) → place (get_or order q 0) ≡ q
-      go (yes b) d = absurd (order-one o _ q b h s.1)
-      go (no b) (yes d) = absurd (order-one o q _ d s.0 (sym s.1))
+      go (yes b) d = absurd (order_one o _ q b h s.1)
+      go (no b) (yes d) = absurd (order_one o q _ d s.0 (sym s.1))
       go (no b) (no d) = omega arith
 
   pub ordering : Order (λ q. get_or order q 0) place r
   ordering =
-      record { number = λ q h. order-inside o q h; inside = λ x h. (placed_at x h).0; back = place-back; there = λ x h. (placed_at x h).1 }
+      record { number = λ q h. order_inside o q h; inside = λ x h. (placed_at x h).0; back = place-back; there = λ x h. (placed_at x h).1 }
 
 -- the nodes of an order that has a set for each
 module _ {load : Load} {nodes sets order : List ℕ} {key : ℕ → ℕ} (i : InOrder load) (p : Placing load nodes sets) (o : Ordered key order (length sets)) (keys : (x : ℕ) → x < length sets → key x ≡ at sets x) where
@@ -68,13 +68,13 @@ module _ {load : Load} {nodes sets order : List ℕ} {key : ℕ → ℕ} (i : In
   pub sorted : Sorted nodes sets (part 0 (length sets) order)
   sorted =
       record {
-        inside = λ q h. let b : q < length sets = omega (arith, part_long 0 (length sets) order) in rw (first-at q b) (order-inside o q b);
+        inside = λ q h. let b : q < length sets = omega (arith, part_long 0 (length sets) order) in rw (first-at q b) (order_inside o q b);
         rises = λ q h.
             let b : suc q < length sets = omega (arith, part_long 0 (length sets) order) in
             let c : q < length sets = omega arith in
-            rw (first-at q c, first-at (suc q) b, ← keys (get_or order q 0) (order-inside o q c), ← keys (get_or order (suc q) 0) (order-inside o (suc q) b)) (order-strict o distinct q (suc q) (omega arith) b);
+            rw (first-at q c, first-at (suc q) b, ← keys (get_or order q 0) (order_inside o q c), ← keys (get_or order (suc q) 0) (order_inside o (suc q) b)) (order_strict o distinct q (suc q) (omega arith) b);
         holds = λ a h.
-            let s = order-place o (at nodes a) (p.inside a (omega (arith, p.atoms))) in
+            let s = order_place o (at nodes a) (p.inside a (omega (arith, p.atoms))) in
             subst (λ z. has z (part 0 (length sets) order) ≡ true) (first-at s.0 s.1 ∙ s.2) (has-at (part 0 (length sets) order) s.0 (omega (arith, part_long 0 (length sets) order, s.1)));
       }
 

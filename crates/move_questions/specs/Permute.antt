@@ -45,5 +45,5 @@ module _ (f o place : ℕ → ℕ) (r : ℕ) (h : Order o place r) where
               let w : place x ≡ k → ⊥ = λ e. d (sym (h.there x l) ∙ ap o e) in
               rw (le-ltb (place x) k (omega arith), le-ltb (place x) (suc k) (omega arith)) refl
 
-  pub total-order : total (λ q. f (o q)) r ≡ total f r
-  total-order = part r (omega arith) ∙ total-same f (early r) r (λ x l. rw (lt-ltb (place x) r (h.inside x l)) refl)
+  pub total_order : total (λ q. f (o q)) r ≡ total f r
+  total_order = part r (omega arith) ∙ total-same f (early r) r (λ x l. rw (lt-ltb (place x) r (h.inside x l)) refl)

@@ -15,20 +15,20 @@ passed_some cell rest d = rw (ne_eqb cell 0 d) refl
 
 -- one node more of a row
 module _ (area : List ℕ) (n x : ℕ) (order : List ℕ) (j : ℕ) where
-  pub cells-yes : (at area (x * n + at order j) ≡ 0 → ⊥) → cells_before area n x order (j + 1) ≡ cells_before area n x order j + 1
-  cells-yes d = count_yes (λ q. not (eqb (at area (x * n + at order q)) 0)) j (ap not (ne_eqb _ 0 d))
+  pub cells_yes : (at area (x * n + at order j) ≡ 0 → ⊥) → cells_before area n x order (j + 1) ≡ cells_before area n x order j + 1
+  cells_yes d = count_yes (λ q. not (eqb (at area (x * n + at order q)) 0)) j (ap not (ne_eqb _ 0 d))
 
-  pub cells-no : at area (x * n + at order j) ≡ 0 → cells_before area n x order (j + 1) ≡ cells_before area n x order j
-  cells-no e = count_no (λ q. not (eqb (at area (x * n + at order q)) 0)) j (ap not (eq-eqb _ 0 e))
+  pub cells_no : at area (x * n + at order j) ≡ 0 → cells_before area n x order (j + 1) ≡ cells_before area n x order j
+  cells_no e = count_no (λ q. not (eqb (at area (x * n + at order q)) 0)) j (ap not (eq-eqb _ 0 e))
 
   -- what is left to pass
-  pub cells-step : (left rest : ℕ) → cells_before area n x order j + left ≡ rest → ((at area (x * n + at order j) ≡ 0 → ⊥) → 1 ≤ left)
+  pub cells_step : (left rest : ℕ) → cells_before area n x order j + left ≡ rest → ((at area (x * n + at order j) ≡ 0 → ⊥) → 1 ≤ left)
       → cells_before area n x order (j + 1) + passed (at area (x * n + at order j)) left ≡ rest
-  cells-step left rest h some = go (native.Mathlib.Decide.ℕ_discrete (at area (x * n + at order j)) 0)
+  cells_step left rest h some = go (native.Mathlib.Decide.ℕ_discrete (at area (x * n + at order j)) 0)
     where
       go : Dec (at area (x * n + at order j) ≡ 0) → cells_before area n x order (j + 1) + passed (at area (x * n + at order j)) left ≡ rest
-      go (yes e) = omega (arith, cells-no e, passed_none (at area (x * n + at order j)) left e)
-      go (no d) = omega (arith, cells-yes d, passed_some (at area (x * n + at order j)) left d, some d)
+      go (yes e) = omega (arith, cells_no e, passed_none (at area (x * n + at order j)) left e)
+      go (no d) = omega (arith, cells_yes d, passed_some (at area (x * n + at order j)) left d, some d)
 
 pub cell-inside : {area : List ℕ} {n x : ℕ} {order : List ℕ} {r rest : ℕ} → CanFindCell area n x order r rest → (j : ℕ) → j < r → x * n + at order j < length area
 cell-inside {area} {n} {x} {order} c j h = omega (arith, index_lt n x (at order j) c.row (c.node j h), c.square)

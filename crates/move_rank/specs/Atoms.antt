@@ -18,17 +18,17 @@ use Rattle.move_rank.specs.Rank.{before, equal, after, by, one_by_one}
 use Rattle.move_rank.specs.RankLaws.{by-same, by_less, by-more, apart_decides, lists-same}
 
 -- where the node of atom i stands
-abbrev pub node_at : ℕ → ℕ → ℕ
-node_at n i = n * n + 24 + 24 * n + i
+abbrev pub atom_node : ℕ → ℕ → ℕ
+atom_node n i = n * n + 24 + 24 * n + i
 
 -- the set of atom i
 abbrev pub set_of : List ℕ → ℕ → ℕ → ℕ
-set_of area n i = lane_set area (set_lane n) n (get_or area (node_at n i) 0)
+set_of area n i = lane_set area (set_lane n) n (get_or area (atom_node n i) 0)
 
 -- the sets of a atoms can be read
 pub record CanRead (a n : ℕ) (area : List ℕ) : Type 0 where
-  pub room : node_at n a ≤ length area
-  pub node : (i : ℕ) → i < a → get_or area (node_at n i) 0 < n
+  pub room : atom_node n a ≤ length area
+  pub node : (i : ℕ) → i < a → get_or area (atom_node n i) 0 < n
 
 -- and p is the list of them
 pub record Placed (a n : ℕ) (area p : List ℕ) : Type 0 where
@@ -83,11 +83,11 @@ module _ {a n i : ℕ} {first second p q : List ℕ} (P : Placed a n first p) (Q
 
     -- the first atom's are below the second's, or above
     module _ {x y : ℕ} (X : x ≡ set_of first n i) (Y : y ≡ set_of second n i) where
-      pub ranked-before : ltb x y ≡ true → before ≡ one_by_one p q
-      ranked-before l = sym (decides ∙ rw (← X, ← Y) (by_less x y (ltb-true x y l)))
+      pub ranked_before : ltb x y ≡ true → before ≡ one_by_one p q
+      ranked_before l = sym (decides ∙ rw (← X, ← Y) (by_less x y (ltb-true x y l)))
 
-      pub ranked-after : ltb x y ≡ false → after ≡ one_by_one p q
-      ranked-after l = sym (decides ∙ rw (← X, ← Y) (by-more x y (omega (arith, ltb-false x y l, apart))))
+      pub ranked_after : ltb x y ≡ false → after ≡ one_by_one p q
+      ranked_after l = sym (decides ∙ rw (← X, ← Y) (by-more x y (omega (arith, ltb-false x y l, apart))))
         where
           apart : x ≡ y → ⊥
           apart e = d.apart h (sym X ∙ e ∙ Y)
@@ -97,19 +97,19 @@ pub alike_none : (f g : ℕ → ℕ) → Alike f g 0
 alike_none f g = record { same = λ j h. absurd (omega arith) }
 
 module _ {f g : ℕ → ℕ} {i x y : ℕ} (v : Alike f g i) (X : x ≡ f i) (Y : y ≡ g i) where
-  pub alike-more : eqb x y ≡ true → Alike f g (i + 1)
-  alike-more e = record { same = below_more (λ j. f j ≡ g j) i v.same (sym X ∙ eqb-true x y e ∙ Y) }
+  pub alike_more : eqb x y ≡ true → Alike f g (i + 1)
+  alike_more e = record { same = below_more (λ j. f j ≡ g j) i v.same (sym X ∙ eqb-true x y e ∙ Y) }
 
-  pub differ-here : {a : ℕ} → i < a → eqb x y ≡ false → Differ f g a i
-  differ-here h e = record { most = omega arith; apart = λ _ u. eqb-false x y e (X ∙ u ∙ sym Y); alike = v }
+  pub differ_here : {a : ℕ} → i < a → eqb x y ≡ false → Differ f g a i
+  differ_here h e = record { most = omega arith; apart = λ _ u. eqb-false x y e (X ∙ u ∙ sym Y); alike = v }
 
 pub differ_none : {f g : ℕ → ℕ} {a i : ℕ} → Alike f g i → a ≤ i → Differ f g a a
 differ_none v h = record { most = omega arith; apart = λ b _. absurd (omega arith); alike = record { same = λ j b. v.same j (omega arith) } }
 
 -- the atoms of a checked area
 module _ {load : Load} {a n r : ℕ} {area : List ℕ} (e : load.A ≡ a) (c : Checked load n area r) where
-  pub can-read : CanRead a n area
-  can-read =
+  pub can_read : CanRead a n area
+  can_read =
       record { room = omega (arith, c.loadable.sizes.area); node = λ i b. omega (arith, c.ranged.nodes i (omega arith), c.ranged.few) }
 
   pub placed : Placed a n area (place_in load n area)
@@ -121,5 +121,5 @@ module _ {load : Load} {a n r : ℕ} {area : List ℕ} (e : load.A ≡ a) (c : C
             let h : i < load.A = omega arith in
             placed_at (nodes_in load n area) (sets_in n area) i (omega (arith, part_long (atom_at n) load.A area))
             ∙ ap (at (sets_in n area)) (part_at (atom_at n) load.A area i h) ∙ sets-at n area _ (c.ranged.nodes i h)
-            ∙ ap (λ k. lanes area k n) {x = lane_at n 0 + get_or area (atom_at n + i) 0} {y = set_lane n + get_or area (node_at n i) 0} (omega arith);
+            ∙ ap (λ k. lanes area k n) {x = lane_at n 0 + get_or area (atom_at n + i) 0} {y = set_lane n + get_or area (atom_node n i) 0} (omega arith);
       }

@@ -131,9 +131,9 @@ rank_trans load p q r =
 
 -- which of the three decides
 module _ (load : Load) (p q : List ℕ) where
-  pub chunks-decide : {x y : ℕ} → x ≡ length (rising p) → y ≡ length (rising q) → (x ≡ y → ⊥) → by x y ≡ rank load p q
+  pub chunks_decide : {x y : ℕ} → x ≡ length (rising p) → y ≡ length (rising q) → (x ≡ y → ⊥) → by x y ≡ rank load p q
   unfolding rank
-  chunks-decide {x} {y} X Y d = rw (← X, ← Y) (sym (apart_decides x y _ d))
+  chunks_decide {x} {y} X Y d = rw (← X, ← Y) (sym (apart_decides x y _ d))
 
   module _ (e : length (rising p) ≡ length (rising q)) where
     pub edges-decide : {x y : ℕ} → x ≡ length (edges load p) → y ≡ length (edges load q) → (x ≡ y → ⊥) → by x y ≡ rank load p q

@@ -48,9 +48,9 @@ module _ (load : Load) (fixed : List ℕ) (N : ℕ) (area : List ℕ) where
       go true e k f = eqb-true _ _ e
       go false e k f = f
 
-  pub later-checks : later load fixed N area ≡ 0 → checks_out load fixed N area ≡ true
+  pub later_checks : later load fixed N area ≡ 0 → checks_out load fixed N area ≡ true
   unfolding later
-  later-checks h = go (eqb (refusal load fixed N (length area)) 0) refl (checks_out load fixed N area) refl h
+  later_checks h = go (eqb (refusal load fixed N (length area)) 0) refl (checks_out load fixed N area) refl h
     where
       go : (t : Bool) → eqb (refusal load fixed N (length area)) 0 ≡ t → (u : Bool) → checks_out load fixed N area ≡ u → cond t (cond u 0 9) (refusal load fixed N (length area)) ≡ 0 → checks_out load fixed N area ≡ true
       go true e true q f = q
@@ -58,7 +58,7 @@ module _ (load : Load) (fixed : List ℕ) (N : ℕ) (area : List ℕ) where
       go false e u q f = absurd (eqb-false _ _ e f)
 
   pub later-consistent : later load fixed N area ≡ 0 → consistent load N area ≡ true
-  later-consistent h = and_left (consistent load N area) _ (later-checks h)
+  later-consistent h = and_left (consistent load N area) _ (later_checks h)
 
 -- which row it is
 pub later_first : (load : Load) (fixed : List ℕ) (N : ℕ) (area : List ℕ) (q : ℕ) → q ≡ refusal load fixed N (length area) → (q ≡ 0 → ⊥) → q ≡ later load fixed N area

@@ -30,13 +30,13 @@ and_false_right true b h = h
 and_false_right false b h = refl
 
 module _ (load : Load) (fixed : List ℕ) (n : ℕ) (area : List ℕ) (passes : refusal load fixed n (length area) ≡ 0) where
-  pub can-keep : CanKeep load.A n fixed area
-  can-keep =
+  pub can_keep : CanKeep load.A n fixed area
+  can_keep =
       let s = (refusal-none load fixed n (length area) passes).sizes in
       record { few = s.atoms; marks = refusal-marks load fixed n (length area) passes; room = omega (arith, s.area) }
 
-  pub can-check : {degrees order : List ℕ} → NodeLists degrees order → CanCheck load n area degrees order
-  can-check l =
+  pub can_check : {degrees order : List ℕ} → NodeLists degrees order → CanCheck load n area degrees order
+  can_check l =
       let p = refusal-none load fixed n (length area) passes in
       record { loadable = p; degrees_long = omega (arith, p.sizes.sets, l.degrees_long); order_long = omega (arith, p.sizes.sets, l.order_long) }
 
@@ -49,8 +49,8 @@ module _ {load : Load} {fixed : List ℕ} {n : ℕ} {area degrees order : List �
 
   module _ {k : Bool} (passes : refusal load fixed n (length area) ≡ 0) (flags : k ≡ flagged (atoms load.A) fixed n area) where
     -- the area's flags aren't those of the marks
-    pub row-unkept : k ≡ false → RowTold load fixed n area degrees order 9
-    row-unkept e =
+    pub row_unkept : k ≡ false → RowTold load fixed n area degrees order 9
+    row_unkept e =
         record {
           row = later_nine load fixed n area passes (and_false_right (consistent load n area) _ (kept load fixed n area flags e));
           listable = λ z. absurd (omega arith);
@@ -73,8 +73,8 @@ module _ {load : Load} {fixed : List ℕ} {n : ℕ} {area degrees order : List �
                 };
           }
 
-      pub row-nine : r ≡ false → RowTold load fixed n area degrees order 9
-      row-nine e =
+      pub row_nine : r ≡ false → RowTold load fixed n area degrees order 9
+      row_nine e =
           record {
             row = later_nine load fixed n area passes (and_false_left (consistent load n area) _ (sym t.says ∙ e));
             listable = λ z. absurd (omega arith);
@@ -82,8 +82,8 @@ module _ {load : Load} {fixed : List ℕ} {n : ℕ} {area degrees order : List �
 
 -- none fits: what the questions ask
 module _ {load : Load} {fixed : List ℕ} {n : ℕ} {area degrees order : List ℕ} {q : ℕ} (t : RowTold load fixed n area degrees order q) (zero : q ≡ 0) where
-  pub listable-known : {known : ℕ} → known ≡ get_or area (n * n) 0 → Listable load n area known order degrees
-  listable-known e = subst (λ k. Listable load n area k order degrees) (sym e) (t.listable zero)
+  pub listable_known : {known : ℕ} → known ≡ get_or area (n * n) 0 → Listable load n area known order degrees
+  listable_known e = subst (λ k. Listable load n area k order degrees) (sym e) (t.listable zero)
 
-  pub listable-some : {known : ℕ} → known ≡ get_or area (n * n) 0 → (load' : Load) × Listable load' n area known order degrees
-  listable-some e = (load, listable-known e)
+  pub listable_some : {known : ℕ} → known ≡ get_or area (n * n) 0 → (load' : Load) × Listable load' n area known order degrees
+  listable_some e = (load, listable_known e)

@@ -19,8 +19,8 @@ use Rattle.layout.specs.Lent.{mid_part}
 use Rattle.move_slots.specs.Filled.{CanFill, Filled, CanFillOwn}
 
 module _ {load : Load} {n : ℕ} {nodes area : List ℕ} {registered : ℕ} {counts sources targets : List ℕ} (can : CanFill load n nodes area registered counts sources targets) where
-  pub fill-tally : CanTally counts n nodes load.A
-  fill-tally = record {
+  pub fill_tally : CanTally counts n nodes load.A
+  fill_tally = record {
     room = can.counts_long;
     long = can.atoms;
     few = omega (arith, can.loadable.sizes.atoms);
@@ -28,19 +28,19 @@ module _ {load : Load} {n : ℕ} {nodes area : List ℕ} {registered : ℕ} {cou
   }
 
   module _ {counts' : List ℕ} (t : counts' ≡ patch 0 (tab (atoms nodes load.A) n) counts) where
-    in-lanes : InLanes load nodes (sets_in n area) area (n * n + 24) n registered counts'
-    in-lanes = record {
+    in_lanes : InLanes load nodes (sets_in n area) area (n * n + 24) n registered counts'
+    in_lanes = record {
       many = can.many ∙ sym (sets-length n area);
       set_at = λ x b. ap (λ (i : ℕ). lanes area i n) (omega arith) ∙ sym (sets-at n area x (omega (arith, sets-length n area)));
       count_at = λ x b. tally_members load nodes n counts can.counts_long t x (omega (arith, can.few, can.many, sets-length n area));
     }
 
     module _ {facade : List ℕ} (f : facade ≡ patch 0 (fronts_in area (n * n + 24) n registered counts' load.E) (replicate 256 0)) where
-      fronts-are : Fronts load nodes (sets_in n area) facade
-      fronts-are = facades_fronts (replicate 256 0) in-lanes (omega (arith, can.loadable.sizes.bits)) f
+      fronts_are : Fronts load nodes (sets_in n area) facade
+      fronts_are = facades_fronts (replicate 256 0) in_lanes (omega (arith, can.loadable.sizes.bits)) f
 
-      pub fill-slots-can : CanSlots load nodes facade sources targets
-      fill-slots-can = record {
+      pub fill_slots_can : CanSlots load nodes facade sources targets
+      fill_slots_can = record {
         order = can.loadable.order;
         starts_long = omega (arith, can.loadable.sizes.starts);
         dependencies_long = omega (arith, can.loadable.sizes.dependencies);
@@ -56,19 +56,19 @@ module _ {load : Load} {n : ℕ} {nodes area : List ℕ} {registered : ℕ} {cou
       unfolding members
       fill_done p q = record {
         count_at = λ x b. tally_members load nodes n counts can.counts_long t x b;
-        slots = slots_written sources targets fronts-are can.sources_long can.targets_long p q;
+        slots = slots_written sources targets fronts_are can.sources_long can.targets_long p q;
       }
 
 -- the area's own nodes are a part of it
 module _ {load : Load} {n : ℕ} {area counts sources targets : List ℕ} (can : CanFillOwn load n area counts sources targets) {to : ℕ} (e : to ≡ atom_at n + load.A) where
-  own-nodes : take (to - atom_at n) (drop (atom_at n) area) ≡ nodes_in load n area
-  own-nodes =
+  own_nodes : take (to - atom_at n) (drop (atom_at n) area) ≡ nodes_in load n area
+  own_nodes =
       let q : to - atom_at n ≡ load.A = omega arith in
       mid_part (atom_at n) to area (omega arith) (omega (arith, can.loadable.sizes.area)) ∙ ap (λ k. part (atom_at n) k area) q
 
-  pub own-can : CanFill load n (take (to - atom_at n) (drop (atom_at n) area)) area (get_or area (n * n) 0) counts sources targets
-  own-can =
-      subst (λ (v : List ℕ). CanFill load n v area (get_or area (n * n) 0) counts sources targets) (sym own-nodes)
+  pub own_can : CanFill load n (take (to - atom_at n) (drop (atom_at n) area)) area (get_or area (n * n) 0) counts sources targets
+  own_can =
+      subst (λ (v : List ℕ). CanFill load n v area (get_or area (n * n) 0) counts sources targets) (sym own_nodes)
       (record {
         loadable = can.loadable;
         many = refl;
@@ -80,6 +80,6 @@ module _ {load : Load} {n : ℕ} {area counts sources targets : List ℕ} (can :
         targets_long = can.targets_long;
       })
 
-  pub own-done : {counts' sources' targets' : List ℕ} → Filled load n (take (to - atom_at n) (drop (atom_at n) area)) (sets_in n area) counts' sources' targets'
+  pub own_done : {counts' sources' targets' : List ℕ} → Filled load n (take (to - atom_at n) (drop (atom_at n) area)) (sets_in n area) counts' sources' targets'
       → Filled load n (nodes_in load n area) (sets_in n area) counts' sources' targets'
-  own-done {counts'} {sources'} {targets'} f = subst (λ (v : List ℕ). Filled load n v (sets_in n area) counts' sources' targets') own-nodes f
+  own_done {counts'} {sources'} {targets'} f = subst (λ (v : List ℕ). Filled load n v (sets_in n area) counts' sources' targets') own_nodes f

@@ -20,7 +20,7 @@ use Rattle.move_ledger.specs.Nodes.{highest}
 use Rattle.move_ledger.specs.NodeLaws.{highest-none, highest-more}
 use Rattle.move_slots.specs.Written.{Written}
 use Rattle.move_slots.specs.Facades.{is_front, fronting, fronts_in, CanFront, Fronted, CanFronts}
-use Rattle.move_slots.proofs.Writing.{written-anew, written-patch, written_fill}
+use Rattle.move_slots.proofs.Writing.{written_anew, written_patch, written_fill}
 
 -- nothing changes where the node is no front
 front_same : {X count x e : ℕ} (l : List ℕ) → ((b : ℕ) → b < e → is_front X count b ≡ true → ⊥) → Fronted X count x e l l
@@ -56,8 +56,8 @@ module _ {area : List ℕ} {from stride r : ℕ} {counts : List ℕ} {e : ℕ} {
       record { is = v.is; far = λ j y h. refl; long = refl }
 
   module _ {x : ℕ} {l : List ℕ} (v : Written (λ b. highest (fronting area from stride counts b) x) 0 e l₀ l) (h : x < r) where
-    pub fronts-can : CanFront area (from + x) stride e l
-    fronts-can = record {
+    pub fronts_can : CanFront area (from + x) stride e l
+    fronts_can = record {
       lanes = omega (arith, can.lanes);
       bits = can.bits;
       room = omega (arith, can.room, v.long, ap length nones ∙ patch_long 0 (replicate e none) out);
@@ -66,7 +66,7 @@ module _ {area : List ℕ} {from stride r : ℕ} {counts : List ℕ} {e : ℕ} {
     pub fronts-more : {l' : List ℕ} → Fronted (lanes area (from + x) stride) (get_or counts x 0) x e l l'
         → Written (λ b. highest (fronting area from stride counts b) (x + 1)) 0 e l₀ l'
     fronts-more {l'} f =
-        written-anew v
+        written_anew v
         (λ b j y z.
         let q : j ≡ b = omega arith in
         rw q
@@ -78,5 +78,5 @@ module _ {area : List ℕ} {from stride r : ℕ} {counts : List ℕ} {e : ℕ} {
   unfolding fronts_in
   fronts-done {x} {l} v q =
       let f : ℕ → ℕ = λ b. highest (fronting area from stride counts b) r in
-      written-patch (subst (λ (n : ℕ). Written (λ b. highest (fronting area from stride counts b) n) 0 e l₀ l) q v) refl ∙ ap (patch 0 (tab f e)) nones
+      written_patch (subst (λ (n : ℕ). Written (λ b. highest (fronting area from stride counts b) n) 0 e l₀ l) q v) refl ∙ ap (patch 0 (tab f e)) nones
       ∙ patch-over 0 (tab f e) (replicate e none) out (omega (arith, tab-length f e, length-replicate {A = ℕ} e none))

@@ -10,7 +10,7 @@ use Rattle.move_ledger.specs.Graph.{Load}
 use Rattle.move_ledger.specs.LoadLaws.{InOrder}
 use Rattle.move_ledger.specs.Nodes.{Placing, sources, targets, node_edge}
 use Rattle.move_ledger.specs.NodeWalks.{ends-nodes}
-use Rattle.move_slots.specs.SlotLaws.{Slotted, slotted-edge, slotted-ends, slotted-flat}
+use Rattle.move_slots.specs.SlotLaws.{Slotted, slotted_edge, slotted_ends, slotted_flat}
 
 -- how many slots there are
 abbrev pub slot_count : ℕ → ℕ → ℕ → ℕ
@@ -29,8 +29,8 @@ pub record Counted (load : Load) (nodes sets s t : List ℕ) (n m : ℕ) : Type 
   pub many : m ≡ slot_count n load.D load.E
 
 module _ {load : Load} {nodes sets s t : List ℕ} {n m : ℕ} (g : Counted load nodes sets s t n m) where
-  some-nodes : 0 < n → m ≡ load.D + load.E
-  some-nodes b = g.many ∙ rw (ne_eqb n 0 (omega arith)) refl
+  some_nodes : 0 < n → m ≡ load.D + load.E
+  some_nodes b = g.many ∙ rw (ne_eqb n 0 (omega arith)) refl
 
   pub counted-ends : Ends s t n m
   counted-ends = go (ℕ_discrete n 0)
@@ -41,20 +41,20 @@ module _ {load : Load} {nodes sets s t : List ℕ} {n m : ℕ} (g : Counted load
           record { source = λ k h. absurd (omega arith); target = λ k h. absurd (omega arith) }
       go (no z) =
           let y : 0 < n = omega arith in
-          subst (Ends s t n) (sym (some-nodes y)) (slotted-ends g.slots (ends-nodes g.order g.placing n g.few y))
+          subst (Ends s t n) (sym (some_nodes y)) (slotted_ends g.slots (ends-nodes g.order g.placing n g.few y))
 
-  pub counted-le : m ≤ load.D + load.E
-  counted-le = go (ℕ_discrete n 0)
+  pub counted_le : m ≤ load.D + load.E
+  counted_le = go (ℕ_discrete n 0)
     where
       go : Dec (n ≡ 0) → m ≤ load.D + load.E
       go (yes z) = let q : m ≡ 0 = g.many ∙ rw (eq-eqb n 0 z) refl in omega arith
-      go (no z) = omega (arith, some-nodes (omega arith))
+      go (no z) = omega (arith, some_nodes (omega arith))
 
   pub counted-edge : 0 < n → slot_edge s t m ≡ node_edge load nodes sets
-  counted-edge b = ap (slot_edge s t) (some-nodes b) ∙ slotted-edge g.slots
+  counted-edge b = ap (slot_edge s t) (some_nodes b) ∙ slotted_edge g.slots
 
   pub counted-flat : (i : ℕ) → i < n * n → flat s t n m i ≡ flat (sources load nodes sets) (targets load nodes sets) n (load.D + load.E) i
-  counted-flat i b = rw (some-nodes (square_some n i b)) (slotted-flat g.slots n i)
+  counted-flat i b = rw (some_nodes (square_some n i b)) (slotted_flat g.slots n i)
 
   pub counted-cyclic : cyclic (slot_edge s t m) (below n) ≡ cyclic (node_edge load nodes sets) (below n)
   counted-cyclic = go (ℕ_discrete n 0)

@@ -96,16 +96,16 @@ slots_written {load} {nodes} {sets} {facade} s₀ t₀ {s} {t} f a b p q = recor
 }
 
 module _ {load : Load} {nodes sets s t : List ℕ} (v : Slotted load nodes sets s t) where
-  pub slotted-mult : (x y : ℕ) → mult s t (load.D + load.E) x y ≡ mult (sources load nodes sets) (targets load nodes sets) (load.D + load.E) x y
+  pub slotted_mult : (x y : ℕ) → mult s t (load.D + load.E) x y ≡ mult (sources load nodes sets) (targets load nodes sets) (load.D + load.E) x y
   unfolding mult
-  slotted-mult x y = count_ext _ _ (load.D + load.E) (λ k h. rw (v.source_at k h, v.target_at k h) refl)
+  slotted_mult x y = count_ext _ _ (load.D + load.E) (λ k h. rw (v.source_at k h, v.target_at k h) refl)
 
-  pub slotted-flat : (n i : ℕ) → flat s t n (load.D + load.E) i ≡ flat (sources load nodes sets) (targets load nodes sets) n (load.D + load.E) i
-  slotted-flat n i = count_ext _ _ (load.D + load.E) (λ k h. rw (v.source_at k h, v.target_at k h) refl)
+  pub slotted_flat : (n i : ℕ) → flat s t n (load.D + load.E) i ≡ flat (sources load nodes sets) (targets load nodes sets) n (load.D + load.E) i
+  slotted_flat n i = count_ext _ _ (load.D + load.E) (λ k h. rw (v.source_at k h, v.target_at k h) refl)
 
-  pub slotted-edge : slot_edge s t (load.D + load.E) ≡ slot_edge (sources load nodes sets) (targets load nodes sets) (load.D + load.E)
+  pub slotted_edge : slot_edge s t (load.D + load.E) ≡ slot_edge (sources load nodes sets) (targets load nodes sets) (load.D + load.E)
   unfolding slot_edge
-  slotted-edge = fun_ext (λ x. fun_ext (λ y. ap (ltb 0) (slotted-mult x y)))
+  slotted_edge = fun_ext (λ x. fun_ext (λ y. ap (ltb 0) (slotted_mult x y)))
 
-  pub slotted-ends : {n : ℕ} → Ends (sources load nodes sets) (targets load nodes sets) n (load.D + load.E) → Ends s t n (load.D + load.E)
-  slotted-ends e = record { source = λ k h. rw (v.source_at k h) (e.source k h); target = λ k h. rw (v.target_at k h) (e.target k h) }
+  pub slotted_ends : {n : ℕ} → Ends (sources load nodes sets) (targets load nodes sets) n (load.D + load.E) → Ends s t n (load.D + load.E)
+  slotted_ends e = record { source = λ k h. rw (v.source_at k h) (e.source k h); target = λ k h. rw (v.target_at k h) (e.target k h) }

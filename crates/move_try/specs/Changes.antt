@@ -18,7 +18,7 @@ use Rattle.move_ledger.specs.Nodes.{sources, targets, node_edge}
 use Rattle.move_ledger.specs.NodeMoves.{placing_set}
 use Rattle.move_ledger.specs.Totals.{busy_nodes, filled_cells}
 use Rattle.move_area.specs.Bodies.{lane_at, atom_at, Header, Bodies, write, Sized}
-use Rattle.move_area.specs.BodyLaws.{write_long, read-nodes, set-field, set_header, renew-edges, renew-counts, renew-marks, renew-component, renew-nodes, renew-header}
+use Rattle.move_area.specs.BodyLaws.{write_long, read-nodes, set-field, set_header, renew_edges, renew_counts, renew_marks, renew_component, renew_nodes, renew_header}
 use Rattle.move_area.specs.Calls.{last, next}
 use Rattle.move_area.specs.NodeBodies.{Nodes, node_bodies}
 use Rattle.move_try.specs.Stands.{Stands, stands-sized, counter_at}
@@ -26,8 +26,8 @@ use Rattle.move_try.specs.Areas.{raised, committed}
 
 -- one atom's node is set
 module _ (n a : ℕ) (b : Bodies) (v : Sized n a b) (l : List ℕ) (room : atom_at n + a ≤ length l) where
-  set-node : (i x : ℕ) → i < a → set (write n b l) (atom_at n + i) x ≡ patch (atom_at n) (set b.nodes i x) (write n b l)
-  set-node i x h =
+  set_node : (i x : ℕ) → i < a → set (write n b l) (atom_at n + i) x ≡ patch (atom_at n) (set b.nodes i x) (write n b l)
+  set_node i x h =
       set-field (atom_at n) b.nodes (write n b l) i x (subst (λ k. part (atom_at n) k (write n b l) ≡ b.nodes) (sym v.nodes) (read-nodes n a b v l room)) (omega (arith, v.nodes)) (omega (arith, v.nodes, write_long n b l))
 
 -- the state with another counter, with other marks, with atom a in node y
@@ -41,9 +41,9 @@ abbrev pub with_node : Nodes → ℕ → ℕ → Nodes
 with_node s a y = record { sets = s.sets; nodes = set s.nodes a y; counter = s.counter; marks = s.marks }
 
 module _ {load : Load} {N : ℕ} {s : Nodes} {l₀ l : List ℕ} (v : Stands load N s l₀ l) where
-  pub stands-counter : (c : ℕ) → ((x : ℕ) → x < N → at s.marks x ≤ c) → Stands load N (with_counter s c) l₀ (set l (N * N + 1) c)
+  pub stands_counter : (c : ℕ) → ((x : ℕ) → x < N → at s.marks x ≤ c) → Stands load N (with_counter s c) l₀ (set l (N * N + 1) c)
   unfolding node_bodies
-  stands-counter c low =
+  stands_counter c low =
       record {
         order = v.order;
         small = v.small;
@@ -56,7 +56,7 @@ module _ {load : Load} {N : ℕ} {s : Nodes} {l₀ l : List ℕ} (v : Stands loa
         is =
             ap (λ (u : List ℕ). set u (N * N + 1) c) v.is
             ∙ set_header N load.A (node_bodies load N s) (stands-sized v) l₀ v.room 1 c (omega arith)
-            ∙ renew-header N load.A (node_bodies load N s) (stands-sized v) l₀ (node_bodies load N (with_counter s c)).header;
+            ∙ renew_header N load.A (node_bodies load N s) (stands-sized v) l₀ (node_bodies load N (with_counter s c)).header;
       }
 
   pub stands-marks : (w : List ℕ) → length w ≡ N → ((x : ℕ) → x < N → at w x ≤ s.counter) → Stands load N (with_marks s w) l₀ (patch (lane_at N 9) w l)
@@ -71,7 +71,7 @@ module _ {load : Load} {N : ℕ} {s : Nodes} {l₀ l : List ℕ} (v : Stands loa
         wide = v.wide;
         long = e;
         marks = low;
-        is = ap (patch (lane_at N 9) w) v.is ∙ renew-marks N load.A (node_bodies load N s) (stands-sized v) l₀ w e;
+        is = ap (patch (lane_at N 9) w) v.is ∙ renew_marks N load.A (node_bodies load N s) (stands-sized v) l₀ w e;
       }
 
 -- the counter raised, and marks cleared at its last number
@@ -87,8 +87,8 @@ stands-raised {load} {N} {s} {l₀} {l} v = rw (counter_at v, v.long) (go (last 
 
     go : (t : Bool) → Stands load N (with_counter (with_marks s (cond t (replicate N 0) s.marks)) (cond t 1 (s.counter + 1))) l₀
         (set (cond t (patch (lane_at N 9) (replicate N 0) l) l) (N * N + 1) (cond t 1 (s.counter + 1)))
-    go true = stands-counter (stands-marks v (replicate N 0) (length-replicate N 0) (zeros s.counter)) 1 (zeros 1)
-    go false = stands-counter v (s.counter + 1) (λ x h. omega (arith, v.marks x h))
+    go true = stands_counter (stands-marks v (replicate N 0) (length-replicate N 0) (zeros s.counter)) 1 (zeros 1)
+    go false = stands_counter v (s.counter + 1) (λ x h. omega (arith, v.marks x h))
 
 -- then each mark is below the counter
 pub raised-fresh : {load : Load} {N : ℕ} {s : Nodes} {l₀ l : List ℕ} → Stands load N s l₀ l → (x : ℕ) → x < N → at (with_raised s).marks x < next s.counter
@@ -127,8 +127,8 @@ module _ {load : Load} {N : ℕ} {s : Nodes} {l₀ l : List ℕ} (v : Stands loa
       let z = stands-sized v in
       record { edges = he; few = z.few; words = z.words; counts = hc; marks = z.marks; component = ho; nodes = hp }
 
-  placed-long : length moved ≡ load.A
-  placed-long = rw length-set v.placing.atoms
+  placed_long : length moved ≡ load.A
+  placed_long = rw length-set v.placing.atoms
 
   chain : committed N edges counts a y chunks found (write N b₀ l₀) ≡ write N (made edges (head 1 chunks found) counts moved (replicate N 0)) l₀
   unfolding committed node_bodies
@@ -143,15 +143,15 @@ module _ {load : Load} {N : ℕ} {s : Nodes} {l₀ l : List ℕ} (v : Stands loa
       let z₂ = sized edges x chunks f b₀.counts b₀.nodes b₀.component le z.counts z.nodes z.component in
       let z₃ = sized edges x chunks found b₀.counts b₀.nodes b₀.component le z.counts z.nodes z.component in
       let z₄ = sized edges x chunks found counts b₀.nodes b₀.component le lc z.nodes z.component in
-      let z₅ = sized edges x chunks found counts moved b₀.component le lc placed-long z.component in
-      let z₆ = sized edges 1 chunks found counts moved b₀.component le lc placed-long z.component in
-      ap (λ (u : List ℕ). rest (set (set u (N * N + 3) chunks) (N * N + 4) found)) (renew-edges N load.A b₀ z l₀ edges le)
-      ∙ ap (λ (u : List ℕ). rest (set u (N * N + 4) found)) (set_header N load.A _ z₁ l₀ v.room 3 chunks (omega arith) ∙ renew-header N load.A _ z₁ l₀ (head x chunks f))
-      ∙ ap rest (set_header N load.A _ z₂ l₀ v.room 4 found (omega arith) ∙ renew-header N load.A _ z₂ l₀ (head x chunks found))
-      ∙ ap (λ (u : List ℕ). patch (lane_at N 10) (replicate N 0) (set (set u (atom_at N + a) y) (N * N + 2) 1)) (renew-counts N load.A _ z₃ l₀ counts lc)
-      ∙ ap (λ (u : List ℕ). patch (lane_at N 10) (replicate N 0) (set u (N * N + 2) 1)) (set-node N load.A _ z₄ l₀ v.room a y ha ∙ renew-nodes N load.A _ z₄ l₀ moved placed-long)
-      ∙ ap (patch (lane_at N 10) (replicate N 0)) (set_header N load.A _ z₅ l₀ v.room 2 1 (omega arith) ∙ renew-header N load.A _ z₅ l₀ (head 1 chunks found))
-      ∙ renew-component N load.A _ z₆ l₀ (replicate N 0) (length-replicate N 0)
+      let z₅ = sized edges x chunks found counts moved b₀.component le lc placed_long z.component in
+      let z₆ = sized edges 1 chunks found counts moved b₀.component le lc placed_long z.component in
+      ap (λ (u : List ℕ). rest (set (set u (N * N + 3) chunks) (N * N + 4) found)) (renew_edges N load.A b₀ z l₀ edges le)
+      ∙ ap (λ (u : List ℕ). rest (set u (N * N + 4) found)) (set_header N load.A _ z₁ l₀ v.room 3 chunks (omega arith) ∙ renew_header N load.A _ z₁ l₀ (head x chunks f))
+      ∙ ap rest (set_header N load.A _ z₂ l₀ v.room 4 found (omega arith) ∙ renew_header N load.A _ z₂ l₀ (head x chunks found))
+      ∙ ap (λ (u : List ℕ). patch (lane_at N 10) (replicate N 0) (set (set u (atom_at N + a) y) (N * N + 2) 1)) (renew_counts N load.A _ z₃ l₀ counts lc)
+      ∙ ap (λ (u : List ℕ). patch (lane_at N 10) (replicate N 0) (set u (N * N + 2) 1)) (set_node N load.A _ z₄ l₀ v.room a y ha ∙ renew_nodes N load.A _ z₄ l₀ moved placed_long)
+      ∙ ap (patch (lane_at N 10) (replicate N 0)) (set_header N load.A _ z₅ l₀ v.room 2 1 (omega arith) ∙ renew_header N load.A _ z₅ l₀ (head 1 chunks found))
+      ∙ renew_component N load.A _ z₆ l₀ (replicate N 0) (length-replicate N 0)
     where
       rest : List ℕ → List ℕ
       rest u = patch (lane_at N 10) (replicate N 0) (set (set (patch (lane_at N 8) counts u) (atom_at N + a) y) (N * N + 2) 1)

@@ -48,8 +48,8 @@ module _ {area : List ℕ} {n : ℕ} {s t u v : List ℕ} {m : ℕ} (can : CanFo
       let z : n * n - 0 ≡ n * n = omega arith in
       mid_part 0 (n * n) area (omega arith) (omega (arith, can.room)) ∙ ap (λ k. part 0 k area) z
 
-  pub follow-can : CanUpdate (mid_of 0 (n * n - 0) area) n s t u v m
-  follow-can =
+  pub follow_can : CanUpdate (mid_of 0 (n * n - 0) area) n s t u v m
+  follow_can =
       record {
         both = can.both;
         square = omega (arith, ap length lent, part_long 0 (n * n) area);
@@ -65,36 +65,36 @@ module _ {area : List ℕ} {n : ℕ} {s t u v : List ℕ} {m : ℕ} (can : CanFo
 -- what comes and goes fits the number of edges
 module _ {k n : ℕ} {s t u v : List ℕ} {m come gone : ℕ} (small : n ≤ 1024) (is : k ≡ filled_cells s t n m) (c : Changed n s t u v m come gone) where
   -- the cells of the new slots
-  pub edges-balance : k + come ≡ filled_cells u v n m + gone
+  pub edges_balance : k + come ≡ filled_cells u v n m + gone
   unfolding filled_cells
-  edges-balance = omega (arith, is, c.appeared, c.vanished, cells_moved (flat s t n m) (flat u v n m) (n * n))
+  edges_balance = omega (arith, is, c.appeared, c.vanished, cells_moved (flat s t n m) (flat u v n m) (n * n))
 
-  pub edges-can : (gone ≤ k + come) × (k + come < 2 ^ 32)
+  pub edges_can : (gone ≤ k + come) × (k + come < 2 ^ 32)
   unfolding filled_cells
-  edges-can =
+  edges_can =
       let a = mul-le-mul_right {m = n} {n = 1024} n small in (
-        omega (arith, edges-balance),
+        omega (arith, edges_balance),
         omega (arith, is, c.appeared, count_le (λ i. ltb 0 (flat s t n m i)) (n * n), count_le (λ i. eqb (flat s t n m i) 0 && ltb 0 (flat u v n m i)) (n * n)),
       )
 
-  pub edges-now : k + come - gone ≡ filled_cells u v n m
-  edges-now = omega (arith, edges-balance)
+  pub edges_now : k + come - gone ≡ filled_cells u v n m
+  edges_now = omega (arith, edges_balance)
 
 -- the writes, one after the other
 module _ (n atom to chunks found : ℕ) (e counts area : List ℕ) {l₁ l₂ l₃ : List ℕ} (p₁ : l₁ ≡ patch 0 e area) (p₂ : l₂ ≡ totalled n chunks found l₁) (p₃ : l₃ ≡ patch (lane_at n 8) counts l₂) where
-  pub commit-long : length l₃ ≡ length area
-  commit-long = ap length p₃ ∙ patch_long (lane_at n 8) counts l₂ ∙ ap length p₂ ∙ simp length-set (ap length p₁ ∙ patch_long 0 e area)
+  pub commit_long : length l₃ ≡ length area
+  commit_long = ap length p₃ ∙ patch_long (lane_at n 8) counts l₂ ∙ ap length p₂ ∙ simp length-set (ap length p₁ ∙ patch_long 0 e area)
 
   abbrev stored : List ℕ
   stored = set (set l₃ (atom_at n + atom) to) (n * n + 2) 1
 
-  pub stored-long : length stored ≡ length area
-  stored-long = simp length-set commit-long
+  pub stored_long : length stored ≡ length area
+  stored_long = simp length-set commit_long
 
-  pub commit-done : {l₄ : List ℕ} → l₄ ≡ patch (lane_at n 10) (replicate n 0) stored → l₄ ≡ committed n e counts atom to chunks found area
+  pub commit_done : {l₄ : List ℕ} → l₄ ≡ patch (lane_at n 10) (replicate n 0) stored → l₄ ≡ committed n e counts atom to chunks found area
   unfolding committed
-  commit-done p₄ =
+  commit_done p₄ =
       p₄ ∙ ap (λ (u : List ℕ). patch (lane_at n 10) (replicate n 0) (set (set u (atom_at n + atom) to) (n * n + 2) 1)) (p₃ ∙ ap (patch (lane_at n 8) counts) (p₂ ∙ ap (totalled n chunks found) p₁))
 
-  pub commit-same : {l₄ : List ℕ} → l₄ ≡ patch (lane_at n 10) (replicate n 0) stored → length l₄ ≡ length area
-  commit-same p₄ = ap length p₄ ∙ patch_long (lane_at n 10) (replicate n 0) stored ∙ stored-long
+  pub commit_same : {l₄ : List ℕ} → l₄ ≡ patch (lane_at n 10) (replicate n 0) stored → length l₄ ≡ length area
+  commit_same p₄ = ap length p₄ ∙ patch_long (lane_at n 10) (replicate n 0) stored ∙ stored_long

@@ -77,8 +77,8 @@ module _ (n a : ℕ) (b b' : Bodies) (v : Sized n a b) (v' : Sized n a b') (more
       nodes : length b.nodes ≤ length b'.nodes
       nodes = omega (arith, v.nodes, v'.nodes)
 
-  clear-free : (r k : ℕ) → r < b'.header.registered → r < n → Clear (fields_of n b') k → Free n r k
-  clear-free r k h z c =
+  clear_free : (r k : ℕ) → r < b'.header.registered → r < n → Clear (fields_of n b') k → Free n r k
+  clear_free r k h z c =
       record {
         header = λ e. omega (arith, c.of (field (n * n) (numbers b'.header)) (there here) (omega arith));
         mark = λ e. omega (arith, v'.marks, c.of (field (lane_at n 9) b'.marks) (there (there (there (there (there (there (there (there (there (there (there here))))))))))) (omega arith));
@@ -86,15 +86,15 @@ module _ (n a : ℕ) (b b' : Bodies) (v : Sized n a b) (v' : Sized n a b') (more
       }
 
   -- an area that has the new fields, and is as before at each place that no field has
-  pub is-write : (l₀ l' : List ℕ) (r : ℕ) → r < b'.header.registered → r < n → length l' ≡ length l₀
+  pub is_write : (l₀ l' : List ℕ) (r : ℕ) → r < b'.header.registered → r < n → length l' ≡ length l₀
       → part 0 (n * n) l' ≡ b'.edges → HeaderIn n l' b'.header
       → ((j : ℕ) → j < 8 → part (lane_at n j) b'.header.registered l' ≡ b'.words j) → part (lane_at n 8) n l' ≡ b'.counts → part (lane_at n 9) n l' ≡ b'.marks
       → part (lane_at n 10) n l' ≡ b'.component → part (atom_at n) a l' ≡ b'.nodes
       → ((k : ℕ) → k < length l₀ → Free n r k → get_or l' k 0 ≡ get_or (write n b l₀) k 0) → l' ≡ write n b' l₀
   unfolding write
-  is-write l₀ l' r hr hn long e g w k m o p far =
+  is_write l₀ l' r hr hn long e g w k m o p far =
       sym (write_same n a l' b' v' e g w k m o p)
-      ∙ lay_agree (fields_of n b') l₀ l' long (λ i h q. far i h (clear-free r i hr hn q) ∙ lay_clear (fields_of n b) l₀ i h (under_clear under q))
+      ∙ lay_agree (fields_of n b') l₀ l' long (λ i h q. far i h (clear_free r i hr hn q) ∙ lay_clear (fields_of n b) l₀ i h (under_clear under q))
 
   -- the new fields over the old ones
   pub write-over : (l : List ℕ) → write n b' (write n b l) ≡ write n b' l

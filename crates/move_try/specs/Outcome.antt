@@ -17,16 +17,16 @@ use Rattle.entry_set.specs.Sets.{value, legal}
 use Rattle.move_ledger.specs.Graph.{Load, at, edge, gained, reach}
 use Rattle.move_ledger.specs.Answer.{Report, accepted, rejected, is_refused, is_accepted}
 use Rattle.move_ledger.specs.Ledger.{Ledger, put, free_place, register, step1, step2, step3, stays, report, decide, move}
-use Rattle.move_ledger.specs.Evict.{place-free, register_old, register-new}
+use Rattle.move_ledger.specs.Evict.{place-free, register-old, register-new}
 use Rattle.move_ledger.specs.Evict as evict
-use Rattle.move_ledger.specs.MoveLaws.{Passed, decide-late, decide-unrefused, tried-after}
+use Rattle.move_ledger.specs.MoveLaws.{Passed, decide-late, decide_unrefused, tried-after}
 use Rattle.move_ledger.specs.LoadLaws.{InOrder}
-use Rattle.move_ledger.specs.Gained.{gained-cells}
+use Rattle.move_ledger.specs.Gained.{gained_cells}
 use Rattle.move_ledger.specs.Reach.{reach-nodes}
 use Rattle.move_ledger.specs.Nodes.{placed, Placing, sources, targets, node_edge}
 use Rattle.move_ledger.specs.NodeWalks.{cyclic-nodes, edge-inside}
 use Rattle.move_ledger.specs.NodePlaces.{placing_apart, free_node, Kept, register-kept}
-use Rattle.move_ledger.specs.NodeMoves.{placing_set, placed-moved, moved-cyclic, moved-reaches}
+use Rattle.move_ledger.specs.NodeMoves.{placing_set, placed-moved, moved-cyclic, moved_reaches}
 use Rattle.move_edges.specs.Steps.{fresh}
 use Rattle.move_area.specs.Area.{State}
 use Rattle.move_area.specs.Calls.{last, next, marks_for, walked, after}
@@ -64,7 +64,7 @@ unfolding marks_for
 stands-target {load} {N} {s} {l₀} {l} v more T wide = go (has T s.sets) refl
   where
     go : (t : Bool) → has T s.sets ≡ t → Stands load N (with_target load N s T) l₀ (target_area load N s T l)
-    go true h = rw (register_old load N (placed s.nodes s.sets) T s.sets h, h) v
+    go true h = rw (register-old load N (placed s.nodes s.sets) T s.sets h, h) v
     go false h =
         let f = place-free load N (placed s.nodes s.sets) s.sets (placing_apart v.placing) v.few more in
         rw (register-new load N (placed s.nodes s.sets) T s.sets h, h)
@@ -126,7 +126,7 @@ module _ {load : Load} {N : ℕ} {s : Nodes} {a T y : ℕ} (v : Trial load N s a
   reached x = go (dec_lt x (length sets'))
     where
       go : Dec (x < length sets') → (ltb x (length sets') && via (edge load (set place a T)) (set place a T) T (at sets' x)) ≡ via E (below N) y x
-      go (yes h) = rw (lt-ltb x (length sets') h) (moved-reaches v.order kept.placing kept.placed a T y v.node v.set N wide x h)
+      go (yes h) = rw (lt-ltb x (length sets') h) (moved_reaches v.order kept.placing kept.placed a T y v.node v.set N wide x h)
       go (no h) =
           rw (le-ltb x (length sets') (omega arith))
           (sym (fails _ (λ q. h (walk_to (λ i j k. (edge-inside v.order (placing_set kept.placing a y v.node) i j k).1) (sound E (below N) y x q)))))
@@ -158,8 +158,8 @@ module _ {load : Load} {N : ℕ} {s : Nodes} {a T y : ℕ} (v : Trial load N s a
   told : cyclic E (below N) ≡ false → slot_report load N s.nodes sets' a y ≡ report load place (set place a T) T
   told acyclic =
       rw (
-        sym (gained-cells v.order kept.placing there N wide some) ∙ ap₂ (gained load) kept.placed moved,
-        sym (gained-cells v.order there kept.placing N wide some) ∙ ap₂ (gained load) moved kept.placed,
+        sym (gained_cells v.order kept.placing there N wide some) ∙ ap₂ (gained load) kept.placed moved,
+        sym (gained_cells v.order there kept.placing N wide some) ∙ ap₂ (gained load) moved kept.placed,
         sym (reach-nodes v.order there N wide y v.node (sym (cyclic-nodes v.order there N wide) ∙ acyclic)) ∙ ap₂ (reach load) moved v.set,
       ) refl
     where
@@ -184,7 +184,7 @@ module _ {load : Load} {N : ℕ} {s : Nodes} {a T y : ℕ} (v : Trial load N s a
         go false h = ap accepted (sym (told h))
 
     unrefused : is_refused (decide load fixed place a w) ≡ false
-    unrefused = decide-unrefused load fixed place a w passed
+    unrefused = decide_unrefused load fixed place a w passed
 
     late : (move load fixed N (ledger_of s) a w).after ≡ cond (is_accepted (cond (cyclic E (below N)) rejected (accepted R))) (step3 load N (ledger_of s) a T) (step2 load N (ledger_of s) T)
     late =
@@ -201,21 +201,21 @@ module _ {load : Load} {N : ℕ} {s : Nodes} {a T y : ℕ} (v : Trial load N s a
     by-sets = rw (unrefused, s1, is, before, walked-nodes) refl
 
     -- rejected: the target is registered
-    pub trial-rejected : cyclic E (below N) ≡ true
+    pub trial_rejected : cyclic E (below N) ≡ true
         → ((move load fixed N (ledger_of s) a w).answer ≡ rejected) × (after load fixed N (state_of s) a w ≡ state_of (with_test load N (with_target load N s T) a y (cyclic (node_edge load s.nodes s.sets) (below N))))
     unfolding move
-    trial-rejected q = (decided ∙ rw q refl, by-sets ∙ rw (late, q, kept.placed) refl)
+    trial_rejected q = (decided ∙ rw q refl, by-sets ∙ rw (late, q, kept.placed) refl)
 
     -- accepted: and the atom moved
-    pub trial-accepted : cyclic E (below N) ≡ false
+    pub trial_accepted : cyclic E (below N) ≡ false
         → ((move load fixed N (ledger_of s) a w).answer ≡ accepted R) × (after load fixed N (state_of s) a w ≡ state_of (with_node (with_test load N (with_target load N s T) a y (cyclic (node_edge load s.nodes s.sets) (below N))) a y))
     unfolding move
-    trial-accepted q = (decided ∙ rw q refl, by-sets ∙ rw (late, q, moved) refl)
+    trial_accepted q = (decided ∙ rw q refl, by-sets ∙ rw (late, q, moved) refl)
 
 -- a move that step 1 rejects writes nothing
 module _ (load : Load) (fixed : List ℕ) (N : ℕ) (st : State) (a : ℕ) (w : List ℕ) (r10 : a < load.A) (r24 : stays fixed a ≡ false) (r11 : legal load.E w ≡ true) (r12 : eqb (value w) (at st.ledger.place a) ≡ false) where
-  pub early-rejected : step1 load st.ledger.place a ≡ true → ((move load fixed N st.ledger a w).answer ≡ rejected) × (after load fixed N st a w ≡ st)
+  pub early_rejected : step1 load st.ledger.place a ≡ true → ((move load fixed N st.ledger a w).answer ≡ rejected) × (after load fixed N st a w ≡ st)
   unfolding move after
-  early-rejected s1 =
+  early_rejected s1 =
       let passed : Passed (leb load.A a) (stays fixed a) (not (legal load.E w)) (eqb (value w) (at st.ledger.place a)) = record { at10 = lt-leb load.A a r10; at24 = r24; at11 = ap not r11; at12 = r12 } in
-      (decide-late load fixed st.ledger.place a w passed ∙ rw s1 refl, rw (decide-unrefused load fixed st.ledger.place a w passed, s1) refl)
+      (decide-late load fixed st.ledger.place a w passed ∙ rw s1 refl, rw (decide_unrefused load fixed st.ledger.place a w passed, s1) refl)

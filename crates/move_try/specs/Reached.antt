@@ -67,19 +67,19 @@ module _ {area : List ℕ} {n to : ℕ} {s t : List ℕ} {m : ℕ} (can : CanTes
   abbrev c : ℕ
   c = next (counter_in n area)
 
-  raised-counter : counter_in n (raised n area) ≡ c
+  raised_counter : counter_in n (raised n area) ≡ c
   unfolding raised
-  raised-counter = go (last (counter_in n area))
+  raised_counter = go (last (counter_in n area))
     where
       go : (t : Bool) → get_or (set (cond t (patch (lane_at n 9) (replicate n 0) area) area) (n * n + 1) c) (n * n + 1) 0 ≡ c
       go true = get_or-set_same (patch (lane_at n 9) (replicate n 0) area) (n * n + 1) c 0 (omega (arith, can.room, patch_long (lane_at n 9) (replicate n 0) area))
       go false = get_or-set_same area (n * n + 1) c 0 (omega (arith, can.room))
 
-  walked-counter : counter_in n (walk_area E n c to (raised n area)) ≡ c
+  walked_counter : counter_in n (walk_area E n c to (raised n area)) ≡ c
   unfolding walk_area
-  walked-counter =
+  walked_counter =
       patch-out (lane_at n 9) (marked E n c to (part (lane_at n 9) n (raised n area))) (raised n area) (n * n + 1) (omega (arith, can.room, raised_long n area)) (λ h. absurd (omega arith))
-      ∙ raised-counter
+      ∙ raised_counter
 
   pub tested-reach : {l : List ℕ} → l ≡ tested E n to area → CanReach l n to heads list
   unfolding tested walk_area
@@ -104,6 +104,6 @@ module _ {area : List ℕ} {n to : ℕ} {s t : List ℕ} {m : ℕ} (can : CanTes
             graph = v.graph;
             room = room (walk_area E n c to (raised n area)) (patch_long (lane_at n 9) (marked E n c to (part (lane_at n 9) n (raised n area))) (raised n area) ∙ raised_long n area);
             marks = λ d x b.
-                ap (λ k. eqb (get_or (walk_area E n c to (raised n area)) (lane_at n 9 + x) 0) k) walked-counter
+                ap (λ k. eqb (get_or (walk_area E n c to (raised n area)) (lane_at n 9 + x) 0) k) walked_counter
                 ∙ walk_marked E n c to (raised n area) x b (raised_below can) ∙ ap (λ (f : ℕ → ℕ → Bool). via f (below n) to x) (sym v.same);
           }

@@ -17,14 +17,14 @@ use Rattle.entry_set.specs.Lanes.{set_lanes}
 use Rattle.entry_set.specs.LaneLaws.{length-set_strided, set_strided-other, set_strided-at}
 use Rattle.move_ledger.specs.Graph.{Load, at, occupied}
 use Rattle.move_ledger.specs.Ledger.{put}
-use Rattle.move_ledger.specs.Places.{put-grows, put-most, put-there, put_same, put_other}
+use Rattle.move_ledger.specs.Places.{put_grows, put_most, put-there, put_same, put_other}
 use Rattle.move_ledger.specs.Nodes.{Placing}
-use Rattle.move_ledger.specs.NodePlaces.{placing-put, sources-put, targets-put}
+use Rattle.move_ledger.specs.NodePlaces.{placing_put, sources-put, targets-put}
 use Rattle.move_area.specs.Bodies.{lane_at, atom_at, Bodies, write, Sized}
 use Rattle.move_area.specs.NodeBodies.{Nodes, node_bodies}
-use Rattle.move_try.specs.Stands.{Stands, nodes_sized, stands-sized, stands-long, counter_at, acyclic-at, occupied-at, distinct_at, edge_at, word_at, count_at, mark_at, component-at, node_at}
+use Rattle.move_try.specs.Stands.{Stands, nodes-sized, stands-sized, stands_long, counter_at, acyclic_at, occupied-at, distinct_at, edge_at, word_at, count_at, mark_at, component_at, node_at}
 use Rattle.move_try.specs.Areas.{registered}
-use Rattle.move_try.specs.Grown.{Free, is-write}
+use Rattle.move_try.specs.Grown.{Free, is_write}
 
 -- the words of two nodes in two lanes stand apart, and before the other lanes
 apart : (n i j x r : ℕ) → x < n → r < n → (x ≡ r → ⊥) → n * n + 24 + i * n + x ≡ n * n + 24 + j * n + r → ⊥
@@ -44,19 +44,19 @@ module _ (n count r X : ℕ) (l : List ℕ) (hr : r < n) (room : atom_at n ≤ l
   words_long : length words ≡ length l
   words_long = length-set_strided l (lane_at n 0 + r) n (parts 32 8 X)
 
-  pub registered-long : length (registered n count r X l) ≡ length l
+  pub registered_long : length (registered n count r X l) ≡ length l
   unfolding registered
-  registered-long = simp length-set words_long
+  registered_long = simp length-set words_long
 
-  pub registered-far : (k : ℕ) → Free n r k → get_or (registered n count r X l) k 0 ≡ get_or l k 0
+  pub registered_far : (k : ℕ) → Free n r k → get_or (registered n count r X l) k 0 ≡ get_or l k 0
   unfolding registered
-  registered-far k f =
+  registered_far k f =
       get_or-set_other counted (lane_at n 9 + r) k 0 0 f.mark ∙ get_or-set_other words (n * n) k count 0 f.header
       ∙ set_strided-other l (lane_at n 0 + r) n (parts 32 8 X) k (λ j h e. f.word j (omega (arith, length-parts 32 8 X)) (omega arith))
 
-  pub registered-word : (j : ℕ) → j < 8 → get_or (registered n count r X l) (lane_at n j + r) 0 ≡ get_or (parts 32 8 X) j 0
+  pub registered_word : (j : ℕ) → j < 8 → get_or (registered n count r X l) (lane_at n j + r) 0 ≡ get_or (parts 32 8 X) j 0
   unfolding registered
-  registered-word j h =
+  registered_word j h =
       let b = lane_below n j r h hr in
       let e : lane_at n 0 + r + j * n ≡ lane_at n j + r = omega arith in
       get_or-set_other counted (lane_at n 9 + r) (lane_at n j + r) 0 0 (omega arith) ∙ get_or-set_other words (n * n) (lane_at n j + r) count 0 (omega arith)
@@ -66,9 +66,9 @@ module _ (n count r X : ℕ) (l : List ℕ) (hr : r < n) (room : atom_at n ≤ l
   unfolding registered
   registered-count = get_or-set_other counted (lane_at n 9 + r) (n * n) 0 0 (omega arith) ∙ get_or-set_same words (n * n) count 0 (omega (arith, words_long))
 
-  pub registered-mark : get_or (registered n count r X l) (lane_at n 9 + r) 0 ≡ 0
+  pub registered_mark : get_or (registered n count r X l) (lane_at n 9 + r) 0 ≡ 0
   unfolding registered
-  registered-mark = get_or-set_same counted (lane_at n 9 + r) 0 0 (omega (arith, words_long, length-set words (n * n) count))
+  registered_mark = get_or-set_same counted (lane_at n 9 + r) 0 0 (omega (arith, words_long, length-set words (n * n) count))
 
 -- the set T in place r, without a mark
 abbrev pub with_set : Nodes → ℕ → ℕ → Nodes
@@ -84,33 +84,33 @@ module _ {load : Load} {N : ℕ} {s : Nodes} {l₀ l : List ℕ} (v : Stands loa
   l' = registered N (length (put r T s.sets)) r T l
 
   few : length sets' ≤ N
-  few = put-most r T s.sets within N v.few free
+  few = put_most r T s.sets within N v.few free
 
   placing : Placing load s.nodes sets'
-  placing = placing-put v.placing r T within empty new (omega (arith, few, v.small))
+  placing = placing_put v.placing r T within empty new (omega (arith, few, v.small))
 
   long : length (set s.marks r 0) ≡ N
   long = length-set s.marks r 0 ∙ v.long
 
   sized : Sized N load.A (node_bodies load N (with_set s r T))
-  sized = nodes_sized load N (with_set s r T) placing few long
+  sized = nodes-sized load N (with_set s r T) placing few long
 
   space : atom_at N ≤ length l
-  space = omega (arith, v.room, stands-long v)
+  space = omega (arith, v.room, stands_long v)
 
   far : (k : ℕ) → Free N r k → get_or l' k 0 ≡ get_or l k 0
-  far = registered-far N (length sets') r T l free space
+  far = registered_far N (length sets') r T l free space
 
   -- a lane that isn't one of words or marks is as before
   kept : (b k : ℕ) (w : List ℕ) → length w ≡ k → ((x : ℕ) → x < k → get_or l (b + x) 0 ≡ get_or w x 0) → ((x : ℕ) → x < k → Free N r (b + x)) → part b k l' ≡ w
   kept b k w e h f = ext_get_or 0 (part b k l') w (part_long b k l' ∙ sym e) (λ x z. let y : x < k = omega (arith, part_long b k l') in part_at b k l' x y ∙ far (b + x) (f x y) ∙ h x y)
 
-  lane-free : (j x : ℕ) → lane_at N 8 ≤ lane_at N j + x → (lane_at N j + x ≡ lane_at N 9 + r → ⊥) → Free N r (lane_at N j + x)
-  lane-free j x b ne = record { header = λ e. omega arith; mark = ne; word = λ i h e. omega (arith, lane_below N i r h free) }
+  lane_free : (j x : ℕ) → lane_at N 8 ≤ lane_at N j + x → (lane_at N j + x ≡ lane_at N 9 + r → ⊥) → Free N r (lane_at N j + x)
+  lane_free j x b ne = record { header = λ e. omega arith; mark = ne; word = λ i h e. omega (arith, lane_below N i r h free) }
 
   -- and so are the other numbers of the header
-  header-free : (i : ℕ) → 0 < i → i < 24 → Free N r (N * N + i)
-  header-free i a b = record { header = λ e. omega arith; mark = λ e. omega arith; word = λ j q e. omega arith }
+  header_free : (i : ℕ) → 0 < i → i < 24 → Free N r (N * N + i)
+  header_free i a b = record { header = λ e. omega arith; mark = λ e. omega arith; word = λ j q e. omega arith }
 
   abbrev b₀ : Bodies
   b₀ = node_bodies load N s
@@ -143,7 +143,7 @@ module _ {load : Load} {N : ℕ} {s : Nodes} {l₀ l : List ℕ} (v : Stands loa
     where
       go : (x : ℕ) → x < length sets' → Dec (x ≡ r) → get_or l' (lane_at N j + x) 0 ≡ get_or (parts 32 8 (at sets' x)) j 0
       go x z (yes e) =
-          ap (λ i. get_or l' (lane_at N j + i) 0) e ∙ registered-word N (length sets') r T l free space j h
+          ap (λ i. get_or l' (lane_at N j + i) 0) e ∙ registered_word N (length sets') r T l free space j h
           ∙ ap (λ X. get_or (parts 32 8 X) j 0) (sym (ap (at sets') e ∙ put_same r T s.sets within))
       go x z (no d) =
           let o = put_other r T s.sets within x z d in
@@ -160,27 +160,27 @@ module _ {load : Load} {N : ℕ} {s : Nodes} {l₀ l : List ℕ} (v : Stands loa
     where
       go : (x : ℕ) → x < N → Dec (x ≡ r) → get_or l' (lane_at N 9 + x) 0 ≡ get_or (set s.marks r 0) x 0
       go x y (yes e) =
-          ap (λ i. get_or l' (lane_at N 9 + i) 0) e ∙ registered-mark N (length sets') r T l free space
+          ap (λ i. get_or l' (lane_at N 9 + i) 0) e ∙ registered_mark N (length sets') r T l free space
           ∙ sym (ap (λ i. get_or (set s.marks r 0) i 0) e ∙ get_or-set_same s.marks r 0 0 (omega (arith, v.long)))
-      go x y (no e) = far (lane_at N 9 + x) (lane-free 9 x (omega arith) (λ q. e (omega arith))) ∙ mark_at v x y ∙ sym (get_or-set_other s.marks r x 0 0 e)
+      go x y (no e) = far (lane_at N 9 + x) (lane_free 9 x (omega arith) (λ q. e (omega arith))) ∙ mark_at v x y ∙ sym (get_or-set_other s.marks r x 0 0 e)
 
   whole : l' ≡ write N b₁ l₀
   unfolding node_bodies
   whole =
-      is-write N load.A b₀ b₁ (stands-sized v) (subst (Sized N load.A) (sym same) sized) (put-grows r T s.sets within) l₀ l' r (put-there r T s.sets within) free (registered-long N (length sets') r T l free space ∙ stands-long v)
+      is_write N load.A b₀ b₁ (stands-sized v) (subst (Sized N load.A) (sym same) sized) (put_grows r T s.sets within) l₀ l' r (put-there r T s.sets within) free (registered_long N (length sets') r T l free space ∙ stands_long v)
       (kept 0 (N * N) b₀.edges (tab-length _ (N * N)) (λ x h. ap (λ k. get_or l k 0) (zero-add x) ∙ edge_at v x h ∙ sym (tab-at _ (N * N) x h)) (λ x h. record { header = λ e. omega arith; mark = λ e. omega arith; word = λ j q e. omega arith }))
       (record {
         registered = registered-count N (length sets') r T l free space;
-        counter = far (N * N + 1) (header-free 1 (omega arith) (omega arith)) ∙ counter_at v;
-        acyclic = far (N * N + 2) (header-free 2 (omega arith) (omega arith)) ∙ acyclic-at v;
-        occupied = far (N * N + 3) (header-free 3 (omega arith) (omega arith)) ∙ occupied-at v;
-        distinct = far (N * N + 4) (header-free 4 (omega arith) (omega arith)) ∙ distinct_at v;
+        counter = far (N * N + 1) (header_free 1 (omega arith) (omega arith)) ∙ counter_at v;
+        acyclic = far (N * N + 2) (header_free 2 (omega arith) (omega arith)) ∙ acyclic_at v;
+        occupied = far (N * N + 3) (header_free 3 (omega arith) (omega arith)) ∙ occupied-at v;
+        distinct = far (N * N + 4) (header_free 4 (omega arith) (omega arith)) ∙ distinct_at v;
       })
       word
-      (kept (lane_at N 8) N b₀.counts (tab-length _ N) (λ x h. count_at v x h ∙ sym (tab-at _ N x h)) (λ x h. lane-free 8 x (omega arith) (λ e. omega arith)))
+      (kept (lane_at N 8) N b₀.counts (tab-length _ N) (λ x h. count_at v x h ∙ sym (tab-at _ N x h)) (λ x h. lane_free 8 x (omega arith) (λ e. omega arith)))
       marks
-      (kept (lane_at N 10) N b₀.component (tab-length _ N) (λ x h. component-at v x h ∙ sym (tab-at _ N x h)) (λ x h. lane-free 10 x (omega arith) (λ e. omega arith)))
-      (kept (atom_at N) load.A s.nodes v.placing.atoms (λ x h. node_at v x h) (λ x h. lane-free 24 x (omega arith) (λ e. omega arith)))
+      (kept (lane_at N 10) N b₀.component (tab-length _ N) (λ x h. component_at v x h ∙ sym (tab-at _ N x h)) (λ x h. lane_free 10 x (omega arith) (λ e. omega arith)))
+      (kept (atom_at N) load.A s.nodes v.placing.atoms (λ x h. node_at v x h) (λ x h. lane_free 24 x (omega arith) (λ e. omega arith)))
       (λ k h f. far k f ∙ ap (λ (u : List ℕ). get_or u k 0) v.is)
 
   pub stands-registered : Stands load N (with_set s r T) l₀ l'

@@ -19,9 +19,9 @@ use Rattle.move_ledger.specs.Graph.{Load, at, members, occupied}
 use Rattle.move_ledger.specs.Answer.{Answer, accepted, rejected, is_accepted}
 use Rattle.move_ledger.specs.LoadLaws.{Loadable}
 use Rattle.move_ledger.specs.Nodes.{Placing, sources, targets, node_edge}
-use Rattle.move_ledger.specs.NodeMoves.{placing_set, moved-cyclic, moved-decides}
-use Rattle.move_slots.specs.SlotLaws.{Slotted, slotted-edge, slotted-ends, slotted-flat}
-use Rattle.move_ledger.specs.Totals.{busy_nodes, filled_cells, busy_moved}
+use Rattle.move_ledger.specs.NodeMoves.{placing_set, moved-cyclic, moved_decides}
+use Rattle.move_slots.specs.SlotLaws.{Slotted, slotted_edge, slotted_ends, slotted_flat}
+use Rattle.move_ledger.specs.Totals.{busy_nodes, filled_cells, busy-moved}
 use Rattle.move_ledger.specs.NodeWalks.{cyclic-nodes, ends-nodes}
 use Rattle.move_area.specs.Bodies.{lane_at, atom_at}
 use Rattle.move_area.specs.Area.{sets_in}
@@ -31,13 +31,13 @@ use Rattle.move_area.specs.Calls.{next}
 use Rattle.move_slots.specs.Filled.{CanFillOwn, Filled}
 use Rattle.move_try.specs.declared.Tried.{Tried}
 use Rattle.move_try.specs.declared.Tried.TheVariants.{Accepted, Rejected}
-use Rattle.move_try.specs.Stands.{Stands, stands-long, registered-at, counter_at, acyclic-at, occupied-at, distinct_at, edge_at, sets-in, count_at, mark_at, node_at, marks-part, nodes-part}
+use Rattle.move_try.specs.Stands.{Stands, stands_long, registered-at, counter_at, acyclic_at, occupied-at, distinct_at, edge_at, sets-in, count_at, mark_at, node_at, marks-part, nodes-part}
 use Rattle.move_try.specs.Areas.{counter_in, raised, chunks_after, edges_after, committed}
 use Rattle.move_try.specs.Changes.{with_marks, with_node, with_raised, stands-marks, stands-raised, raised-fresh, stands-committed}
 use Rattle.move_try.specs.Outcome.{slot_report, with_test, walk_marks}
 use Rattle.move_try.specs.Test.{CanTest, walk_area, closes, tested, marked_long}
 use Rattle.move_try.specs.Reached.{CanReach, tested-reach}
-use Rattle.move_try.specs.Commit.{CanCommit, edges-now}
+use Rattle.move_try.specs.Commit.{CanCommit, edges_now}
 use Rattle.move_try.specs.Trial.{CanTrial}
 
 -- the ledger's answer
@@ -59,7 +59,7 @@ module _ {load : Load} {N : ℕ} {s : Nodes} {l₀ l : List ℕ} (v : Stands loa
   was = cyclic (node_edge load s.nodes s.sets) (below N)
 
   flag : eqb (get_or l (N * N + 2) 0) 0 ≡ was
-  flag = ap (λ k. eqb k 0) (acyclic-at v) ∙ flag_tells was
+  flag = ap (λ k. eqb k 0) (acyclic_at v) ∙ flag_tells was
 
   low : (x : ℕ) → x < N → at (walk_marks load N s a y) x ≤ next s.counter
   unfolding marking
@@ -91,7 +91,7 @@ module _ {load : Load} {N : ℕ} {s : Nodes} {l₀ l : List ℕ} (v : Stands loa
       go : (t : Bool) → was ≡ t → cond t (cyclic E (below N)) (via E (below N) y y) ≡ cyclic E (below N)
       go true h = refl
       go false h =
-          sym (moved-decides v.order v.placing refl a (at s.sets y) y hy refl N v.few ha (sym (cyclic-nodes v.order v.placing N v.few) ∙ h))
+          sym (moved_decides v.order v.placing refl a (at s.sets y) y hy refl N v.few ha (sym (cyclic-nodes v.order v.placing N v.few) ∙ h))
           ∙ moved-cyclic v.order v.placing refl a (at s.sets y) y hy refl N v.few
 
 -- the area holds the state that it names, and the target is a registered node
@@ -129,13 +129,13 @@ pub record Settled (load : Load) (n : ℕ) (area : List ℕ) (atom to : ℕ) (x 
 slotted_matrix : {load : Load} {nodes sets s t : List ℕ} → Slotted load nodes sets s t → (n : ℕ)
     → matrix s t n (load.D + load.E) ≡ matrix (sources load nodes sets) (targets load nodes sets) n (load.D + load.E)
 unfolding matrix
-slotted_matrix v n = tab_alike _ _ (n * n) (λ i h. slotted-flat v n i)
+slotted_matrix v n = tab_alike _ _ (n * n) (λ i h. slotted_flat v n i)
 
 -- and fill as many of its cells
 slotted_filled : {load : Load} {nodes sets s t : List ℕ} → Slotted load nodes sets s t → (n : ℕ)
     → filled_cells s t n (load.D + load.E) ≡ filled_cells (sources load nodes sets) (targets load nodes sets) n (load.D + load.E)
 unfolding filled_cells
-slotted_filled v n = count_ext _ _ (n * n) (λ i h. ap (ltb 0) (slotted-flat v n i))
+slotted_filled v n = count_ext _ _ (n * n) (λ i h. ap (ltb 0) (slotted_flat v n i))
 
 -- no more nodes have an atom than there are
 busy_few : (load : Load) (nodes : List ℕ) (n : ℕ) → busy_nodes load nodes n ≤ n
@@ -145,7 +145,7 @@ busy_few load nodes n = count_le (occupied load nodes) n
 -- and the same edges that another placement's slots haven't
 slotted_fresh : {load : Load} {nodes nodes' sets s t u v : List ℕ} → Slotted load nodes sets s t → Slotted load nodes' sets u v → (n : ℕ)
     → fresh n s t u v (load.D + load.E) ≡ fresh n (sources load nodes sets) (targets load nodes sets) (sources load nodes' sets) (targets load nodes' sets) (load.D + load.E)
-slotted_fresh o f n = count_ext _ _ (n * n) (λ i h. ap₂ (λ j k. eqb j 0 && ltb 0 k) (slotted-flat o n i) (slotted-flat f n i))
+slotted_fresh o f n = count_ext _ _ (n * n) (λ i h. ap₂ (λ j k. eqb j 0 && ltb 0 k) (slotted_flat o n i) (slotted_flat f n i))
 
 module _ {load : Load} {n : ℕ} {area : List ℕ} {atom to : ℕ} (can : CanSettle load n area atom to) where
   some : 0 < n
@@ -160,8 +160,8 @@ module _ {load : Load} {n : ℕ} {area : List ℕ} {atom to : ℕ} (can : CanSet
   room : atom_at n ≤ length area
   room = omega (arith, can.stands.room)
 
-  pub settle-trial : {counts s t : List ℕ} → n ≤ length counts → load.D + load.E ≤ length s → load.D + load.E ≤ length t → CanTrial load n area atom to counts s t
-  settle-trial a b c =
+  pub settle_trial : {counts s t : List ℕ} → n ≤ length counts → load.D + load.E ≤ length s → load.D + load.E ≤ length t → CanTrial load n area atom to counts s t
+  settle_trial a b c =
       let r = registered-at can.stands in
       record {
         loadable = can.loadable;
@@ -177,13 +177,13 @@ module _ {load : Load} {n : ℕ} {area : List ℕ} {atom to : ℕ} (can : CanSet
   -- with the new slots
   module _ {counts s t : List ℕ} (f : Filled load n (set (nodes_in load n area) atom to) (sets_in n area) counts s t) where
     edges : slot_edge s t (load.D + load.E) ≡ moved_edge load n area atom to
-    edges = slotted-edge f.slots
+    edges = slotted_edge f.slots
 
     ends : Ends s t n (load.D + load.E)
-    ends = slotted-ends f.slots (ends-nodes can.stands.order moved n can.stands.few some)
+    ends = slotted_ends f.slots (ends-nodes can.stands.order moved n can.stands.few some)
 
-    pub settle-test : load.D + load.E ≤ length s → load.D + load.E ≤ length t → CanTest area n to s t (load.D + load.E)
-    settle-test b c =
+    pub settle_test : load.D + load.E ≤ length s → load.D + load.E ≤ length t → CanTest area n to s t (load.D + load.E)
+    settle_test b c =
         record {
           ask =
               record {
@@ -205,19 +205,19 @@ module _ {load : Load} {n : ℕ} {area : List ℕ} {atom to : ℕ} (can : CanSet
       after : Stands load n (tested_state load n area atom to) area l
       after = rw q.1 (stands-tested can.stands atom to edges)
 
-      pub settle-rejected : r ≡ true → Settled load n area atom to rejected l
-      settle-rejected h = record { says = rw (sym answer ∙ h) refl; stands = after }
+      pub settle_rejected : r ≡ true → Settled load n area atom to rejected l
+      settle_rejected h = record { says = rw (sym answer ∙ h) refl; stands = after }
 
       -- the nodes that `to` reaches may be counted
-      pub settle-reach : {heads list : List ℕ} → SlotLists s t (load.D + load.E) n heads list → CanReach l n to heads list
-      settle-reach g = tested-reach (settle-test g.slots.sources g.slots.targets) g q.1
+      pub settle_reach : {heads list : List ℕ} → SlotLists s t (load.D + load.E) n heads list → CanReach l n to heads list
+      settle_reach g = tested-reach (settle_test g.slots.sources g.slots.targets) g q.1
 
       -- the present placement's slots may be filled: the test left nodes and sets as they were
-      pub settle-fill : {counts' u v : List ℕ} → n ≤ length counts' → load.D + load.E ≤ length u → load.D + load.E ≤ length v → CanFillOwn load n l counts' u v
-      settle-fill a b c =
+      pub settle_fill : {counts' u v : List ℕ} → n ≤ length counts' → load.D + load.E ≤ length u → load.D + load.E ≤ length v → CanFillOwn load n l counts' u v
+      settle_fill a b c =
           let k = registered-at after in
           record {
-            loadable = subst (Loadable load n true) (sym (stands-long after)) can.loadable;
+            loadable = subst (Loadable load n true) (sym (stands_long after)) can.loadable;
             few = omega (arith, can.stands.few);
             inside = λ i h. omega (arith, node_at after i h, can.stands.placing.inside i h);
             counts_long = a;
@@ -234,17 +234,17 @@ module _ {load : Load} {n : ℕ} {area : List ℕ} {atom to : ℕ} (can : CanSet
         home = omega (arith, can.stands.placing.inside atom can.there, can.stands.few)
 
         -- one chunk more where the target had no atom, one fewer where the atom's node has none left
-        chunks-balance : busy_nodes load (set (nodes_in load n area) atom to) n + ind (eqb (get_or counts (get_or l (atom_at n + atom) 0) 0) 0)
+        chunks_balance : busy_nodes load (set (nodes_in load n area) atom to) n + ind (eqb (get_or counts (get_or l (atom_at n + atom) 0) 0) 0)
             ≡ get_or l (n * n + 3) 0 + ind (eqb (get_or l (lane_at n 8 + to) 0) 0)
-        chunks-balance =
+        chunks_balance =
             ap (λ i. busy_nodes load (set (nodes_in load n area) atom to) n + ind (eqb (get_or counts i 0) 0)) (node_at after atom can.there)
             ∙ ap (λ i. busy_nodes load (set (nodes_in load n area) atom to) n + ind (eqb i 0)) (f.count_at (at (nodes_in load n area) atom) home)
-            ∙ busy_moved load (nodes_in load n area) atom to n can.stands.placing.atoms can.there home within
+            ∙ busy-moved load (nodes_in load n area) atom to n can.stands.placing.atoms can.there home within
             ∙ sym (ap₂ (λ i j. i + ind (eqb j 0)) (occupied-at after) (count_at after to within))
 
-        pub settle-commit : n ≤ length counts → load.D + load.E ≤ length s → load.D + load.E ≤ length t → load.D + load.E ≤ length u → load.D + load.E ≤ length v
+        pub settle_commit : n ≤ length counts → load.D + load.E ≤ length s → load.D + load.E ≤ length t → load.D + load.E ≤ length u → load.D + load.E ≤ length v
             → CanCommit l n atom to u v s t (load.D + load.E) counts
-        settle-commit k b c y z =
+        settle_commit k b c y z =
             record {
               follow =
                   record {
@@ -254,36 +254,36 @@ module _ {load : Load} {n : ℕ} {area : List ℕ} {atom to : ℕ} (can : CanSet
                           targets = z;
                           new_sources = b;
                           new_targets = c;
-                          ends = slotted-ends old (ends-nodes can.stands.order can.stands.placing n can.stands.few some);
+                          ends = slotted_ends old (ends-nodes can.stands.order can.stands.placing n can.stands.few some);
                           new_ends = ends;
                           few = omega (arith, can.loadable.sizes.entries, can.loadable.sizes.bits);
                         };
-                    room = omega (arith, room, stands-long after);
-                    holds = record { at = λ i w. edge_at after i w ∙ sym (slotted-flat old n i) };
+                    room = omega (arith, room, stands_long after);
+                    holds = record { at = λ i w. edge_at after i w ∙ sym (slotted_flat old n i) };
                   };
               rows = can.stands.small;
               node = within;
-              place = omega (arith, can.stands.room, stands-long after, can.there);
+              place = omega (arith, can.stands.room, stands_long after, can.there);
               tallies = k;
               chunks =
                   record {
                     small = can.stands.small;
                     node = within;
-                    place = omega (arith, can.stands.room, stands-long after, can.there);
+                    place = omega (arith, can.stands.room, stands_long after, can.there);
                     tallies = k;
                     home = omega (arith, node_at after atom can.there, home);
                     few = subst (λ i. i ≤ n) (sym (occupied-at after)) (busy_few load (nodes_in load n area) n);
-                    left = omega (arith, chunks-balance);
+                    left = omega (arith, chunks_balance);
                   };
               edges = distinct_at after ∙ sym (slotted_filled old n);
             }
 
-        pub settle-accepted : r ≡ false → {heads list : List ℕ} → SlotLists s t (load.D + load.E) n heads list → {k : ℕ} → k ≡ count (via (edge heads list n) (below n) to) n
+        pub settle_accepted : r ≡ false → {heads list : List ℕ} → SlotLists s t (load.D + load.E) n heads list → {k : ℕ} → k ≡ count (via (edge heads list n) (below n) to) n
             → {come gone : ℕ} → Changed n u v s t (load.D + load.E) come gone
             → {l' : List ℕ}
             → l' ≡ committed n (matrix s t n (load.D + load.E)) (part 0 n counts) atom to (chunks_after n counts atom to l) (edges_after n come gone l) l
             → Settled load n area atom to (accepted (record { appeared = come; vanished = gone; reached = k })) l'
-        settle-accepted h g z c e =
+        settle_accepted h g z c e =
             record {
               says =
                   rw (
@@ -294,8 +294,8 @@ module _ {load : Load} {n : ℕ} {area : List ℕ} {atom to : ℕ} (can : CanSet
                   ) refl;
               stands =
                   rw (e, slotted_matrix f.slots n, tallies)
-                  (stands-committed after atom to can.there can.node (sym answer ∙ h) (omega (arith, chunks-balance))
-                  (edges-now can.stands.small (distinct_at after ∙ sym (slotted_filled old n)) c ∙ slotted_filled f.slots n));
+                  (stands-committed after atom to can.there can.node (sym answer ∙ h) (omega (arith, chunks_balance))
+                  (edges_now can.stands.small (distinct_at after ∙ sym (slotted_filled old n)) c ∙ slotted_filled f.slots n));
             }
           where
             tallies : part 0 n counts ≡ tab (members load (set (nodes_in load n area) atom to)) n

@@ -19,11 +19,11 @@ use Rattle.move_ledger.specs.LoadLaws.{InOrder}
 use Rattle.move_ledger.specs.Nodes.{Placing, sources, targets, node_edge}
 use Rattle.move_ledger.specs.Totals.{busy_nodes, filled_cells}
 use Rattle.move_area.specs.Bodies.{lane_at, atom_at, write, Sized}
-use Rattle.move_area.specs.BodyLaws.{write_long, read-edges, read-registered, read-counter, read-acyclic, read-occupied, read-distinct, read-words, read-counts, read-marks, read-component, read-nodes}
+use Rattle.move_area.specs.BodyLaws.{write_long, read-edges, read-registered, read_counter, read_acyclic, read-occupied, read-distinct, read-words, read-counts, read-marks, read_component, read-nodes}
 use Rattle.move_area.specs.Area.{sets_in, decode, encode, consistent}
 use Rattle.move_area.specs.Held.{Held, consistent-held, consistent-whole}
 use Rattle.move_area.specs.NodeBodies.{Nodes, node_bodies, state_of, encode-nodes}
-use Rattle.move_area.specs.Checked.{nodes_state, Ranged, sets-length, ranged_placing, consistent-ranged}
+use Rattle.move_area.specs.Checked.{nodes_state, Ranged, sets-length, ranged_placing, consistent_ranged}
 
 -- l is the area l₀ with the state s written
 pub record Stands (load : Load) (N : ℕ) (s : Nodes) (l₀ l : List ℕ) : Type 0 where
@@ -37,9 +37,9 @@ pub record Stands (load : Load) (N : ℕ) (s : Nodes) (l₀ l : List ℕ) : Type
   pub marks : (x : ℕ) → x < N → at s.marks x ≤ s.counter
   pub is : l ≡ write N (node_bodies load N s) l₀
 
-pub nodes_sized : (load : Load) (N : ℕ) (s : Nodes) → Placing load s.nodes s.sets → length s.sets ≤ N → length s.marks ≡ N → Sized N load.A (node_bodies load N s)
+pub nodes-sized : (load : Load) (N : ℕ) (s : Nodes) → Placing load s.nodes s.sets → length s.sets ≤ N → length s.marks ≡ N → Sized N load.A (node_bodies load N s)
 unfolding node_bodies
-nodes_sized load N s p few long =
+nodes-sized load N s p few long =
     record {
       edges = tab-length _ (N * N);
       few = few;
@@ -52,10 +52,10 @@ nodes_sized load N s p few long =
 
 module _ {load : Load} {N : ℕ} {s : Nodes} {l₀ l : List ℕ} (v : Stands load N s l₀ l) where
   pub stands-sized : Sized N load.A (node_bodies load N s)
-  stands-sized = nodes_sized load N s v.placing v.few v.long
+  stands-sized = nodes-sized load N s v.placing v.few v.long
 
-  pub stands-long : length l ≡ length l₀
-  stands-long = ap length v.is ∙ write_long N (node_bodies load N s) l₀
+  pub stands_long : length l ≡ length l₀
+  stands_long = ap length v.is ∙ write_long N (node_bodies load N s) l₀
 
   -- what stands in the cells
   pub registered-at : get_or l (N * N) 0 ≡ length s.sets
@@ -64,11 +64,11 @@ module _ {load : Load} {N : ℕ} {s : Nodes} {l₀ l : List ℕ} (v : Stands loa
 
   pub counter_at : get_or l (N * N + 1) 0 ≡ s.counter
   unfolding node_bodies
-  counter_at = ap (λ (u : List ℕ). get_or u (N * N + 1) 0) v.is ∙ read-counter N load.A (node_bodies load N s) stands-sized l₀ v.room
+  counter_at = ap (λ (u : List ℕ). get_or u (N * N + 1) 0) v.is ∙ read_counter N load.A (node_bodies load N s) stands-sized l₀ v.room
 
-  pub acyclic-at : get_or l (N * N + 2) 0 ≡ ind (not (cyclic (node_edge load s.nodes s.sets) (below N)))
+  pub acyclic_at : get_or l (N * N + 2) 0 ≡ ind (not (cyclic (node_edge load s.nodes s.sets) (below N)))
   unfolding node_bodies
-  acyclic-at = ap (λ (u : List ℕ). get_or u (N * N + 2) 0) v.is ∙ read-acyclic N load.A (node_bodies load N s) stands-sized l₀ v.room
+  acyclic_at = ap (λ (u : List ℕ). get_or u (N * N + 2) 0) v.is ∙ read_acyclic N load.A (node_bodies load N s) stands-sized l₀ v.room
 
   pub occupied-at : get_or l (N * N + 3) 0 ≡ busy_nodes load s.nodes N
   unfolding node_bodies
@@ -109,9 +109,9 @@ module _ {load : Load} {N : ℕ} {s : Nodes} {l₀ l : List ℕ} (v : Stands loa
   unfolding node_bodies
   mark_at x h = cell (lane_at N 9) N _ (read-marks N load.A (node_bodies load N s) stands-sized l₀ v.room) x h
 
-  pub component-at : (x : ℕ) → x < N → get_or l (lane_at N 10 + x) 0 ≡ ind (only (node_edge load s.nodes s.sets) (below N) x)
+  pub component_at : (x : ℕ) → x < N → get_or l (lane_at N 10 + x) 0 ≡ ind (only (node_edge load s.nodes s.sets) (below N) x)
   unfolding node_bodies
-  component-at x h = cell (lane_at N 10) N _ (read-component N load.A (node_bodies load N s) stands-sized l₀ v.room) x h ∙ tab-at _ N x h
+  component_at x h = cell (lane_at N 10) N _ (read_component N load.A (node_bodies load N s) stands-sized l₀ v.room) x h ∙ tab-at _ N x h
 
   pub node_at : (i : ℕ) → i < load.A → get_or l (atom_at N + i) 0 ≡ at s.nodes i
   unfolding node_bodies
@@ -150,7 +150,7 @@ consistent-stands load N l o small bits room c =
     held = consistent-held load N l c
 
     ranged : Ranged load N l
-    ranged = consistent-ranged load N l o small room c
+    ranged = consistent_ranged load N l o small room c
 
     placing : Placing load (part (atom_at N) load.A l) (sets_in N l)
     placing = ranged_placing small ranged

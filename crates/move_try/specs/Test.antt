@@ -102,8 +102,8 @@ module _ {area : List ℕ} {n counter y : ℕ} {heads list : List ℕ} (can : Ca
   lent : mid_of at (at + n - at) area ≡ part at n area
   lent = marks-lent n area can.fresh.room
 
-  pub mark-can : CanMark heads list n counter y (mid_of at (at + n - at) area)
-  mark-can =
+  pub mark_can : CanMark heads list n counter y (mid_of at (at + n - at) area)
+  mark_can =
       record {
         graph = can.graph;
         nodes = can.nodes;
@@ -112,9 +112,9 @@ module _ {area : List ℕ} {n counter y : ℕ} {heads list : List ℕ} (can : Ca
         fresh = λ x h. rw (lent, part_at at n area x h) (can.fresh.below x h);
       }
 
-  pub mark-done : (e : ℕ → ℕ → Bool) {m : List ℕ} → m ≡ marked e n counter y (mid_of at (at + n - at) area) → put_mid at (at + n - at) area m ≡ walk_area e n counter y area
+  pub mark_done : (e : ℕ → ℕ → Bool) {m : List ℕ} → m ≡ marked e n counter y (mid_of at (at + n - at) area) → put_mid at (at + n - at) area m ≡ walk_area e n counter y area
   unfolding walk_area
-  mark-done e {m} q =
+  mark_done e {m} q =
       let r : m ≡ marked e n counter y (part at n area) = q ∙ ap (marked e n counter y) lent in
       let long : length m ≡ at + n - at = omega (arith, ap length r, marked_long e n counter y (part at n area), part_long at n area) in
       put-patch at (at + n) area m (omega arith) (omega (arith, can.fresh.room)) long ∙ ap (λ (u : List ℕ). patch at u area) r

@@ -48,22 +48,22 @@ placed-part area from a atom to moved {l} can e =
 -- the first A of the copied nodes are lent
 module _ {load : Load} {n : ℕ} {area : List ℕ} {atom to : ℕ} {counts sources targets : List ℕ} (can : CanTrial load n area atom to counts sources targets) (moved : List ℕ)
     (long : length moved ≡ 512) (e : part 0 load.A moved ≡ set (nodes_in load n area) atom to) where
-  pub fill-nodes : take (load.A - 0) moved ≡ set (nodes_in load n area) atom to
-  fill-nodes =
+  pub fill_nodes : take (load.A - 0) moved ≡ set (nodes_in load n area) atom to
+  fill_nodes =
       let z : load.A - 0 ≡ load.A = omega arith in
       mid_part 0 load.A moved (omega arith) (omega (arith, can.loadable.sizes.atoms)) ∙ ap (λ k. part 0 k moved) z ∙ e
 
   nodes_long : length (nodes_in load n area) ≡ load.A
   nodes_long = part_long (atom_at n) load.A area
 
-  pub fill-can : CanFill load n (take (load.A - 0) moved) area (get_or area (n * n) 0) counts sources targets
-  fill-can =
+  pub fill_can : CanFill load n (take (load.A - 0) moved) area (get_or area (n * n) 0) counts sources targets
+  fill_can =
       record {
         loadable = can.loadable;
         many = refl;
         few = can.few;
-        atoms = omega (arith, ap length fill-nodes, length-set (nodes_in load n area) atom to, nodes_long);
-        inside = λ i b. rw fill-nodes (go i b (ℕ_discrete i atom));
+        atoms = omega (arith, ap length fill_nodes, length-set (nodes_in load n area) atom to, nodes_long);
+        inside = λ i b. rw fill_nodes (go i b (ℕ_discrete i atom));
         counts_long = can.counts_long;
         sources_long = can.sources_long;
         targets_long = can.targets_long;
@@ -74,4 +74,4 @@ module _ {load : Load} {n : ℕ} {area : List ℕ} {atom to : ℕ} {counts sourc
       go i b (no q) = rw (get_or-set_other (nodes_in load n area) atom i to 0 q) (can.nodes i b)
 
   pub fill_done : {c s t : List ℕ} → Filled load n (take (load.A - 0) moved) (sets_in n area) c s t → Filled load n (set (nodes_in load n area) atom to) (sets_in n area) c s t
-  fill_done f = rw fill-nodes at f
+  fill_done f = rw fill_nodes at f

@@ -12,7 +12,7 @@ use Rattle.entry_set.specs.SetLaws.{below_256}
 use Rattle.move_ledger.specs.Graph.{Load, at}
 use Rattle.move_ledger.specs.Answer.{Report, Answer, accepted, rejected, is_accepted}
 use Rattle.move_ledger.specs.Ledger.{put, step1, stays, move}
-use Rattle.move_ledger.specs.Places.{put-inside, put-behind}
+use Rattle.move_ledger.specs.Places.{put-inside, put_behind}
 use Rattle.move_ledger.specs.Evict.{Free, place-free}
 use Rattle.move_ledger.specs.LoadLaws.{Loadable}
 use Rattle.move_ledger.specs.Nodes.{placed, node_edge}
@@ -26,12 +26,12 @@ use Rattle.move_area.specs.Held.{consistent-whole}
 use Rattle.move_area.specs.Checked.{nodes_in, nodes_state}
 use Rattle.move_area.specs.NodeBodies.{Nodes, node_bodies}
 use Rattle.move_area.specs.Calls.{after}
-use Rattle.move_try.specs.Stands.{Stands, stands-sized, stands-long, registered-at, counter_at, sets-in, node_at, marks-part, nodes-part, stands-encode, consistent-stands}
+use Rattle.move_try.specs.Stands.{Stands, stands-sized, stands_long, registered-at, counter_at, sets-in, node_at, marks-part, nodes-part, stands-encode, consistent-stands}
 use Rattle.move_try.specs.Areas.{registered, sets_with, CanRegister}
 use Rattle.move_try.specs.Changes.{with_node}
 use Rattle.move_try.specs.Grown.{write-over}
-use Rattle.move_try.specs.Outcome.{slot_report, Trial, next_place, with_target_sets, with_target, target_area, with_test, stands-target, trial-rejected, trial-accepted, early-rejected}
-use Rattle.move_try.specs.Early.{CanPlace, Place, outside-step1, target-new, place_is, target-node, place-below}
+use Rattle.move_try.specs.Outcome.{slot_report, Trial, next_place, with_target_sets, with_target, target_area, with_test, stands-target, trial_rejected, trial_accepted, early_rejected}
+use Rattle.move_try.specs.Early.{CanPlace, Place, outside-step1, target-new, place_is, target_node, place-below}
 use Rattle.move_try.specs.Settle.{CanSettle, Settled}
 
 -- the rows 1 to 6 and 9 to 12 don't fit
@@ -58,7 +58,7 @@ module _ {load : Load} {N : ℕ} {s : Nodes} {l₀ l : List ℕ} (v : Stands loa
       record {
         order = v.order;
         small = v.small;
-        room = rw (stands-long v) v.room;
+        room = rw (stands_long v) v.room;
         placing = v.placing;
         few = v.few;
         wide = v.wide;
@@ -67,8 +67,8 @@ module _ {load : Load} {N : ℕ} {s : Nodes} {l₀ l : List ℕ} (v : Stands loa
         is = v.is ∙ sym (write_again N load.A (node_bodies load N s) (stands-sized v) l₀ v.room) ∙ ap (write N (node_bodies load N s)) (sym v.is);
       }
 
-  pub stands-own : Stands load N (nodes_state load N l) l l
-  stands-own = subst (λ z. Stands load N z l l) (sym stands-named) again
+  pub stands_own : Stands load N (nodes_state load N l) l l
+  stands_own = subst (λ z. Stands load N z l l) (sym stands-named) again
 
   pub stands-over : {s' : Nodes} {l' : List ℕ} → Stands load N s' l l' → length s.sets ≤ length s'.sets → Stands load N s' l₀ l'
   unfolding node_bodies
@@ -89,106 +89,106 @@ module _ {load : Load} {n : ℕ} {area : List ℕ} {atom T : ℕ} (can : CanTry 
   abbrev st : Nodes
   st = nodes_state load n area
 
-  pub try-stands : Stands load n st area area
-  try-stands =
+  pub try_stands : Stands load n st area area
+  try_stands =
       let z = can.loadable.sizes in
       consistent-stands load n area can.loadable.order z.sets z.bits (omega (arith, z.area)) can.sane
 
-  pub try-room : atom_at n + load.A ≤ length area
-  try-room = try-stands.room
+  pub try_room : atom_at n + load.A ≤ length area
+  try_room = try_stands.room
 
-  pub try-from : (x : ℕ) → x ≡ get_or area (atom_at n + atom) 0 → x < n
-  try-from x e = omega (arith, node_at try-stands atom can.there, try-stands.placing.inside atom can.there, try-stands.few)
+  pub try_from : (x : ℕ) → x ≡ get_or area (atom_at n + atom) 0 → x < n
+  try_from x e = omega (arith, node_at try_stands atom can.there, try_stands.placing.inside atom can.there, try_stands.few)
 
   same : (w : List ℕ) → value w ≡ T → eqb (value w) (at (decode load n area).ledger.place atom) ≡ false
   same w e = rw e can.other
 
   -- step 1
-  pub try-outside : (x : ℕ) → x ≡ get_or area (atom_at n + atom) 0 → {r : Bool} → r ≡ eqb (get_or area (n * n + 2) 0) 0 && eqb (get_or area (lane_at n 10 + x) 0) 0 → r ≡ step1 load (placed (nodes_in load n area) (sets_in n area)) atom
-  try-outside x e q = q ∙ outside-step1 try-stands atom x can.there e
+  pub try_outside : (x : ℕ) → x ≡ get_or area (atom_at n + atom) 0 → {r : Bool} → r ≡ eqb (get_or area (n * n + 2) 0) 0 && eqb (get_or area (lane_at n 10 + x) 0) 0 → r ≡ step1 load (placed (nodes_in load n area) (sets_in n area)) atom
+  try_outside x e q = q ∙ outside-step1 try_stands atom x can.there e
 
-  pub try-rejected : {r : Bool} → r ≡ step1 load (placed (nodes_in load n area) (sets_in n area)) atom → r ≡ true → Answers load n area atom T rejected area
+  pub try_rejected : {r : Bool} → r ≡ step1 load (placed (nodes_in load n area) (sets_in n area)) atom → r ≡ true → Answers load n area atom T rejected area
   unfolding decode
-  try-rejected s1 q = record {
+  try_rejected s1 q = record {
     of = λ fixed w free e legal.
-        let z = early-rejected load fixed n (decode load n area) atom w can.there free legal (same w e) (sym s1 ∙ q) in
+        let z = early_rejected load fixed n (decode load n area) atom w can.there free legal (same w e) (sym s1 ∙ q) in
         (sym z.0, sym (consistent-whole load n area can.sane) ∙ ap (λ u. encode load n u area) (sym z.1));
   }
 
   -- the target's node
   module _ (m : ℕ) (many : m ≡ get_or area (n * n) 0) where
-    registered-many : m ≡ length (sets_in n area)
-    registered-many = many ∙ registered-at try-stands
+    registered_many : m ≡ length (sets_in n area)
+    registered_many = many ∙ registered-at try_stands
 
-    pub try-find : CanFind area (n * n + 24) n m
-    try-find =
+    pub try_find : CanFind area (n * n + 24) n m
+    try_find =
         record {
-          lanes = record { room = omega (arith, try-room) };
-          few = omega (arith, registered-many, try-stands.few);
-          numbers = omega (arith, try-stands.small);
+          lanes = record { room = omega (arith, try_room) };
+          few = omega (arith, registered_many, try_stands.few);
+          numbers = omega (arith, try_stands.small);
         }
 
-    pub try-place : CanPlace area n
-    try-place = record { small = try-stands.small; room = omega (arith, try-room) }
+    pub try_place : CanPlace area n
+    try_place = record { small = try_stands.small; room = omega (arith, try_room) }
 
     module _ {x : ℕ} (f : First (lane_set area (n * n + 24) n) m T x) {y : ℕ} (p : Place area n x y) {r : Bool} (s1 : r ≡ step1 load (placed (nodes_in load n area) (sets_in n area)) atom)
         (left : r ≡ false) where
       first : First (lane_set area (n * n + 24) n) (length (sets_in n area)) T x
-      first = subst (λ k. First (lane_set area (n * n + 24) n) k T x) registered-many f
+      first = subst (λ k. First (lane_set area (n * n + 24) n) k T x) registered_many f
 
       more : load.A < n
       more = can.loadable.sizes.wide
 
       node : (y < length (with_target_sets load n st T)) × (at (with_target_sets load n st T) y ≡ T)
-      node = target-node try-stands T x first more y p
+      node = target_node try_stands T x first more y p
 
-      pub try-register : CanRegister n m y area
-      try-register =
+      pub try_register : CanRegister n m y area
+      try_register =
           record {
-            within = place-below try-stands T x first more y p;
-            few = omega (arith, registered-many, try-stands.few);
-            small = try-stands.small;
-            room = omega (arith, try-room);
+            within = place-below try_stands T x first more y p;
+            few = omega (arith, registered_many, try_stands.few);
+            small = try_stands.small;
+            room = omega (arith, try_room);
           }
 
       module _ {l₁ : List ℕ} (e₁ : l₁ ≡ cond (eqb x m) (registered n (sets_with m y) y T area) area) where
         -- what `register` writes
         written : l₁ ≡ target_area load n st T area
-        written = e₁ ∙ ap (λ b. cond b (registered n (sets_with m y) y T area) area) (ap (eqb x) registered-many ∙ target-new try-stands T x first) ∙ go (has T (sets_in n area)) refl
+        written = e₁ ∙ ap (λ b. cond b (registered n (sets_with m y) y T area) area) (ap (eqb x) registered_many ∙ target-new try_stands T x first) ∙ go (has T (sets_in n area)) refl
           where
             free : Free load n (placed (nodes_in load n area) (sets_in n area)) (sets_in n area) (next_place load n st)
-            free = place-free load n (placed (nodes_in load n area) (sets_in n area)) (sets_in n area) (placing_apart try-stands.placing) try-stands.few more
+            free = place-free load n (placed (nodes_in load n area) (sets_in n area)) (sets_in n area) (placing_apart try_stands.placing) try_stands.few more
 
             counted : (r : ℕ) → r ≤ length (sets_in n area) → sets_with m r ≡ length (put r T (sets_in n area))
             counted r within = pick (dec_lt r (length (sets_in n area)))
               where
                 pick : Dec (r < length (sets_in n area)) → sets_with m r ≡ length (put r T (sets_in n area))
-                pick (yes h) = rw (ne_eqb r m (omega (arith, registered-many))) (registered-many ∙ sym (put-inside r T (sets_in n area) within h))
+                pick (yes h) = rw (ne_eqb r m (omega (arith, registered_many))) (registered_many ∙ sym (put-inside r T (sets_in n area) within h))
                 pick (no h) =
                     let e : r ≡ length (sets_in n area) = omega arith in
-                    rw (eq-eqb r m (e ∙ sym registered-many)) (ap (λ k. k + 1) registered-many ∙ sym (put-behind r T (sets_in n area) within e))
+                    rw (eq-eqb r m (e ∙ sym registered_many)) (ap (λ k. k + 1) registered_many ∙ sym (put_behind r T (sets_in n area) within e))
 
             go : (b : Bool) → has T (sets_in n area) ≡ b → cond (not b) (registered n (sets_with m y) y T area) area ≡ cond b area (registered n (length (put (next_place load n st) T (sets_in n area))) (next_place load n st) T area)
             go true q = refl
             go false q =
-                let e : y ≡ next_place load n st = place_is try-stands T x first more y p (eqb-true x (length (sets_in n area)) (target-new try-stands T x first ∙ ap not q)) in
+                let e : y ≡ next_place load n st = place_is try_stands T x first more y p (eqb-true x (length (sets_in n area)) (target-new try_stands T x first ∙ ap not q)) in
                 rw (e, counted (next_place load n st) free.within) refl
 
         target : Stands load n (with_target load n st T) area l₁
         target =
             subst (Stands load n (with_target load n st T) area) (sym written)
-            (stands-target try-stands more T (below_256 can.loadable.sizes.bits can.range))
+            (stands-target try_stands more T (below_256 can.loadable.sizes.bits can.range))
 
         kept : Kept load n (nodes_in load n area) (sets_in n area) (with_target_sets load n st T)
-        kept = register-kept try-stands.placing try-stands.few more (omega (arith, try-stands.small)) T
+        kept = register-kept try_stands.placing try_stands.few more (omega (arith, try_stands.small)) T
 
         trial : Trial load n st atom T y
         trial =
             record {
-              order = try-stands.order;
-              placing = try-stands.placing;
-              small = try-stands.small;
-              few = try-stands.few;
+              order = try_stands.order;
+              placing = try_stands.placing;
+              small = try_stands.small;
+              few = try_stands.few;
               more = more;
               atom = can.there;
               node = node.0;
@@ -198,11 +198,11 @@ module _ {load : Load} {n : ℕ} {area : List ℕ} {atom T : ℕ} (can : CanTry 
         named : nodes_state load n l₁ ≡ with_target load n st T
         named = stands-named target
 
-        pub try-settle : CanSettle load n l₁ atom y
-        try-settle =
+        pub try_settle : CanSettle load n l₁ atom y
+        try_settle =
             record {
-              loadable = rw (stands-long target) can.loadable;
-              stands = stands-own target;
+              loadable = rw (stands_long target) can.loadable;
+              stands = stands_own target;
               there = can.there;
               node = subst (λ z. y < length z.sets) (sym named) node.0;
             }
@@ -215,9 +215,9 @@ module _ {load : Load} {n : ℕ} {area : List ℕ} {atom T : ℕ} (can : CanTry 
         tested z = with_test load n z atom y (cyclic (node_edge load z.nodes z.sets) (below n))
 
         module _ {l₂ : List ℕ} where
-          pub try-settled : {x : Answer} → Settled load n l₁ atom y x l₂ → Answers load n area atom T x l₂
+          pub try_settled : {x : Answer} → Settled load n l₁ atom y x l₂ → Answers load n area atom T x l₂
           unfolding decode
-          try-settled {x} z = go (cyclic M (below n)) refl says
+          try_settled {x} z = go (cyclic M (below n)) refl says
             where
               M : ℕ → ℕ → Bool
               M = node_edge load (set (nodes_in load n area) atom y) (with_target_sets load n st T)
@@ -238,11 +238,11 @@ module _ {load : Load} {n : ℕ} {area : List ℕ} {atom T : ℕ} (can : CanTry 
               go : (t : Bool) → cyclic M (below n) ≡ t → x ≡ cond t rejected (accepted R) → Answers load n area atom T x l₂
               go true q e = record {
                 of = λ fixed w free v legal.
-                    let k = trial-rejected trial fixed w v free legal can.other (sym s1 ∙ left) q in
+                    let k = trial_rejected trial fixed w v free legal can.other (sym s1 ∙ left) q in
                     (e ∙ sym k.0, stands-encode (rw e at held) ∙ ap (λ u. encode load n u area) (rw present (sym k.1)));
               }
               go false q e = record {
                 of = λ fixed w free v legal.
-                    let k = trial-accepted trial fixed w v free legal can.other (sym s1 ∙ left) q in
+                    let k = trial_accepted trial fixed w v free legal can.other (sym s1 ∙ left) q in
                     (e ∙ sym k.0, stands-encode (rw e at held) ∙ ap (λ u. encode load n u area) (rw present (sym k.1)));
               }

@@ -11,7 +11,7 @@ use Rattle.graphs.specs.Walk.{cyclic}
 use Rattle.graph_neighbours.specs.Lists.{edge, Graph}
 use Rattle.graph_neighbours.specs.Steps.{CanGroup, Grouped}
 use Rattle.graph_slots.specs.Asked.{Slots, ListRoom, SlotLists}
-use Rattle.graph_slots.specs.Listing.{group-can, slot-lists}
+use Rattle.graph_slots.specs.Listing.{group_can, slot-lists}
 use Rattle.move_ledger.specs.Graph.{Load}
 use Rattle.move_ledger.specs.NodeWalks.{cyclic-nodes}
 use Rattle.move_area.specs.Area.{sets_in, decode}
@@ -25,8 +25,8 @@ first_long : (n : ℕ) (l : List ℕ) → n ≤ length l → length (take (n - 0
 first_long n l h = length-take-le (n - 0) l (omega arith) ∙ omega arith
 
 module _ {load : Load} {n : ℕ} {area s₀ t₀ l₀ out₀ colour : List ℕ} (can : CanSearch load n area) (room : SearchRoom load n s₀ t₀ l₀ out₀ colour) where
-  pub fill-can : CanFillOwn load n area l₀ s₀ t₀
-  fill-can =
+  pub fill_can : CanFillOwn load n area l₀ s₀ t₀
+  fill_can =
       record {
         loadable = can.loadable;
         few = can.ranged.few;
@@ -36,8 +36,8 @@ module _ {load : Load} {n : ℕ} {area s₀ t₀ l₀ out₀ colour : List ℕ} 
         targets_long = room.targets_long;
       }
 
-  slots-few : load.D + load.E ≤ 8448
-  slots-few = omega (arith, can.loadable.sizes.entries, can.loadable.sizes.bits)
+  slots_few : load.D + load.E ≤ 8448
+  slots_few = omega (arith, can.loadable.sizes.entries, can.loadable.sizes.bits)
 
   few : length (sets_in n area) ≤ n
   few = omega (arith, sets-length n area, can.ranged.few)
@@ -52,7 +52,7 @@ module _ {load : Load} {n : ℕ} {area s₀ t₀ l₀ out₀ colour : List ℕ} 
     slots =
         let le = counted_le counted in
         record {
-          slots = omega (arith, slots-few);
+          slots = omega (arith, slots_few);
           sources = omega (arith, room.sources_long);
           targets = omega (arith, room.targets_long);
           ends = counted-ends counted;
@@ -62,16 +62,16 @@ module _ {load : Load} {n : ℕ} {area s₀ t₀ l₀ out₀ colour : List ℕ} 
     lists : ListRoom m n l out₀
     lists = let le = counted_le counted in record { rows = omega (arith, room.lists.rows); room = omega (arith, room.lists.room); short = room.lists.short }
 
-    pub searched-group : CanGroup s t m n l out₀
-    searched-group = group-can slots lists
+    pub searched_group : CanGroup s t m n l out₀
+    searched_group = group_can slots lists
 
     -- and grouped in l' and out
     module _ {l' out : List ℕ} (grouped : Grouped s t m n l l' out₀ out) where
       both : SlotLists s t m n l' out
       both = slot-lists slots lists grouped
 
-      pub searched-graph : Graph l' out (length (take (n - 0) colour))
-      searched-graph = subst (Graph l' out) (sym (first_long n colour room.colours)) both.graph
+      pub searched_graph : Graph l' out (length (take (n - 0) colour))
+      searched_graph = subst (Graph l' out) (sym (first_long n colour room.colours)) both.graph
 
       pub searched-says : {r : Bool} → r ≡ cyclic (edge l' out (length (take (n - 0) colour))) (below (length (take (n - 0) colour))) → r ≡ verdict load n area
       unfolding decode

@@ -7,14 +7,14 @@ use Rattle.moves_commands.specs.Program.{areas, State, finish, fresh}
 use Rattle.moves_commands.specs.Fits.{Ready}
 use Rattle.moves_commands.specs.Feed.{reserve, feed, finished}
 use Rattle.moves_commands.specs.Steps.{FedAs}
-use Rattle.moves.specs.Bytes.{after, said, after-ready, feed_first, feed_some}
+use Rattle.moves.specs.Bytes.{after, said, after-ready, feed-first, feed_some}
 use Rattle.moves.specs.Turns.{stopping, Took, Answered, TookAll, TookRead, Ran, begun, further, RanOut, StartsWith, put-taken, took_on, ran_all}
 
 -- a turn
 pub answered : {st st' : State (List ℕ)} {input out out' : List ℕ} {used written : ℕ} (room : ℕ) → Ready st → (0 < length input) × (reserve ≤ room)
     → FedAs (feed areas st input room) st' used out out' written → used ≤ length input → (going : Bool) → Answered st input (stopping going st') used going out' written
 answered {st} {st'} {input} {out} {out'} {used} {written} room r h f inside going =
-    let b = feed_first st input room r in
+    let b = feed-first st input room r in
     record {
       took =
           record {
@@ -46,21 +46,21 @@ unfolding after
 took_none = record { inside = omega arith; state = refl }
 
 module _ {st st' : State (List ℕ)} {input : List ℕ} {at : ℕ} (t : Took st input st' at true) where
-  pub still-ready : Ready st → Ready st'
-  still-ready r = rw t.state (after-ready (take at input) st r)
+  pub still_ready : Ready st → Ready st'
+  still_ready r = rw t.state (after-ready (take at input) st r)
 
   pub part_left : at < length input → 0 < length (take (length input - at) (drop at input))
   part_left h = rw (length-take-le (length input - at) (drop at input) (simp length-drop (omega arith))) (omega arith)
 
   module _ {st'' : State (List ℕ)} {used : ℕ} {out : List ℕ} {written : ℕ} {going : Bool} (a : Answered st' (take (length input - at) (drop at input)) st'' used going out written) where
-    pub then-took : Took st input st'' (at + used) going
-    then-took = took_on t.inside t.state a.took
+    pub then_took : Took st input st'' (at + used) going
+    then_took = took_on t.inside t.state a.took
 
     pub goes_on : going ≡ true → Took st input st'' (at + used) true
-    goes_on e = rw e at then-took
+    goes_on e = rw e at then_took
 
     pub stops : going ≡ false → TookAll st input st'' (at + used) false
-    stops e = record { took = rw e at then-took; some = λ h. omega (arith, a.some); all = λ f. absurd (true≢false (sym f)) }
+    stops e = record { took = rw e at then_took; some = λ h. omega (arith, a.some); all = λ f. absurd (true≢false (sym f)) }
 
   pub ends : length input ≤ at → TookAll st input st' at true
   ends h = record { took = t; some = λ k. omega arith; all = λ e. omega (arith, t.inside, h) }
@@ -95,19 +95,19 @@ module _ {st st' : State (List ℕ)} {bytes turns : ℕ} (w : Reading st st' byt
   -- one read more: it gave n bytes
   module _ {st'' : State (List ℕ)} {n used bytes' : ℕ} {going : Bool} {out : List ℕ} (got : ℤ) (input : List ℕ) (t : TookRead st' (take n input) st'' used going out)
       (e : n ≡ clamp_len got (length input)) (b : bytes' ≡ (bytes + n) % 2 ^ 64) where
-    then-ran : Ran st (w.reads + 1) bytes' st'' going
-    then-ran =
+    then_ran : Ran st (w.reads + 1) bytes' st'' going
+    then_ran =
         subst (λ (m : ℕ). Ran st (w.reads + 1) m st'' going)
         (sym (b ∙ ap (λ (m : ℕ). (bytes + m) % 2 ^ 64) (sym (length-take-le n input (omega (arith, e, clamped_le got (length input)))))))
         (further w.ran t)
 
     pub reading-ends : st''.reading.machine.stopped ≡ true → RanOut st st'' bytes'
-    reading-ends h = record { reads = w.reads + 1; going = going; ran = then-ran; most = λ f. absurd (true≢false (sym h ∙ f)) }
+    reading-ends h = record { reads = w.reads + 1; going = going; ran = then_ran; most = λ f. absurd (true≢false (sym h ∙ f)) }
 
-    pub reading-on : st''.reading.machine.stopped ≡ false → 0 < turns → Reading st st'' bytes' (turns - 1)
-    reading-on h p =
+    pub reading_on : st''.reading.machine.stopped ≡ false → 0 < turns → Reading st st'' bytes' (turns - 1)
+    reading_on h p =
         let go : going ≡ true = going_on (after st' (take used (take n input))) going (sym (ap (λ (s : State (List ℕ)). s.reading.machine.stopped) t.block.took.state) ∙ h) in
-        record { reads = w.reads + 1; turned = omega (arith, w.turned, p); ran = subst (Ran st (w.reads + 1) bytes' st'') go then-ran }
+        record { reads = w.reads + 1; turned = omega (arith, w.turned, p); ran = subst (Ran st (w.reads + 1) bytes' st'') go then_ran }
 
 pub fresh-ready : (area : List ℕ) → Ready (fresh area)
 fresh-ready area =

@@ -30,15 +30,15 @@ said_append (b ∷ bs) cs st =
     ap (λ (u : List ℕ). t.reply ++ u) (said_append bs cs t.after) ∙ sym (append_assoc t.reply (said t.after bs) (said (after t.after bs) cs))
 
 -- the replies to all bytes, and the last one at their end, are what the program prints
-said_replies : (bs : List ℕ) (st : State (List ℕ)) → said st bs ++ finish (after st bs).reading.machine ≡ replies areas st bs
+said-replies : (bs : List ℕ) (st : State (List ℕ)) → said st bs ++ finish (after st bs).reading.machine ≡ replies areas st bs
 unfolding after said replies
-said_replies [] st = refl
-said_replies (b ∷ bs) st =
+said-replies [] st = refl
+said-replies (b ∷ bs) st =
     let t = step areas st b in
-    append_assoc t.reply (said t.after bs) _ ∙ ap (λ (u : List ℕ). t.reply ++ u) (said_replies bs t.after)
+    append_assoc t.reply (said t.after bs) _ ∙ ap (λ (u : List ℕ). t.reply ++ u) (said-replies bs t.after)
 
 pub said-printed : (area : List ℕ) → length area ≡ 16384 → (bs : List ℕ) → said (fresh area) bs ++ finish (after (fresh area) bs).reading.machine ≡ printed bs
-said-printed area h bs = said_replies bs (fresh area) ∙ prints area h bs
+said-printed area h bs = said-replies bs (fresh area) ∙ prints area h bs
 
 -- the lists keep their room
 pub after-ready : (bs : List ℕ) (st : State (List ℕ)) → Ready st → Ready (after st bs)
@@ -51,10 +51,10 @@ pub record FirstBytes (st : State (List ℕ)) (input : List ℕ) (f : Fed (List 
   pub state : f.after ≡ after st (take f.used input)
   pub text : f.written ≡ said st (take f.used input)
 
-feeding_first : (input : List ℕ) (st : State (List ℕ)) (room : ℕ) → FirstBytes st input (feeding areas st input room)
+feeding-first : (input : List ℕ) (st : State (List ℕ)) (room : ℕ) → FirstBytes st input (feeding areas st input room)
 unfolding feeding after said
-feeding_first [] st room = record { state = refl; text = refl }
-feeding_first (b ∷ bs) st room = go (nat_le reserve room) (feeding_first bs (step areas st b).after (room - length (step areas st b).reply))
+feeding-first [] st room = record { state = refl; text = refl }
+feeding-first (b ∷ bs) st room = go (nat_le reserve room) (feeding-first bs (step areas st b).after (room - length (step areas st b).reply))
   where
     t : Turn (List ℕ)
     t = step areas st b
@@ -78,8 +78,8 @@ ready_feeds : (st : State (List ℕ)) (input : List ℕ) (room : ℕ) → Ready 
 unfolding feed
 ready_feeds st input room r = rw (ready-fits st r) refl
 
-pub feed_first : (st : State (List ℕ)) (input : List ℕ) (room : ℕ) → Ready st → FirstBytes st input (feed areas st input room)
-feed_first st input room r = rw (ready_feeds st input room r) (feeding_first input st room)
+pub feed-first : (st : State (List ℕ)) (input : List ℕ) (room : ℕ) → Ready st → FirstBytes st input (feed areas st input room)
+feed-first st input room r = rw (ready_feeds st input room r) (feeding-first input st room)
 
 pub feed_some : (st : State (List ℕ)) (input : List ℕ) (room : ℕ) → Ready st → 0 < length input → reserve ≤ room → 0 < (feed areas st input room).used
 feed_some st [] room r h k = absurd (omega arith)

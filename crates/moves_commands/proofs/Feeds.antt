@@ -49,14 +49,14 @@ ahead_more i text more f =
 ahead-stay : (i : ℕ) (text : List ℕ) (st : State (List ℕ)) → ahead i text (stay st) ≡ record { used = i; after = st; written = text }
 ahead-stay i text st = rw (add-zero i, append-nil text) refl
 
-pub feeding_none : {s : State (List ℕ)} {input out : List ℕ} → Ready s → Feeding s input out s 0 0 out
-feeding_none {s} {input} {out} r =
+pub feeding-none : {s : State (List ℕ)} {input out : List ℕ} → Ready s → Feeding s input out s 0 0 out
+feeding-none {s} {input} {out} r =
     record { within = omega arith; text = []; put = put-none out 0 (omega arith); whole = ahead_none _ ∙ ap (λ n. ahead 0 [] (feeding areas s input n)) (sym (sub-zero (length out))); ready = r; long = same_long s }
 
 module _ {s : State (List ℕ)} {input out₀ : List ℕ} {st : State (List ℕ)} {i at : ℕ} {out : List ℕ} (v : Feeding s input out₀ st i at out) where
-  pub feeding-on : {st' : State (List ℕ)} {at' : ℕ} {out' : List ℕ} → i < length input → reserve ≤ length out - at
+  pub feeding_on : {st' : State (List ℕ)} {at' : ℕ} {out' : List ℕ} → i < length input → reserve ≤ length out - at
       → Stepped (step areas st (get_or input i 0)) st' out at out' at' → Long s st' → Feeding s input out₀ st' (i + 1) at' out'
-  feeding-on {st'} {at'} {out'} b g w k =
+  feeding_on {st'} {at'} {out'} b g w k =
       let t = step areas st (get_or input i 0) in
       let d : drop i input ≡ get_or input i 0 ∷ drop (i + 1) input = rw add-one (drop-cons input i 0 b) in
       let e : length out₀ - at - length t.reply ≡ length out₀ - at' = omega (arith, w.put.end) in

@@ -15,8 +15,8 @@ use Rattle.move_area.specs.Area.{decode}
 use Rattle.move_area.specs.Fixed.{checks_out}
 use Rattle.move_area.specs.Calls.{asked, checked}
 use Rattle.move_questions.specs.Answers.{place_in, Checked, Listable}
-use Rattle.reduced_chunk_graph.specs.Asked.{asked-back, checks, head-inside, totals-inside, edges-told, edge-told}
-use Rattle.move_rows.specs.Listed.{RowTold, listable-known, listable-some}
+use Rattle.reduced_chunk_graph.specs.Asked.{asked-back, checks, head-inside, totals_inside, edges-told, edge-told}
+use Rattle.move_rows.specs.Listed.{RowTold, listable_known, listable_some}
 use Rattle.moves_replies.specs.Words.{reply}
 use Rattle.moves_replies.specs.Room.{Put, put_then, put-none, reply_long}
 use Rattle.moves_commands.specs.Program.{N, unmarked, areas, lines, lines_of, listing}
@@ -68,27 +68,27 @@ asked_few load fixed N area n = go (eqb (refusal load fixed N (length area)) 0) 
 -- the check's word at each call of `listing`
 module _ {load : Load} {area order degrees : List ℕ} where
   module _ {known : ℕ} (can : CanList load area known order degrees) where
-    pub list-some : (l : Load) × Listable l N area known order degrees
-    list-some = listable-some can.told refl can.sets
+    pub list_some : (l : Load) × Listable l N area known order degrees
+    list_some = listable_some can.told refl can.sets
 
     pub line-told : (k : ℕ) {x : Answer} → ((l : Load) → Listable l N area known order degrees → x ≡ kth (edges l (place_in l N area)) k) → reply x ≡ reply (areas.asks load area (edge_at k))
-    line-told k f = ap reply (edge-told load (unmarked load) N area 0 can.told.row refl k _ (f load (listable-known can.told refl can.sets)))
+    line-told k f = ap reply (edge-told load (unmarked load) N area 0 can.told.row refl k _ (f load (listable_known can.told refl can.sets)))
 
   module _ (can : CanListAll load area order degrees) where
-    pub list-one : {known : ℕ} → known ≡ get_or area (N * N) 0 → CanList load area known order degrees
-    list-one e = record { told = can.told; sets = e }
+    pub list_one : {known : ℕ} → known ≡ get_or area (N * N) 0 → CanList load area known order degrees
+    list_one e = record { told = can.told; sets = e }
 
     pub head-there : N * N < length area
     head-there = head-inside load (unmarked load) N area 0 can.told.row refl
 
-    pub totals-there : N * N + 5 ≤ length area
-    totals-there = totals-inside load (unmarked load) N area 0 can.told.row refl
+    pub totals_there : N * N + 5 ≤ length area
+    totals_there = totals_inside load (unmarked load) N area 0 can.told.row refl
 
     pub count-told : {n : ℕ} → ((l : Load) (registered : ℕ) → Checked l N area registered → n ≡ length (edges l (place_in l N area))) → number n ≡ areas.asks load area edge_count
     count-told f = edges-told load (unmarked load) N area 0 can.told.row refl _ (f load _ (checks load (unmarked load) N area 0 can.told.row refl))
 
-    pub all-few : {n : ℕ} → number n ≡ areas.asks load area edge_count → n ≤ 144
-    all-few e = omega (arith, asked_few load (unmarked load) N area _ e, can.few)
+    pub all_few : {n : ℕ} → number n ≡ areas.asks load area edge_count → n ≤ 144
+    all_few e = omega (arith, asked_few load (unmarked load) N area _ e, can.few)
 
 -- the lines, and then the count
 pub listing_steps : (asks : Question → Answer) (n : ℕ) {l l' l'' : List ℕ} {at p q : ℕ} → number n ≡ asks edge_count

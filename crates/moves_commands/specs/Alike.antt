@@ -19,7 +19,7 @@ use Rattle.move_area.specs.History.{Holding, call_area, call_step, loading-holds
 use Rattle.moves_replies.specs.Words.{reply, load_reply}
 use Rattle.moves_load_commands.specs.declared.Machine.{Machine}
 use Rattle.moves_load_commands.specs.Machine.{belongs, operand, taken, done, unnamed, Reading, reading, refuse, add_atom, depend, add_host, read}
-use Rattle.moves_commands.specs.Program.{N, unmarked, ledgers, areas, Turn, lent, listing, load, move, edges, set-of, cycle, execute, step, finish, replies, fresh, printed, started, begun, load_of, with_graph, quiet}
+use Rattle.moves_commands.specs.Program.{N, unmarked, ledgers, areas, Turn, lent, listing, load, move, edges, set_command, cycle, execute, step, finish, replies, fresh, printed, started, begun, load_of, with_graph, quiet}
 use Rattle.moves_commands.specs.Program as program
 use Rattle.moves_commands.specs.Fits.{taken-same, either}
 
@@ -99,26 +99,26 @@ record Quiet (s r : Reading) : Type 0 where
   done : r.machine.stopped ≡ false → r.machine.command ≡ 0
 
 module _ (s : Reading) where
-  refused-quiet : Quiet s (refuse s)
-  refused-quiet = record { moving = refl; done = λ e. absurd (true≢false e) }
+  refused_quiet : Quiet s (refuse s)
+  refused_quiet = record { moving = refl; done = λ e. absurd (true≢false e) }
 
   read-quiet : Quiet s (read s)
   unfolding read add_atom depend add_host
   read-quiet =
       let P : Reading → Type 0 = Quiet s in
       either P (eqb s.machine.command 16) _ _
-      (λ e. either P (leb 48 s.machine.atoms) _ _ (λ e. refused-quiet) (λ e. record { moving = refl; done = λ e. refl }))
+      (λ e. either P (leb 48 s.machine.atoms) _ _ (λ e. refused_quiet) (λ e. record { moving = refl; done = λ e. refl }))
       (λ e. either P (eqb s.machine.command 17) _ _
-      (λ e. either P (unnamed s.machine s.machine.x || (unnamed s.machine s.machine.y || leb 128 s.machine.entries)) _ _ (λ e. refused-quiet) (λ e. record { moving = refl; done = λ e. refl }))
-      (λ e. either P (leb 16 s.machine.x || (unnamed s.machine s.machine.y || not (eqb (at s.hosts s.machine.x) none))) _ _ (λ e. refused-quiet) (λ e. record { moving = refl; done = λ e. refl })))
+      (λ e. either P (unnamed s.machine s.machine.x || (unnamed s.machine s.machine.y || leb 128 s.machine.entries)) _ _ (λ e. refused_quiet) (λ e. record { moving = refl; done = λ e. refl }))
+      (λ e. either P (leb 16 s.machine.x || (unnamed s.machine s.machine.y || not (eqb (at s.hosts s.machine.x) none))) _ _ (λ e. refused_quiet) (λ e. record { moving = refl; done = λ e. refl })))
 
 module _ {s : Reading} {starts area : List ℕ} {l : Ledger} (k : Linked s starts area l) where
   -- the two answer alike
   module _ (go_on : s.machine.stopped ≡ false) where
     module _ (moving : s.machine.moving ≡ true) where
-      asks-alike : areas.asks (the_load s starts) area ≡ ledgers.asks (the_load s starts) l
+      asks_alike : areas.asks (the_load s starts) area ≡ ledgers.asks (the_load s starts) l
       unfolding call_area call
-      asks-alike =
+      asks_alike =
           let h = k.after go_on moving in
           fun_ext (λ q. (call_step _ _ N area h.held (asks q) h.holding).answers ∙ ap (λ (u : Ledger). ask (the_load s starts) u.place q) h.follows)
 
@@ -126,21 +126,21 @@ module _ {s : Reading} {starts area : List ℕ} {l : Ledger} (k : Linked s start
       done-linked : Linked (record { machine = done s.machine; sets = s.sets; sources = s.sources; dependencies = s.dependencies; hosts = s.hosts }) starts area l
       done-linked = record { before = k.before; after = λ e f. k.after go_on moving; phase = λ e. refl }
 
-      edges-alike : Alike (edges areas (state s starts area)) (edges ledgers (state s starts l))
+      edges_alike : Alike (edges areas (state s starts area)) (edges ledgers (state s starts l))
       unfolding edges
-      edges-alike = record { reply = ap listing asks-alike; reading = refl; starts = refl; linked = done-linked }
+      edges_alike = record { reply = ap listing asks_alike; reading = refl; starts = refl; linked = done-linked }
 
-      set-alike : Alike (set-of areas (state s starts area)) (set-of ledgers (state s starts l))
-      unfolding set-of
-      set-alike = record { reply = ap (λ f. reply (f (atom_set s.machine.y))) asks-alike; reading = refl; starts = refl; linked = done-linked }
+      set_alike : Alike (set_command areas (state s starts area)) (set_command ledgers (state s starts l))
+      unfolding set_command
+      set_alike = record { reply = ap (λ f. reply (f (atom_set s.machine.y))) asks_alike; reading = refl; starts = refl; linked = done-linked }
 
-      cycle-alike : Alike (cycle areas (state s starts area)) (cycle ledgers (state s starts l))
+      cycle_alike : Alike (cycle areas (state s starts area)) (cycle ledgers (state s starts l))
       unfolding cycle
-      cycle-alike = record { reply = ap (λ f. reply (f has_cycle)) asks-alike; reading = refl; starts = refl; linked = done-linked }
+      cycle_alike = record { reply = ap (λ f. reply (f has_cycle)) asks_alike; reading = refl; starts = refl; linked = done-linked }
 
-      move-alike : Alike (move areas (state s starts area)) (move ledgers (state s starts l))
+      move_alike : Alike (move areas (state s starts area)) (move ledgers (state s starts l))
       unfolding move call_area call
-      move-alike =
+      move_alike =
           let h = k.after go_on moving in
           let q = call_step _ _ N area h.held (try_move s.machine.x (s.machine.y ∷ [])) h.holding in
           record {
@@ -156,9 +156,9 @@ module _ {s : Reading} {starts area : List ℕ} {l : Ledger} (k : Linked s start
           }
 
     -- the load
-    load-alike : s.machine.moving ≡ false → Alike (load areas (state s starts area)) (load ledgers (state s starts l))
+    load_alike : s.machine.moving ≡ false → Alike (load areas (state s starts area)) (load ledgers (state s starts l))
     unfolding load calls.new
-    load-alike before =
+    load_alike before =
         let st : program.State (List ℕ) = started (state s starts area) in
         let x : List ℕ = take s.machine.atoms s.sets in
         let e : loading (load_of st) (unmarked (load_of st)) N x (length area) ≡ loading (load_of st) (unmarked (load_of st)) N x 16384 = ap (λ n. loading (load_of st) (unmarked (load_of st)) N x n) (k.before before) in
@@ -175,15 +175,15 @@ module _ {s : Reading} {starts area : List ℕ} {l : Ledger} (k : Linked s start
         }
 
     -- a command
-    execute-alike : belongs s.machine.command s.machine.moving ≡ true → Alike (execute areas (state s starts area)) (execute ledgers (state s starts l))
+    execute_alike : belongs s.machine.command s.machine.moving ≡ true → Alike (execute areas (state s starts area)) (execute ledgers (state s starts l))
     unfolding execute
-    execute-alike p =
+    execute_alike p =
         let c = s.machine.command in
         both_ways Alike (leb c 18) _ _ _ _ (λ e. quiet_read (low_phase c _ (le-leb c 19 (omega (arith, leb-true c 18 e))) p))
-        (λ e. both_ways Alike (eqb c 19) _ _ _ _ (λ f. load-alike (low_phase c _ (le-leb c 19 (omega (arith, eqb-true c 19 f))) p))
+        (λ e. both_ways Alike (eqb c 19) _ _ _ _ (λ f. load_alike (low_phase c _ (le-leb c 19 (omega (arith, eqb-true c 19 f))) p))
         (λ f. let moving : s.machine.moving ≡ true = high_phase c _ (lt-leb c 19 (omega (arith, leb-false c 18 e, eqb-false c 19 f))) p in
-        both_ways Alike (eqb c 32) _ _ _ _ (λ g. move-alike moving)
-        (λ g. both_ways Alike (eqb c 33) _ _ _ _ (λ h. edges-alike moving) (λ h. both_ways Alike (eqb c 34) _ _ _ _ (λ i. set-alike moving) (λ i. cycle-alike moving)))))
+        both_ways Alike (eqb c 32) _ _ _ _ (λ g. move_alike moving)
+        (λ g. both_ways Alike (eqb c 33) _ _ _ _ (λ h. edges_alike moving) (λ h. both_ways Alike (eqb c 34) _ _ _ _ (λ i. set_alike moving) (λ i. cycle_alike moving)))))
       where
         quiet_read : s.machine.moving ≡ false → Alike (quiet (state (read s) starts area)) (quiet (state (read s) starts l))
         quiet_read b =
@@ -207,7 +207,7 @@ step_alike {s} {starts} {area} {l} b k =
     both_ways Alike s.machine.stopped _ _ _ _ (λ e. record { reply = refl; reading = refl; starts = refl; linked = k })
     (λ e. both_ways Alike ((taken s.machine b).stopped || not (eqb (taken s.machine b).wanted 0)) _ _ _ _
     (λ f. record { reply = refl; reading = refl; starts = refl; linked = byte e })
-    (λ f. execute-alike (byte e) (or_false_left _ _ f) (taken_phase s.machine b (k.phase e) (or_false_left _ _ f))))
+    (λ f. execute_alike (byte e) (or_false_left _ _ f) (taken_phase s.machine b (k.phase e) (or_false_left _ _ f))))
   where
     byte : s.machine.stopped ≡ false → Linked (reading (taken s.machine b) s.sets s.sources s.dependencies s.hosts) starts area l
     byte e =

@@ -11,7 +11,7 @@ use Rattle.move_ledger.specs.Graph.{at, none}
 use Rattle.moves_load_commands.specs.declared.Machine.{Machine}
 use Rattle.moves_load_commands.specs.Machine.{belongs, operand, taken, inserted, unnamed, Reading, add_atom, depend, add_host, read, reading}
 use Rattle.moves_load_commands.specs.Lists.{Roomy}
-use Rattle.moves_commands.specs.Program.{Graphs, State, Turn, with_machine, load, move, edges, set-of, cycle, execute, step}
+use Rattle.moves_commands.specs.Program.{Graphs, State, Turn, with_machine, load, move, edges, set_command, cycle, execute, step}
 
 -- room for 48 atoms and 128 dependencies, 16 hosts, and no more named
 pub record Fits (s : Reading) (starts : List ℕ) : Type 0 where
@@ -71,9 +71,9 @@ module _ {s : Reading} {starts : List ℕ} (f : Fits s starts) where
   same-fits : (n : Machine) → Same s.machine n → Fits (reading n s.sets s.sources s.dependencies s.hosts) starts
   same-fits n e = record { roomy = f.roomy; for_starts = f.for_starts; atoms = rw e.0 f.atoms; entries = rw e.1 f.entries }
 
-  add-atom-fits : Fits (add_atom s) starts
+  add_atom-fits : Fits (add_atom s) starts
   unfolding add_atom
-  add-atom-fits =
+  add_atom-fits =
       either (λ s. Fits s starts) (leb 48 s.machine.atoms) _ _ (λ e. same-fits _ (refl, refl))
       (λ e.
       record {
@@ -108,9 +108,9 @@ module _ {s : Reading} {starts : List ℕ} (f : Fits s starts) where
         entries = omega (arith, leb-false 128 m.entries (or_false_right (unnamed m m.y) _ (or_false_right (unnamed m m.x) _ e)));
       })
 
-  add-host-fits : Fits (add_host s) starts
+  add_host-fits : Fits (add_host s) starts
   unfolding add_host
-  add-host-fits =
+  add_host-fits =
       let m = s.machine in
       either (λ s. Fits s starts) (leb 16 m.x || (unnamed m m.y || not (eqb (at s.hosts m.x) none))) _ _ (λ e. same-fits _ (refl, refl))
       (λ e.
@@ -130,8 +130,8 @@ module _ {s : Reading} {starts : List ℕ} (f : Fits s starts) where
   pub read_fits : Fits (read s) starts
   unfolding read
   read_fits =
-      either (λ s. Fits s starts) (eqb s.machine.command 16) _ _ (λ e. add-atom-fits)
-      (λ e. either (λ s. Fits s starts) (eqb s.machine.command 17) _ _ (λ e. depend-fits) (λ e. add-host-fits))
+      either (λ s. Fits s starts) (eqb s.machine.command 16) _ _ (λ e. add_atom-fits)
+      (λ e. either (λ s. Fits s starts) (eqb s.machine.command 17) _ _ (λ e. depend-fits) (λ e. add_host-fits))
 
 -- so does a state
 abbrev pub Ready : {G : Type 0} → State G → Type 0
@@ -145,7 +145,7 @@ taken-ready {m} {n} b f e =
 
 module _ {G : Type 0} (graphs : Graphs G) where
   execute-fits : (st : State G) → Ready st → Ready (execute graphs st).after
-  unfolding execute load move edges set-of cycle
+  unfolding execute load move edges set_command cycle
   execute-fits st f =
       let c = st.reading.machine.command in
       let P : Turn G → Type 0 = λ t. Ready t.after in

@@ -167,8 +167,8 @@ module _ {G : Type 0} (graphs : Graphs G) where
   edges st = record { after = with_machine st (done st.reading.machine); reply = listing (graphs.asks (load_of st) st.graph) }
 
   -- "22 a: its set, in base ten"
-  unfoldable pub set-of : State G → Turn G
-  set-of st =
+  unfoldable pub set_command : State G → Turn G
+  set_command st =
       let m = st.reading.machine in
       record { after = with_machine st (done m); reply = reply (graphs.asks (load_of st) st.graph (atom_set m.y)) }
 
@@ -184,7 +184,7 @@ module _ {G : Type 0} (graphs : Graphs G) where
       (cond (eqb c 19) (load st)
       (cond (eqb c 32) (move st)
       (cond (eqb c 33) (edges st)
-      (cond (eqb c 34) (set-of st)
+      (cond (eqb c 34) (set_command st)
       (cycle st)))))
 
   -- a byte of the input; once the program has stopped nothing happens

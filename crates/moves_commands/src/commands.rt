@@ -106,7 +106,7 @@ fn set_of(
 ) -> Turn
     requires can_lend { CanLend m dependencies.now starts.now }
     requires at_in_bounds { at + 10240 ≤ length out.old }
-    ensures { (u v : List ℕ) → Stepped (def.set-of areas (held m u v dependencies.now hosts.now starts.now area.now)) (held result.machine u v dependencies.now hosts.now starts.now area.now) out.old at out.new result.at }
+    ensures { (u v : List ℕ) → Stepped (def.set_command areas (held m u v dependencies.now hosts.now starts.now area.now)) (held result.machine u v dependencies.now hosts.now starts.now area.now) out.old at out.new result.at }
 {
     let s = calls::atom_set(m, dependencies, starts, hosts, area);
     let p = put_set_answer(out, at, s);

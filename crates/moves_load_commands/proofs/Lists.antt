@@ -61,8 +61,8 @@ shifting_none {l} {p} {d} h =
     }
 
 module _ {l₀ : List ℕ} {p d i : ℕ} {l : List ℕ} (v : Shifting l₀ p d i l) (room : d < length l₀) where
-  pub shifting-more : {j : ℕ} → p < i → j ≡ i - 1 → Shifting l₀ p d j (set l i (get_or l j 0))
-  shifting-more {j} h q =
+  pub shifting_more : {j : ℕ} → p < i → j ≡ i - 1 → Shifting l₀ p d j (set l i (get_or l j 0))
+  shifting_more {j} h q =
       let e : i ≡ j + 1 = omega arith in
       let f : d - j ≡ suc (d - i) = omega (arith, v.within) in
       let same : get_or l j 0 ≡ get_or l₀ j 0 = ap (λ u. get_or u j 0) v.moved ∙ patch-out (i + 1) _ l₀ j (omega (arith, v.within)) (λ b. absurd (omega arith)) in
@@ -78,9 +78,9 @@ module _ {l₀ : List ℕ} {p d i : ℕ} {l : List ℕ} (v : Shifting l₀ p d i
             ∙ sym (ap (λ u. patch (j + 1) u l₀) (ap (λ (k : ℕ). part j k l₀) f ∙ part-more j (d - i) l₀)));
       }
 
-  pub shifting-done : (x : ℕ) → i ≤ p → set l p x ≡ inserted p d x l₀
+  pub shifting_done : (x : ℕ) → i ≤ p → set l p x ≡ inserted p d x l₀
   unfolding inserted
-  shifting-done x h =
+  shifting_done x h =
       let e : i ≡ p = omega (arith, v.above) in
       ap (λ u. set u p x) (v.moved ∙ ap (λ (k : ℕ). patch (k + 1) (part k (d - k) l₀) l₀) e) ∙ set-patch p x (part p (d - p) l₀) l₀ (omega (arith, v.within))
 
@@ -95,8 +95,8 @@ pub starting_none : {sources : List ℕ} {d n : ℕ} {l : List ℕ} → Starting
 starting_none = record { within = omega arith; long = refl; so_far = λ k b. absurd (omega arith); beyond = λ k b. refl }
 
 module _ {sources : List ℕ} {d n : ℕ} {l₀ : List ℕ} {i : ℕ} {l : List ℕ} (v : Starting sources d n l₀ i l) (can : CanStart sources d n l₀) where
-  pub starting-more : {r : ℕ} → i < n → r ≡ start sources d i → Starting sources d n l₀ (i + 1) (set l i r)
-  starting-more {r} h e =
+  pub starting_more : {r : ℕ} → i < n → r ≡ start sources d i → Starting sources d n l₀ (i + 1) (set l i r)
+  starting_more {r} h e =
       record {
         within = omega arith;
         long = length-set l i r ∙ v.long;
@@ -108,8 +108,8 @@ module _ {sources : List ℕ} {d n : ℕ} {l₀ : List ℕ} {i : ℕ} {l : List 
       pick k b (yes q) = rw (q, get_or-set_same l i r 0 (omega (arith, v.long, can.inside))) e
       pick k b (no q) = get_or-set_other l i k r 0 q ∙ v.so_far k (omega arith)
 
-  pub starting-done : n ≤ i → l ≡ patch 0 (tab (start sources d) n) l₀
-  starting-done h =
+  pub starting_done : n ≤ i → l ≡ patch 0 (tab (start sources d) n) l₀
+  starting_done h =
       is_patch 0 (tab (start sources d) n) l₀ l v.long
       (λ k b z. let y : k < n = omega (arith, tab-length (start sources d) n) in
       ap (λ j. get_or l j 0) (zero-add k) ∙ v.so_far k (omega (arith, v.within)) ∙ sym (tab-at (start sources d) n k y))

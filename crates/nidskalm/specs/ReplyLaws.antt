@@ -35,11 +35,11 @@ pass_is (passed.Assigned n) l e count = ap answering (count ∙ ap candidates (s
 pass_is (passed.Refused q) l e count = ap merge_reply e
 
 module _ {z y : Sizes} {a after : List ℕ} {c : Call} (x : PassAnswer) {before : List ℕ × List ℕ} (left : List ℕ × List ℕ) {r : Reply} (e : z ≡ y) (called : PassCalled z a c before (pass_told x left) (assigned x) after left) (replied : r ≡ pass_reply x) where
-  pub pass-replied : r ≡ merge_reply (step y a c).0
-  pass-replied = replied ∙ pass_is x left called.called.answer called.counted ∙ ap (λ (w : Sizes). merge_reply (step w a c).0) e
+  pub pass_replied : r ≡ merge_reply (step y a c).0
+  pass_replied = replied ∙ pass_is x left called.called.answer called.counted ∙ ap (λ (w : Sizes). merge_reply (step w a c).0) e
 
-  pub pass-left : after ≡ (step y a c).1
-  pass-left = called.called.area ∙ ap (λ (w : Sizes). (step w a c).1) e
+  pub pass_left : after ≡ (step y a c).1
+  pass_left = called.called.area ∙ ap (λ (w : Sizes). (step w a c).1) e
 
-  pub pass-lists : left ≡ lists_after (step y a c).0 before
-  pass-lists = called.lists ∙ ap (λ (w : Sizes). lists_after (step w a c).0 before) e
+  pub pass_lists : left ≡ lists_after (step y a c).0 before
+  pass_lists = called.lists ∙ ap (λ (w : Sizes). lists_after (step w a c).0 before) e

@@ -9,7 +9,7 @@ use Rattle.move_ledger.specs.LoadLaws.{Loadable, refusal-none, refusal-marks}
 use Rattle.move_ledger.specs.NodeLaws.{placed-length, placed_at}
 use Rattle.move_area.specs.Area.{sets_in, decode}
 use Rattle.move_area.specs.Bodies.{atom_at}
-use Rattle.move_area.specs.Checked.{nodes_in, sets-length, ranged_placing, consistent-ranged, consistent-worked}
+use Rattle.move_area.specs.Checked.{nodes_in, sets-length, ranged_placing, consistent_ranged, consistent_worked}
 use Rattle.move_rows.specs.Later.{later, later-legal, later-consistent}
 use Rattle.move_free_walks.specs.HowFree.{is_rejected, is_fixed, pairs, Freedom, how_free}
 use Rattle.move_free_walks.specs.Sums.{free-sum}
@@ -18,9 +18,9 @@ use Rattle.plan_freedom.specs.Told.{Told, refused, counts, told}
 
 module _ (load : Load) (fixed : List ℕ) (N : ℕ) (area : List ℕ) where
   -- a row turns the call back
-  pub told-refused : {q : ℕ} → q ≡ later load fixed N area → (q ≡ 0 → ⊥) → refused q ≡ told load fixed N area
+  pub told_refused : {q : ℕ} → q ≡ later load fixed N area → (q ≡ 0 → ⊥) → refused q ≡ told load fixed N area
   unfolding told
-  told-refused e h =
+  told_refused e h =
       ap refused e ∙ sym (ap (λ t. cond t (counts (how_free load fixed (decode load N area).ledger.place)) (refused (later load fixed N area))) (ne_eqb (later load fixed N area) 0 (λ z. h (e ∙ z))))
 
   -- none does
@@ -31,31 +31,31 @@ module _ (load : Load) (fixed : List ℕ) (N : ℕ) (area : List ℕ) where
     room : atom_at N + load.A ≤ length area
     room = omega (arith, loads.sizes.area)
 
-    pub can-free : CanFree load fixed N area
-    can-free = record {
+    pub can_free : CanFree load fixed N area
+    can_free = record {
       loadable = loads;
-      ranged = consistent-ranged load N area loads.order loads.sizes.sets room (later-consistent load fixed N area none);
-      worked = consistent-worked load N area loads.order loads.sizes.sets room (later-consistent load fixed N area none);
+      ranged = consistent_ranged load N area loads.order loads.sizes.sets room (later-consistent load fixed N area none);
+      worked = consistent_worked load N area loads.order loads.sizes.sets room (later-consistent load fixed N area none);
       marks = refusal-marks load fixed N (length area) (later-legal load fixed N area none);
     }
 
-    told-on : counts (how_free load fixed (decode load N area).ledger.place) ≡ told load fixed N area
+    told_on : counts (how_free load fixed (decode load N area).ledger.place) ≡ told load fixed N area
     unfolding told
-    told-on = sym (ap (λ t. cond t (counts (how_free load fixed (decode load N area).ledger.place)) (refused (later load fixed N area))) (eq-eqb (later load fixed N area) 0 none))
+    told_on = sym (ap (λ t. cond t (counts (how_free load fixed (decode load N area).ledger.place)) (refused (later load fixed N area))) (eq-eqb (later load fixed N area) 0 none))
 
     pub told-counts : {acc rej fix : ℕ} → Freed load fixed (place_in load N area) acc rej fix → counts (record { accepted = acc; rejected = rej; fixed = fix }) ≡ told load fixed N area
     unfolding decode
-    told-counts {acc} {rej} {fix} v = rw (v.accepted, v.rejected, v.fixed) told-on
+    told-counts {acc} {rej} {fix} v = rw (v.accepted, v.rejected, v.fixed) told_on
 
     whole : pairs load fixed (decode load N area).ledger.place is_accepted + pairs load fixed (decode load N area).ledger.place is_rejected + pairs load fixed (decode load N area).ledger.place is_fixed
         ≡ load.A * (length (rising (decode load N area).ledger.place) - 1)
     unfolding decode
     whole =
-        let p = ranged_placing loads.sizes.sets can-free.ranged in
+        let p = ranged_placing loads.sizes.sets can_free.ranged in
         free-sum load fixed (place_in load N area) (placed-length (nodes_in load N area) (sets_in N area) ∙ p.atoms)
         (λ i b.
         subst (λ k. k < 2 ^ load.E) (sym (placed_at (nodes_in load N area) (sets_in N area) i (omega (arith, p.atoms))))
-        (can-free.ranged.range (at (nodes_in load N area) i) (omega (arith, p.inside i b, sets-length N area))))
+        (can_free.ranged.range (at (nodes_in load N area) i) (omega (arith, p.inside i b, sets-length N area))))
 
 -- "The three counts add up to atoms × (occupied sets - 1), or 0 without atoms"
 pub call-sum : (load : Load) (fixed : List ℕ) (N : ℕ) (area : List ℕ) (f : Freedom) → told load fixed N area ≡ counts f

@@ -5,7 +5,7 @@ use Rattle.std.proofs.Common.{◌∙◌, arith}
 use Rattle.std.proofs.Math.ListN.{length}
 use Rattle.move_ledger.specs.Graph.{Load}
 use Rattle.move_ledger.specs.Loading.{loading_row}
-use Rattle.move_ledger.specs.LoadLaws.{refusal-marks, loading-row-none, loading-row-later}
+use Rattle.move_ledger.specs.LoadLaws.{refusal-marks, loading_row-none, loading_row-later}
 use Rattle.move_area.specs.BodyLaws.{write_long}
 use Rattle.move_area.specs.Area.{bodies, encode}
 use Rattle.move_area.specs.Fixed.{flag}
@@ -14,17 +14,17 @@ use Rattle.move_fixed.specs.Flags.{atoms, CanKeep, flag-atoms}
 
 module _ (load : Load) (fixed : List ℕ) (n : ℕ) (sets area : List ℕ) where
   -- no row fits, and l holds the first state
-  pub can-flag : loading_row load fixed n sets (length area) ≡ 0 → (l : List ℕ) → l ≡ encode load n (first load n sets) area → CanKeep load.A n fixed l
+  pub can_flag : loading_row load fixed n sets (length area) ≡ 0 → (l : List ℕ) → l ≡ encode load n (first load n sets) area → CanKeep load.A n fixed l
   unfolding encode
-  can-flag none l e =
-      let z = (loading-row-none load fixed n sets (length area) none).loadable.sizes in
+  can_flag none l e =
+      let z = (loading_row-none load fixed n sets (length area) none).loadable.sizes in
       let long : length l ≡ length area = ap length e ∙ write_long n (bodies load n (first load n sets)) area in
       record {
         few = z.atoms;
-        marks = refusal-marks load fixed n (length area) (loading-row-later load fixed n sets (length area) none);
+        marks = refusal-marks load fixed n (length area) (loading_row-later load fixed n sets (length area) none);
         room = omega (arith, z.area);
       }
 
   -- with the flags it is what `new` leaves
-  pub flagged-area : {l l' : List ℕ} → l ≡ encode load n (first load n sets) area → l' ≡ flag (atoms load.A) fixed n l → l' ≡ flag load fixed n (encode load n (first load n sets) area)
-  flagged-area {l} e f = f ∙ flag-atoms load fixed n l ∙ ap (flag load fixed n) e
+  pub flagged_area : {l l' : List ℕ} → l ≡ encode load n (first load n sets) area → l' ≡ flag (atoms load.A) fixed n l → l' ≡ flag load fixed n (encode load n (first load n sets) area)
+  flagged_area {l} e f = f ∙ flag-atoms load fixed n l ∙ ap (flag load fixed n) e

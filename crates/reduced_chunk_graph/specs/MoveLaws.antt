@@ -17,7 +17,7 @@ use Rattle.move_ledger.specs.NodeLaws.{placed_at}
 use Rattle.move_area.specs.Bodies.{lane_at, atom_at}
 use Rattle.move_area.specs.Area.{State, encode, decode, sets_in}
 use Rattle.move_area.specs.Held.{consistent-whole}
-use Rattle.move_area.specs.Checked.{nodes_in, Ranged, consistent-ranged, ranged_placing, sets-at}
+use Rattle.move_area.specs.Checked.{nodes_in, Ranged, consistent_ranged, ranged_placing, sets-at}
 use Rattle.move_area.specs.Calls.{after}
 use Rattle.move_area.specs.Calls as calls
 use Rattle.move_rows.specs.Later.{later, turned-back, goes_on, later-legal, later-consistent}
@@ -31,22 +31,22 @@ refused_stays load fixed N st a s h = rw h refl
 
 module _ {load : Load} {fixed : List ℕ} {n : ℕ} {area : List ℕ} (can : CanGoOn load fixed n area) (atom : ℕ) (bits : List ℕ) where
   -- the rows
-  pub goes-ten : load.A ≤ atom → GoesOn load fixed n area atom bits (refused 10) area
+  pub goes_ten : load.A ≤ atom → GoesOn load fixed n area atom bits (refused 10) area
   unfolding move decide
-  goes-ten h = record { answer = rw (le-leb load.A atom h) refl; area_after = refl }
+  goes_ten h = record { answer = rw (le-leb load.A atom h) refl; area_after = refl }
 
-  pub goes-fixed : atom < load.A → (at fixed atom ≡ 0 → ⊥) → GoesOn load fixed n area atom bits (refused 24) area
+  pub goes_fixed : atom < load.A → (at fixed atom ≡ 0 → ⊥) → GoesOn load fixed n area atom bits (refused 24) area
   unfolding move decide
-  goes-fixed h f = record { answer = rw (lt-leb load.A atom h, ne_eqb (at fixed atom) 0 f) refl; area_after = refl }
+  goes_fixed h f = record { answer = rw (lt-leb load.A atom h, ne_eqb (at fixed atom) 0 f) refl; area_after = refl }
 
   module _ (h : atom < load.A) (free : at fixed atom ≡ 0) where
-    pub goes-eleven : legal load.E bits ≡ false → GoesOn load fixed n area atom bits (refused 11) area
+    pub goes_eleven : legal load.E bits ≡ false → GoesOn load fixed n area atom bits (refused 11) area
     unfolding move decide
-    goes-eleven q = record { answer = rw (lt-leb load.A atom h, free, q) refl; area_after = refl }
+    goes_eleven q = record { answer = rw (lt-leb load.A atom h, free, q) refl; area_after = refl }
 
-    pub goes-twelve : legal load.E bits ≡ true → eqb (value bits) (at (decode load n area).ledger.place atom) ≡ true → GoesOn load fixed n area atom bits (refused 12) area
+    pub goes_twelve : legal load.E bits ≡ true → eqb (value bits) (at (decode load n area).ledger.place atom) ≡ true → GoesOn load fixed n area atom bits (refused 12) area
     unfolding move decide
-    goes-twelve q e = record { answer = rw (lt-leb load.A atom h, free, q, e) refl; area_after = refl }
+    goes_twelve q e = record { answer = rw (lt-leb load.A atom h, free, q, e) refl; area_after = refl }
 
   -- and the move
   pub goes-tried : (T : ℕ) (r : Answer) (l : List ℕ) → at fixed atom ≡ 0 → value bits ≡ T → legal load.E bits ≡ true → Answers load n area atom T r l → GoesOn load fixed n area atom bits r l
@@ -61,31 +61,31 @@ module _ {load : Load} {fixed : List ℕ} {n : ℕ} {area : List ℕ} (can : Can
       go false b x y = y
 
   -- the atom's node and its set
-  pub go-ranged : Ranged load n area
-  go-ranged = let z = can.loadable.sizes in consistent-ranged load n area can.loadable.order z.sets (omega (arith, z.area)) can.sane
+  pub go_ranged : Ranged load n area
+  go_ranged = let z = can.loadable.sizes in consistent_ranged load n area can.loadable.order z.sets (omega (arith, z.area)) can.sane
 
-  pub go-node : atom < load.A → get_or area (n * n + 24 + 24 * n + atom) 0 < n
-  go-node h = omega (arith, go-ranged.nodes atom h, go-ranged.few)
+  pub go_node : atom < load.A → get_or area (n * n + 24 + 24 * n + atom) 0 < n
+  go_node h = omega (arith, go_ranged.nodes atom h, go_ranged.few)
 
-  pub go-set : atom < load.A → (x : ℕ) → x ≡ get_or area (n * n + 24 + 24 * n + atom) 0 → lanes area (n * n + 24 + x) n ≡ at (decode load n area).ledger.place atom
+  pub go_set : atom < load.A → (x : ℕ) → x ≡ get_or area (n * n + 24 + 24 * n + atom) 0 → lanes area (n * n + 24 + x) n ≡ at (decode load n area).ledger.place atom
   unfolding decode
-  go-set h x e =
-      let p = ranged_placing can.loadable.sizes.sets go-ranged in
+  go_set h x e =
+      let p = ranged_placing can.loadable.sizes.sets go_ranged in
       let i : n * n + 24 + x ≡ lane_at n 0 + x = omega arith in
       ap (λ k. lanes area k n) i
-      ∙ sym (sets-at n area x (omega (arith, go-ranged.nodes atom h)))
+      ∙ sym (sets-at n area x (omega (arith, go_ranged.nodes atom h)))
       ∙ ap (at (sets_in n area)) (e ∙ sym (part_at (atom_at n) load.A area atom h))
       ∙ sym (placed_at (nodes_in load n area) (sets_in n area) atom (omega (arith, p.atoms)))
 
 -- the whole call
 module _ (load : Load) (fixed : List ℕ) (n : ℕ) (area : List ℕ) (atom : ℕ) (bits : List ℕ) where
-  pub call-refused : (q : ℕ) → q ≡ later load fixed n area → (q ≡ 0 → ⊥) → (refused q ≡ (calls.try_move load fixed n area atom bits).answer) × (area ≡ (calls.try_move load fixed n area atom bits).area)
+  pub call_refused : (q : ℕ) → q ≡ later load fixed n area → (q ≡ 0 → ⊥) → (refused q ≡ (calls.try_move load fixed n area atom bits).answer) × (area ≡ (calls.try_move load fixed n area atom bits).area)
   unfolding calls.try_move
-  call-refused q e h = rw (turned-back load fixed n area (λ z. h (e ∙ z)) (move load fixed n (decode load n area).ledger atom bits).answer) (ap refused e, refl)
+  call_refused q e h = rw (turned-back load fixed n area (λ z. h (e ∙ z)) (move load fixed n (decode load n area).ledger atom bits).answer) (ap refused e, refl)
 
   module _ {q : ℕ} (e : q ≡ later load fixed n area) (z : q ≡ 0) where
-    pub call-on : CanGoOn load fixed n area
-    call-on =
+    pub call_on : CanGoOn load fixed n area
+    call_on =
         let legal = later-legal load fixed n area (sym e ∙ z) in
         record {
           loadable = refusal-none load fixed n (length area) legal;
@@ -102,17 +102,17 @@ module _ (load : Load) (fixed : List ℕ) (n : ℕ) (area : List ℕ) (atom : �
 -- rows 12 and what the move asks, with the present set and the target by value
 module _ {load : Load} {fixed : List ℕ} {n : ℕ} {area : List ℕ} (can : CanGoOn load fixed n area) (atom : ℕ) (bits : List ℕ) (here : atom < load.A) (free : at fixed atom ≡ 0) (ok : legal load.E bits ≡ true)
     (present target x : ℕ) (node : x ≡ get_or area (n * n + 24 + 24 * n + atom) 0) (there : present ≡ lanes area (n * n + 24 + x) n) (is : target ≡ value bits) where
-  pub twelve-fits : eqb present target ≡ true → GoesOn load fixed n area atom bits (refused 12) area
-  twelve-fits h = goes-twelve can atom bits here free ok (eq-eqb _ _ (sym is ∙ sym (eqb-true _ _ h) ∙ there ∙ go-set can atom bits here x node))
+  pub twelve_fits : eqb present target ≡ true → GoesOn load fixed n area atom bits (refused 12) area
+  twelve_fits h = goes_twelve can atom bits here free ok (eq-eqb _ _ (sym is ∙ sym (eqb-true _ _ h) ∙ there ∙ go_set can atom bits here x node))
 
-  pub can-try : eqb present target ≡ false → CanTry load n area atom target
-  can-try h =
+  pub can_try : eqb present target ≡ false → CanTry load n area atom target
+  can_try h =
       record {
         loadable = can.loadable;
         sane = can.sane;
         there = here;
         range = rw is (legal-below load.E bits ok);
-        other = ne_eqb _ _ (λ e. eqb-false _ _ h (there ∙ go-set can atom bits here x node ∙ sym e));
+        other = ne_eqb _ _ (λ e. eqb-false _ _ h (there ∙ go_set can atom bits here x node ∙ sym e));
       }
 
   pub tried-goes : (r : Answer) (l : List ℕ) → Answers load n area atom target r l → GoesOn load fixed n area atom bits r l

@@ -21,10 +21,10 @@ use Rattle.move_rows.specs.Later.{turned-back, goes_on}
 use Rattle.move_rows.specs.Listed.{RowTold}
 use Rattle.move_order.specs.Order.{start_order, names, told, started}
 use Rattle.start_order.specs.Turns.{Setting, whole}
-use Rattle.start_order.specs.Nodes.{setting, fits, row, turn-none, order-of, placing, long, few, atoms, cell-edge}
+use Rattle.start_order.specs.Nodes.{setting, fits, row, turn-none, order_of, placing, long, few, atoms, cell-edge}
 use Rattle.start_order.specs.Marked.{Marked}
 use Rattle.start_order.specs.Walked.{CanMark}
-use Rattle.start_order.specs.Lowest.{node_at, CanLower, Lowest, names-low}
+use Rattle.start_order.specs.Lowest.{atom_node, CanLower, Lowest, names_low}
 use Rattle.start_order.specs.Steps.{CanList, Told}
 
 -- the first n numbers are cleared
@@ -51,22 +51,22 @@ module _ {load : Load} {n : ℕ} {area : List ℕ} {r b : ℕ} {order degrees ch
   checked : Checked load n area r
   checked = can.listable.checked
 
-  pub fetch-clear : n ≤ length marks
-  fetch-clear = omega (arith, checked.loadable.sizes.sets, lists.marks_long)
+  pub fetch_clear : n ≤ length marks
+  fetch_clear = omega (arith, checked.loadable.sizes.sets, lists.marks_long)
 
-  pub fetch-mark : {blank : List ℕ} → length blank ≡ length marks → ((x : ℕ) → x < n → at blank x ≡ 0) → CanMark load n area r b blank
-  fetch-mark e z = record { checked = checked; bit = can.bit; long = omega (arith, fetch-clear); clear = z }
+  pub fetch_mark : {blank : List ℕ} → length blank ≡ length marks → ((x : ℕ) → x < n → at blank x ≡ 0) → CanMark load n area r b blank
+  fetch_mark e z = record { checked = checked; bit = can.bit; long = omega (arith, fetch_clear); clear = z }
 
-  pub fetch-low : CanLower area load.A n low
-  fetch-low = record {
+  pub fetch_low : CanLower area load.A n low
+  fetch_low = record {
     few = checked.loadable.sizes.atoms;
     room = omega (arith, checked.loadable.sizes.area);
     node = λ i l. omega (arith, checked.ranged.nodes i l, checked.ranged.few, checked.loadable.sizes.sets, lists.lows);
   }
 
-  module _ {marks' low' : List ℕ} (m : Marked load n area r b marks') (ml : length marks' ≡ length marks) (v : Lowest (node_at area n) 0 load.A low') (ll : length low' ≡ length low) where
-    fetch-list : CanList (setting load n area b) area n r load.A order low' marks' degrees chunks
-    fetch-list = record {
+  module _ {marks' low' : List ℕ} (m : Marked load n area r b marks') (ml : length marks' ≡ length marks) (v : Lowest (atom_node area n) 0 load.A low') (ll : length low' ≡ length low) where
+    fetch_list : CanList (setting load n area b) area n r load.A order low' marks' degrees chunks
+    fetch_list = record {
       fits = fits checked b;
       row = row can.listable b;
       square = omega (arith, checked.loadable.sizes.area);
@@ -75,29 +75,29 @@ module _ {load : Load} {n : ℕ} {area : List ℕ} {r b : ℕ} {order degrees ch
       cell = cell-edge checked;
       orders = can.listable.order_long;
       lows = omega (arith, few checked, checked.loadable.sizes.sets, lists.lows);
-      marks_long = omega (arith, few checked, fetch-clear);
+      marks_long = omega (arith, few checked, fetch_clear);
       degrees_long = omega (arith, few checked, can.listable.degrees_long);
       room = can.room;
       first = turn-none can.listable b m.mark_at;
     }
 
-    pub fetch-list-some : (s : Setting) × CanList s area n r load.A order low' marks' degrees chunks
-    fetch-list-some = (setting load n area b, fetch-list)
+    pub fetch_list_some : (s : Setting) × CanList s area n r load.A order low' marks' degrees chunks
+    fetch_list_some = (setting load n area b, fetch_list)
 
-    fetch-done : {chunks' : List ℕ} {k : ℕ} → Told (setting load n area b) r load.A low' chunks chunks' k → Fetched load n area b chunks chunks' k
+    fetch_done : {chunks' : List ℕ} {k : ℕ} → Told (setting load n area b) r load.A low' chunks chunks' k → Fetched load n area b chunks chunks' k
     unfolding start_order
-    fetch-done {chunks'} {k} t =
+    fetch_done {chunks'} {k} t =
         let s : start_order load (place_in load n area) b ≡ map (at (sets_in n area)) t.listed
         = ap (whole (setting load n area b)) (atoms checked) ∙ t.all in
-        let e = names-low checked v b t.listed s t.inside t.wanted in
+        let e = names_low checked v b t.listed s t.inside t.wanted in
         record {
           many = t.many ∙ sym (length-map t.listed (at low')) ∙ ap length (sym e);
           named = t.named ∙ ap (λ u. patch 0 u chunks) (sym e);
         }
 
-    pub fetch-told : {chunks' : List ℕ} {k : ℕ} → ((s : Setting) → CanList s area n r load.A order low' marks' degrees chunks → Told s r load.A low' chunks chunks' k)
+    pub fetch_told : {chunks' : List ℕ} {k : ℕ} → ((s : Setting) → CanList s area n r load.A order low' marks' degrees chunks → Told s r load.A low' chunks chunks' k)
         → Fetched load n area b chunks chunks' k
-    fetch-told f = fetch-done (f (setting load n area b) fetch-list)
+    fetch_told f = fetch_done (f (setting load n area b) fetch_list)
 
 -- no earlier row fits
 pub record CanGoOn (load : Load) (n : ℕ) (area order degrees : List ℕ) : Type 0 where
@@ -109,20 +109,20 @@ pub record GoesOn (load : Load) (n : ℕ) (area : List ℕ) (b : ℕ) (chunks : 
   pub list : chunks' ≡ cond (is_refused x) chunks (patch 0 (names load (place_in load n area) b) chunks)
 
 module _ {load : Load} {n : ℕ} {area order degrees : List ℕ} (can : CanGoOn load n area order degrees) (b : ℕ) (chunks : List ℕ) where
-  pub go-bit : load.E ≤ b → GoesOn load n area b chunks (refused 26) chunks
+  pub go_bit : load.E ≤ b → GoesOn load n area b chunks (refused 26) chunks
   unfolding told
-  go-bit h = record { answer = rw (le-leb load.E b h) refl; list = refl }
+  go_bit h = record { answer = rw (le-leb load.E b h) refl; list = refl }
 
   flag : get_or area (n * n + 2) 0 ≡ ind (not (cyclic (edge load (place_in load n area)) (place_in load n area)))
   unfolding decode
   flag =
       let h = can.listable.checked in
-      h.worked.acyclic ∙ ap (λ t. ind (not t)) (cyclic-nodes (order-of h) (placing h) n (omega (arith, long h, few h)))
+      h.worked.acyclic ∙ ap (λ t. ind (not t)) (cyclic-nodes (order_of h) (placing h) n (omega (arith, long h, few h)))
 
   module _ (low : b < load.E) where
-    pub go-cyclic : get_or area (n * n + 2) 0 ≡ 0 → GoesOn load n area b chunks (refused 26) chunks
+    pub go_cyclic : get_or area (n * n + 2) 0 ≡ 0 → GoesOn load n area b chunks (refused 26) chunks
     unfolding told
-    go-cyclic z = record { answer = rw (lt-leb load.E b low, yes (cyclic (edge load (place_in load n area)) (place_in load n area)) (sym flag ∙ z)) refl; list = refl }
+    go_cyclic z = record { answer = rw (lt-leb load.E b low, yes (cyclic (edge load (place_in load n area)) (place_in load n area)) (sym flag ∙ z)) refl; list = refl }
       where
         yes : (t : Bool) → ind (not t) ≡ 0 → t ≡ true
         yes true e = refl
@@ -136,17 +136,17 @@ module _ {load : Load} {n : ℕ} {area order degrees : List ℕ} (can : CanGoOn 
           no true f = absurd (f refl)
           no false f = refl
 
-      pub go-short : length chunks < load.A → GoesOn load n area b chunks (refused 27) chunks
+      pub go_short : length chunks < load.A → GoesOn load n area b chunks (refused 27) chunks
       unfolding told
-      go-short s = record { answer = rw (lt-leb load.E b low, free, lt-ltb (length chunks) load.A s) refl; list = refl }
+      go_short s = record { answer = rw (lt-leb load.E b low, free, lt-ltb (length chunks) load.A s) refl; list = refl }
 
       module _ (s : load.A ≤ length chunks) where
-        pub go-fetch : {r : ℕ} → r ≡ get_or area (n * n) 0 → CanFetch load n area r b order degrees chunks
-        go-fetch e = record { listable = rw e can.listable; bit = omega (arith, can.listable.checked.loadable.sizes.bits); room = s }
+        pub go_fetch : {r : ℕ} → r ≡ get_or area (n * n) 0 → CanFetch load n area r b order degrees chunks
+        go_fetch e = record { listable = rw e can.listable; bit = omega (arith, can.listable.checked.loadable.sizes.bits); room = s }
 
-        pub go-told : {chunks' : List ℕ} {k j : ℕ} → Fetched load n area b chunks chunks' k → j ≡ k → GoesOn load n area b chunks (answer.number j) chunks'
+        pub go_told : {chunks' : List ℕ} {k j : ℕ} → Fetched load n area b chunks chunks' k → j ≡ k → GoesOn load n area b chunks (answer.number j) chunks'
         unfolding told
-        go-told f e = record {
+        go_told f e = record {
           answer = rw (lt-leb load.E b low, free, le-ltb (length chunks) load.A s) (ap answer.number (e ∙ f.many));
           list = f.named;
         }
@@ -156,9 +156,9 @@ pub call_on : {load : Load} {fixed : List ℕ} {n : ℕ} {area order degrees : L
 call_on t z = record { listable = t.listable z }
 
 module _ (load : Load) (fixed : List ℕ) (n : ℕ) (area : List ℕ) (b : ℕ) (chunks : List ℕ) {order degrees : List ℕ} {q : ℕ} (t : RowTold load fixed n area degrees order q) where
-  pub call-refused : (q ≡ 0 → ⊥) → (refused q ≡ (started load fixed n area b chunks).answer) × (chunks ≡ (started load fixed n area b chunks).chunks)
+  pub call_refused : (q ≡ 0 → ⊥) → (refused q ≡ (started load fixed n area b chunks).answer) × (chunks ≡ (started load fixed n area b chunks).chunks)
   unfolding started
-  call-refused h = rw (turned-back load fixed n area (λ z. h (t.row ∙ z)) (told load (place_in load n area) b chunks)) (ap refused t.row, refl)
+  call_refused h = rw (turned-back load fixed n area (λ z. h (t.row ∙ z)) (told load (place_in load n area) b chunks)) (ap refused t.row, refl)
 
   module _ (z : q ≡ 0) where
     pub call-answer : {x : Answer} {chunks' : List ℕ} → GoesOn load n area b chunks x chunks'

@@ -15,16 +15,16 @@ use Rattle.move_questions.specs.Answers.{place_in, Checked}
 use Rattle.move_order.specs.Order.{wanted, start_order, names}
 use Rattle.move_order.specs.Names.{index_is}
 use Rattle.move_order.specs.Wanted.{wanted-inside}
-use Rattle.start_order.specs.Nodes.{long, placing, atoms, place_at, chunk-node}
+use Rattle.start_order.specs.Nodes.{long, placing, atoms, place_at, chunk_node}
 
 -- the node of atom i
-abbrev pub node_at : List ℕ → ℕ → ℕ → ℕ
-node_at area n i = get_or area (n * n + 24 + 24 * n + i) 0
+abbrev pub atom_node : List ℕ → ℕ → ℕ → ℕ
+atom_node area n i = get_or area (n * n + 24 + 24 * n + i) 0
 
 pub record CanLower (area : List ℕ) (a n : ℕ) (low : List ℕ) : Type 0 where
   pub few : a ≤ 512
   pub room : n * n + 24 + 24 * n + a ≤ length area
-  pub node : (i : ℕ) → i < a → node_at area n i < length low
+  pub node : (i : ℕ) → i < a → atom_node area n i < length low
 
 -- for each atom from k on, its node's number is the lowest such atom of the node
 pub record Lowest (node : ℕ → ℕ) (k a : ℕ) (low : List ℕ) : Type 0 where
@@ -60,32 +60,32 @@ map-map : (f g : ℕ → ℕ) (l : List ℕ) → map f (map g l) ≡ map (λ x. 
 map-map f g [] = refl
 map-map f g (x ∷ l) = ap (λ m. f (g x) ∷ m) (map-map f g l)
 
-module _ {load : Load} {n : ℕ} {area : List ℕ} {r : ℕ} (h : Checked load n area r) {low : List ℕ} (v : Lowest (node_at area n) 0 load.A low) where
-  node-is : (i : ℕ) → i < load.A → at (nodes_in load n area) i ≡ node_at area n i
-  node-is i b = part_at (atom_at n) load.A area i b
+module _ {load : Load} {n : ℕ} {area : List ℕ} {r : ℕ} (h : Checked load n area r) {low : List ℕ} (v : Lowest (atom_node area n) 0 load.A low) where
+  node_is : (i : ℕ) → i < load.A → at (nodes_in load n area) i ≡ atom_node area n i
+  node_is i b = part_at (atom_at n) load.A area i b
 
   -- it is the place of the node's set in the placement
-  low-index : (i : ℕ) → i < load.A → at low (node_at area n i) ≡ index (at (sets_in n area) (node_at area n i)) (place_in load n area)
-  low-index i b =
-      let x : ℕ = node_at area n i in
+  low_index : (i : ℕ) → i < load.A → at low (atom_node area n i) ≡ index (at (sets_in n area) (atom_node area n i)) (place_in load n area)
+  low_index i b =
+      let x : ℕ = atom_node area n i in
       let l : at low x < load.A = omega (arith, v.most i (omega arith) b) in
       sym (index_is (at (sets_in n area) x) (place_in load n area) (at low x) (omega (arith, atoms h))
-      (place_at h (at low x) l ∙ ap (at (sets_in n area)) (node-is (at low x) l ∙ v.same i (omega arith) b))
+      (place_at h (at low x) l ∙ ap (at (sets_in n area)) (node_is (at low x) l ∙ v.same i (omega arith) b))
       (λ j c e.
       let d : j < load.A = omega arith in
-      let q : node_at area n j ≡ x
-      = sym (node-is j d) ∙ (placing h).distinct _ _ ((placing h).inside j d) (rw (← node-is i b) ((placing h).inside i b)) (sym (place_at h j d) ∙ e) in
+      let q : atom_node area n j ≡ x
+      = sym (node_is j d) ∙ (placing h).distinct _ _ ((placing h).inside j d) (rw (← node_is i b) ((placing h).inside i b)) (sym (place_at h j d) ∙ e) in
       omega (arith, v.most j (omega arith) d, ap (at low) q)))
 
   -- so the names of the chunks are the numbers of their nodes
-  pub names-low : (b : ℕ) (listed : List ℕ) → start_order load (place_in load n area) b ≡ map (at (sets_in n area)) listed
+  pub names_low : (b : ℕ) (listed : List ℕ) → start_order load (place_in load n area) b ≡ map (at (sets_in n area)) listed
       → ((x : ℕ) → has x listed ≡ true → x < r) → ((x : ℕ) → has x listed ≡ true → wanted load (place_in load n area) b (at (sets_in n area) x) ≡ true)
       → names load (place_in load n area) b ≡ map (at low) listed
   unfolding names
-  names-low b listed e inside w =
+  names_low b listed e inside w =
       ap (map (λ X. index X (place_in load n area))) e ∙ map-map (λ X. index X (place_in load n area)) (at (sets_in n area)) listed
       ∙ map_same _ (at low) listed (λ x m.
-      let q = chunk-node h (at (sets_in n area) x) (wanted-inside load (place_in load n area) b _ (w x m)) in
+      let q = chunk_node h (at (sets_in n area) x) (wanted-inside load (place_in load n area) b _ (w x m)) in
       let z : at (nodes_in load n area) q.0 ≡ x = (placing h).distinct _ x (omega (arith, q.2, long h)) (omega (arith, inside x m, long h)) q.3 in
-      let y : node_at area n q.0 ≡ x = sym (node-is q.0 q.1) ∙ z in
-      sym (ap (at low) (sym y) ∙ low-index q.0 q.1 ∙ ap (λ k. index (at (sets_in n area) k) (place_in load n area)) y))
+      let y : atom_node area n q.0 ≡ x = sym (node_is q.0 q.1) ∙ z in
+      sym (ap (at low) (sym y) ∙ low_index q.0 q.1 ∙ ap (λ k. index (at (sets_in n area) k) (place_in load n area)) y))

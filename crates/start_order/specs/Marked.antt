@@ -16,7 +16,7 @@ use Rattle.move_area.specs.Checked.{nodes_in}
 use Rattle.move_questions.specs.Answers.{place_in, Checked}
 use Rattle.move_order.specs.Order.{holds, wanted}
 use Rattle.move_order.specs.Wanted.{wanted-first, wanted-next, wanted-all}
-use Rattle.start_order.specs.Nodes.{placing, long, few, atoms, chunk-node, same-edge, edge-ends}
+use Rattle.start_order.specs.Nodes.{placing, long, few, atoms, chunk_node, same-edge, edge-ends}
 use Rattle.start_order.specs.Roots.{Roots}
 
 -- a node below r is marked 1 where its set is wanted, else 0
@@ -41,43 +41,43 @@ module _ {load : Load} {n : ℕ} {area : List ℕ} {r b : ℕ} {p : ℕ → Bool
   abbrev none : ℕ → Bool
   none x = false
 
-  edge-is : (x y : ℕ) → edge heads list n x y ≡ node_edge load (nodes_in load n area) (sets_in n area) x y
-  edge-is x y = ap (λ (e : ℕ → ℕ → Bool). e x y) same
+  edge_is : (x y : ℕ) → edge heads list n x y ≡ node_edge load (nodes_in load n area) (sets_in n area) x y
+  edge_is x y = ap (λ (e : ℕ → ℕ → Bool). e x y) same
 
-  root-may : (x : ℕ) → x < r → p x ≡ true → may x ≡ true
-  root-may x c q = let w = picks.chunk x c q in and_both (ltb x r) _ (lt-ltb x r c) (wanted-first load (place_in load n area) b _ w.0 w.1)
+  root_may : (x : ℕ) → x < r → p x ≡ true → may x ≡ true
+  root_may x c q = let w = picks.chunk x c q in and_both (ltb x r) _ (lt-ltb x r c) (wanted-first load (place_in load n area) b _ w.0 w.1)
 
   hands : HandsOn (edge heads list n) none may
   hands x y m e _ =
-      let i = sym (edge-is x y) ∙ e in
+      let i = sym (edge_is x y) ∙ e in
       let q = edge-ends h x y i in
       and_both (ltb y r) _ (lt-ltb y r q.1)
       (wanted-next load (place_in load n area) b (atoms h) _ _ (and_right (ltb x r) _ m) (same-edge h x y q.0 q.1 ∙ i))
 
-  met-one : (l : List ℕ) (x : ℕ) → 1 ≤ at l x → met 1 l x ≡ 1
-  met-one l x q = ap (λ t. ind (not t)) (le-ltb (at l x) 1 q)
+  met_one : (l : List ℕ) (x : ℕ) → 1 ≤ at l x → met 1 l x ≡ 1
+  met_one l x q = ap (λ t. ind (not t)) (le-ltb (at l x) 1 q)
 
-  one-met : (l : List ℕ) (x : ℕ) → met 1 l x ≡ 1 → 1 ≤ at l x
-  one-met l x q = elim (dec_lt (at l x) 1) [ yes c ↦ absurd (omega (arith, ap (λ t. ind (not t)) (lt-ltb (at l x) 1 c))) | no c ↦ omega arith ]
+  one_met : (l : List ℕ) (x : ℕ) → met 1 l x ≡ 1 → 1 ≤ at l x
+  one_met l x q = elim (dec_lt (at l x) 1) [ yes c ↦ absurd (omega (arith, ap (λ t. ind (not t)) (lt-ltb (at l x) 1 c))) | no c ↦ omega arith ]
 
   -- a marked node is a root
   root : (x : ℕ) → x < n → met 1 marks x ≡ 1 → (x < r) × (p x ≡ true)
   root x c q = elim (dec_lt x r) [
     | yes l ↦ (l, yes? (p x) (roots.marked x l))
-    | no l ↦ absurd (omega (arith, one-met marks x q, roots.beyond x (omega arith) c))
+    | no l ↦ absurd (omega (arith, one_met marks x q, roots.beyond x (omega arith) c))
   ]
     where
       yes? : (t : Bool) → at marks x ≡ ind t → t ≡ true
       yes? true e = refl
-      yes? false e = absurd (omega (arith, one-met marks x q))
+      yes? false e = absurd (omega (arith, one_met marks x q))
 
   begun : Spread n (deg heads) (nb heads list) every none may (met 1 marks) (stk stack) height n 0
   begun = record {
     node = λ j c. roots.ready.node j c;
-    met = λ j c. let q = roots.of_stack j c in met-one marks (at stack j) (omega (arith, roots.marked (at stack j) q.0 ∙ ap ind q.1));
-    live = λ j c. let q = roots.of_stack j c in root-may (at stack j) q.0 q.1;
+    met = λ j c. let q = roots.of_stack j c in met_one marks (at stack j) (omega (arith, roots.marked (at stack j) q.0 ∙ ap ind q.1));
+    live = λ j c. let q = roots.of_stack j c in root_may (at stack j) q.0 q.1;
     old = λ x c e. absurd (true≢false (sym e));
-    from = λ x c m o. let q = root x c m in root-may x q.0 q.1;
+    from = λ x c m o. let q = root x c m in root_may x q.0 q.1;
     part = λ i c. absurd (omega arith);
     shut = λ x c m o. let q = root x c m in inl (roots.on_stack x q.0 q.1);
   }
@@ -87,7 +87,7 @@ module _ {load : Load} {n : ℕ} {area : List ℕ} {r b : ℕ} {p : ℕ → Bool
 
   -- what is marked stays marked, and marks are 0 or 1
   stays : (x : ℕ) → met 1 marks x ≡ 1 → met 1 marks' x ≡ 1
-  stays x q = let c = one-met marks x q in met-one marks' x (omega (arith, done.kept.stay x c))
+  stays x q = let c = one_met marks x q in met_one marks' x (omega (arith, done.kept.stay x c))
 
   step-out : (x y : ℕ) → x < n → met 1 marks' x ≡ 1 → edge heads list n x y ≡ true → met 1 marks' y ≡ 1
   step-out x y c m e =
@@ -101,20 +101,20 @@ module _ {load : Load} {n : ℕ} {area : List ℕ} {r b : ℕ} {p : ℕ → Bool
     where
       first : (X : ℕ) → has X (place_in load n area) ≡ true → holds b X ≡ true → (x : ℕ) × (x < r) × (at (sets_in n area) x ≡ X) × (met 1 marks' x ≡ 1)
       first X m q =
-          let w = chunk-node h X m in
+          let w = chunk_node h X m in
           let x : ℕ = at (nodes_in load n area) w.0 in
           let t = picks.taken w.0 w.1 (ap (holds b) w.3 ∙ q) in
-          (x, w.2, w.3, stays x (met-one marks x (omega (arith, roots.marked x w.2 ∙ ap ind t))))
+          (x, w.2, w.3, stays x (met_one marks x (omega (arith, roots.marked x w.2 ∙ ap ind t))))
 
       next : (X Y : ℕ) → (x : ℕ) × (x < r) × (at (sets_in n area) x ≡ X) × (met 1 marks' x ≡ 1) → graph.edge load (place_in load n area) X Y ≡ true
           → (x : ℕ) × (x < r) × (at (sets_in n area) x ≡ Y) × (met 1 marks' x ≡ 1)
       next X Y w e =
-          let v = chunk-node h Y (edge-target load (place_in load n area) (atoms h) X Y e) in
+          let v = chunk_node h Y (edge-target load (place_in load n area) (atoms h) X Y e) in
           let y : ℕ = at (nodes_in load n area) v.0 in
           let i : node_edge load (nodes_in load n area) (sets_in n area) w.0 y ≡ true
           = sym (same-edge h w.0 y w.1 v.2) ∙ ap (λ Z. graph.edge load (place_in load n area) Z (at (sets_in n area) y)) w.2
           ∙ ap (graph.edge load (place_in load n area) X) v.3 ∙ e in
-          (y, v.2, v.3, step-out w.0 y (omega (arith, w.1, few h)) w.3 (edge-is w.0 y ∙ i))
+          (y, v.2, v.3, step-out w.0 y (omega (arith, w.1, few h)) w.3 (edge_is w.0 y ∙ i))
 
   pub all-marked : Marked load n area r b marks'
   all-marked = record { mark_at = λ x c. go x c (want x) refl }
@@ -130,8 +130,8 @@ module _ {load : Load} {n : ℕ} {area : List ℕ} {r b : ℕ} {p : ℕ → Bool
       go x c true q =
           let w = reached (at (sets_in n area) x) q in
           let e : w.0 ≡ x = (placing h).distinct w.0 x (omega (arith, w.1, long h)) (omega (arith, long h)) w.2 in
-          small x c (one-met marks' x (subst (λ z. met 1 marks' z ≡ 1) e w.3))
+          small x c (one_met marks' x (subst (λ z. met 1 marks' z ≡ 1) e w.3))
       go x c false q = elim (dec_lt (at marks' x) 1) [
         | yes l ↦ omega arith
-        | no l ↦ absurd (true≢false (sym (and_right (ltb x r) _ (ended.from x (omega (arith, few h)) (met-one marks' x (omega arith)) refl)) ∙ q))
+        | no l ↦ absurd (true≢false (sym (and_right (ltb x r) _ (ended.from x (omega (arith, few h)) (met_one marks' x (omega arith)) refl)) ∙ q))
       ]

@@ -9,7 +9,7 @@ use Rattle.graphs.specs.Slots.{slot_edge}
 use Rattle.graphs.specs.SlotLaws.{flat-mult}
 use Rattle.graphs.specs.Square.{index_lt}
 use Rattle.entry_set.specs.Lanes.{lanes}
-use Rattle.set_order.specs.Order.{lane_set, order-inside, order-place}
+use Rattle.set_order.specs.Order.{lane_set, order_inside, order_place}
 use Rattle.move_ledger.specs.Graph.{Load, at, edge, rising}
 use Rattle.move_ledger.specs.GraphLaws.{edge-target}
 use Rattle.move_ledger.specs.Listing.{rising-rising, has-rising}
@@ -40,8 +40,8 @@ above_none zero = refl
 above_none (suc a) = ap not (ne_eqb (suc a) 0 (λ e. omega arith)) ∙ sym (lt-ltb 0 (suc a) (omega arith))
 
 module _ {load : Load} {n : ℕ} {area : List ℕ} {r : ℕ} (h : Checked load n area r) where
-  pub order-of : InOrder load
-  order-of = h.loadable.order
+  pub order_of : InOrder load
+  order_of = h.loadable.order
 
   pub placing : Placing load (nodes_in load n area) (sets_in n area)
   placing = ranged_placing h.loadable.sizes.sets h.ranged
@@ -67,8 +67,8 @@ module _ {load : Load} {n : ℕ} {area : List ℕ} {r : ℕ} (h : Checked load n
       ap (λ i. lanes area i n) e ∙ sym (sets-at n area x (omega (arith, sets-length n area, long)))
 
   -- a chunk is the set of an atom's node
-  pub chunk-node : (X : ℕ) → has X (place_in load n area) ≡ true → (i : ℕ) × (i < load.A) × (at (nodes_in load n area) i < r) × (at (sets_in n area) (at (nodes_in load n area) i) ≡ X)
-  chunk-node X m =
+  pub chunk_node : (X : ℕ) → has X (place_in load n area) ≡ true → (i : ℕ) × (i < load.A) × (at (nodes_in load n area) i < r) × (at (sets_in n area) (at (nodes_in load n area) i) ≡ X)
+  chunk_node X m =
       let q = has-place X (place_in load n area) m in
       let b : q.0 < load.A = omega (arith, q.1, atoms) in
       (q.0, b, omega (arith, placing.inside q.0 b, long), sym (place_at q.0 b) ∙ q.2)
@@ -76,22 +76,22 @@ module _ {load : Load} {n : ℕ} {area : List ℕ} {r : ℕ} (h : Checked load n
   -- the edges between nodes are those between their sets
   pub same-edge : (x y : ℕ) → x < r → y < r → edge load (place_in load n area) (at (sets_in n area) x) (at (sets_in n area) y) ≡ node_edge load (nodes_in load n area) (sets_in n area) x y
   unfolding decode edge slot_edge
-  same-edge x y a b = ap (ltb 0) (sym (mult-nodes order-of placing x y (omega (arith, long)) (omega (arith, long))))
+  same-edge x y a b = ap (ltb 0) (sym (mult-nodes order_of placing x y (omega (arith, long)) (omega (arith, long))))
 
   pub edge-ends : (x y : ℕ) → node_edge load (nodes_in load n area) (sets_in n area) x y ≡ true → (x < r) × (y < r)
-  edge-ends x y e = let q = edge-inside order-of placing x y e in (omega (arith, q.0, long), omega (arith, q.1, long))
+  edge-ends x y e = let q = edge-inside order_of placing x y e in (omega (arith, q.0, long), omega (arith, q.1, long))
 
   -- a cell of the matrix isn't 0 where there is an edge
   pub cell-edge : (x y : ℕ) → x < n → y < n → not (eqb (get_or area (x * n + y) 0) 0) ≡ node_edge load (nodes_in load n area) (sets_in n area) x y
   unfolding slot_edge
   cell-edge x y a b =
       above_none (get_or area (x * n + y) 0)
-      ∙ ap (ltb 0) (h.worked.edges (x * n + y) (index_lt n x y a b) ∙ flat-mult _ _ n _ x y (ends-nodes order-of placing n (omega (arith, long, few)) (omega arith)) b)
+      ∙ ap (ltb 0) (h.worked.edges (x * n + y) (index_lt n x y a b) ∙ flat-mult _ _ n _ x y (ends-nodes order_of placing n (omega (arith, long, few)) (omega arith)) b)
 
   pub fits : (b : ℕ) → Fits (setting load n area b) r
   fits b = record {
     rises = rising-rising (place_in load n area);
-    node = λ X m. let q = chunk-node X (sym (has-rising X (place_in load n area)) ∙ m) in (at (nodes_in load n area) q.0, q.2, q.3);
+    node = λ X m. let q = chunk_node X (sym (has-rising X (place_in load n area)) ∙ m) in (at (nodes_in load n area) q.0, q.2, q.3);
     member = λ x w. has-rising _ (place_in load n area) ∙ wanted-inside load (place_in load n area) b _ w;
     apart = λ x y c d e. placing.distinct x y (omega (arith, long)) (omega (arith, long)) e;
     same = same-edge;
@@ -104,10 +104,10 @@ module _ {load : Load} {n : ℕ} {area : List ℕ} {r : ℕ} (h : Checked load n
 module _ {load : Load} {n : ℕ} {area : List ℕ} {r : ℕ} {order degrees : List ℕ} (h : Listable load n area r order degrees) (b : ℕ) where
   pub row : Row (setting load n area b) r order
   row = record {
-    node = order-inside h.ordered;
-    place = order-place h.ordered;
+    node = order_inside h.ordered;
+    place = order_place h.ordered;
     rise = λ i j l c.
-        omega (arith, h.ordered.rise i j l c, set_at h.checked (at order i) (order-inside h.ordered i (omega arith)), set_at h.checked (at order j) (order-inside h.ordered j c));
+        omega (arith, h.ordered.rise i j l c, set_at h.checked (at order i) (order_inside h.ordered i (omega arith)), set_at h.checked (at order j) (order_inside h.ordered j c));
   }
 
   -- before the first turn

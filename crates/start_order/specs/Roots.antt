@@ -48,8 +48,8 @@ module _ {p : ℕ → Bool} {n x : ℕ} {marks stack : List ℕ} {h : ℕ} (v : 
   fits : h < n
   fits = room_for n (met 1 marks) h x v.ready.count xn (met_no marks x free)
 
-  pub roots-can : CanLook marks stack 1 h x
-  roots-can = record { cell = omega (arith, v.ready.cells); room = λ q. omega (arith, fits, v.ready.room) }
+  pub roots_can : CanLook marks stack 1 h x
+  roots_can = record { cell = omega (arith, v.ready.cells); room = λ q. omega (arith, fits, v.ready.room) }
 
   abbrev marks' : List ℕ
   marks' = set marks x 1
@@ -101,8 +101,8 @@ module _ {p : ℕ → Bool} {n x : ℕ} {marks stack : List ℕ} {h : ℕ} (v : 
     of_stack = λ j b. let r = v.of_stack j b in (omega (arith, r.0), r.1);
   }
 
-  pub roots-more : {marks'' stack'' : List ℕ} {h' : ℕ} → Seeded (p x) x marks stack h marks'' stack'' h' → Roots p n (x + 1) marks'' stack'' h'
-  roots-more {marks''} {stack''} {h'} s = go (p x) refl
+  pub roots_more : {marks'' stack'' : List ℕ} {h' : ℕ} → Seeded (p x) x marks stack h marks'' stack'' h' → Roots p n (x + 1) marks'' stack'' h'
+  roots_more {marks''} {stack''} {h'} s = go (p x) refl
     where
       go : (b : Bool) → p x ≡ b → Roots p n (x + 1) marks'' stack'' h'
       go true q = let w = (s.yes q).new (omega (arith, free)) in rw (w.0, w.1, w.2) (pushed q)

@@ -5,8 +5,8 @@ use Rattle.std.proofs.lemmas.List.{length-map}
 use Rattle.graphs.specs.Count.{ind}
 use Rattle.layout.specs.Patch.{patch, patch_long, patch_in, is_part, patch-none, patch_one, patch_append, patch-over}
 use Rattle.move_ledger.specs.Graph.{at}
-use Rattle.move_order.specs.Listing.{snoc-length}
-use Rattle.start_order.specs.Turns.{Setting, whole, is_ready, Turn, map_snoc, turns-end, turns-full, left_over, turn_more}
+use Rattle.move_order.specs.Listing.{snoc_length}
+use Rattle.start_order.specs.Turns.{Setting, whole, is_ready, Turn, map_snoc, turns_end, turns_full, left_over, turn_more}
 use Rattle.start_order.specs.Steps.{CanSeek, Sought, leads, CanTake, Taken, CanList, Told}
 
 -- after k turns: the nodes that are listed, and their numbers in the lent list
@@ -21,26 +21,26 @@ patch_snoc v l k x e b =
     patch_one k x (patch 0 v l) (omega (arith, patch_long 0 v l))
     ∙ ap (λ i. patch i (x ∷ []) (patch 0 v l)) {x = k} {y = 0 + length v} (omega arith)
     ∙ patch_append 0 v (x ∷ []) (patch 0 v l) (is_part 0 (patch 0 v l) v (λ i h. patch_in 0 v l i h (omega arith)))
-    ∙ patch-over 0 (v ++ x ∷ []) v l (omega (arith, snoc-length v x))
+    ∙ patch-over 0 (v ++ x ∷ []) v l (omega (arith, snoc_length v x))
 
 module _ {s : Setting} {area : List ℕ} {n r a : ℕ} {order low marks₀ degrees₀ chunks₀ : List ℕ} (can : CanList s area n r a order low marks₀ degrees₀ chunks₀) where
   pub run_none : Run s n r a low chunks₀ 0 marks₀ degrees₀ chunks₀
   run_none = record { listed = []; turn = can.first; named = sym (patch-none 0 chunks₀) }
 
-  pub run-seek : {marks degrees : List ℕ} → length marks ≡ length marks₀ → length degrees ≡ length degrees₀ → CanSeek order r marks degrees
-  run-seek m d = record { orders = can.orders; node = can.row.node; marks_long = omega (arith, can.marks_long); degrees_long = omega (arith, can.degrees_long) }
+  pub run_seek : {marks degrees : List ℕ} → length marks ≡ length marks₀ → length degrees ≡ length degrees₀ → CanSeek order r marks degrees
+  run_seek m d = record { orders = can.orders; node = can.row.node; marks_long = omega (arith, can.marks_long); degrees_long = omega (arith, can.degrees_long) }
 
   module _ {k : ℕ} {marks degrees chunks : List ℕ} (run : Run s n r a low chunks₀ k marks degrees chunks) where
     told : whole s a ≡ map s.set run.listed → Told s r a low chunks₀ chunks k
     told e = record { listed = run.listed; all = e; inside = run.turn.inside; wanted = run.turn.wanted; many = sym run.turn.many; named = run.named }
 
-    pub run-full : k ≡ a → Told s r a low chunks₀ chunks k
-    run-full e = told (turns-full can.fits can.few run.turn e)
+    pub run_full : k ≡ a → Told s r a low chunks₀ chunks k
+    run_full e = told (turns_full can.fits can.few run.turn e)
 
     module _ {i : ℕ} (f : Sought order r marks degrees i) where
       pub run_end : r ≤ i → Told s r a low chunks₀ chunks k
       run_end e =
-          told (turns-end can.fits can.few run.turn (λ x b.
+          told (turns_end can.fits can.few run.turn (λ x b.
           let p = can.row.place x b in
           ap (is_ready marks degrees) (sym p.2) ∙ f.before p.0 (omega (arith, p.1))))
 

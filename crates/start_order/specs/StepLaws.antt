@@ -21,15 +21,15 @@ passed_none area n z degrees = record { passed = λ y l. absurd (omega arith); o
 
 module _ {area : List ℕ} {n r z : ℕ} {degrees : List ℕ} (can : CanPass area n r z degrees) where
   -- where the edge from y to z stands
-  pub pass-cell : (y : ℕ) → y < r → y * n + z < length area
-  pass-cell y l = omega (arith, index_lt n y z (omega (arith, can.few)) can.target, can.square)
+  pub pass_cell : (y : ℕ) → y < r → y * n + z < length area
+  pass_cell y l = omega (arith, index_lt n y z (omega (arith, can.few)) can.target, can.square)
 
   module _ {y : ℕ} {degrees' : List ℕ} (v : Passed area n y z degrees degrees') (l : y < r) where
     old : at degrees' y ≡ at degrees y
     old = v.others y (omega arith)
 
-    pub pass-less : CanLess (get_or area (y * n + z) 0) (get_or degrees' y 0)
-    pass-less = record { some = λ d. omega (arith, old, can.some y l, ap (λ t. ind (not t)) (ne_eqb (get_or area (y * n + z) 0) 0 d)) }
+    pub pass_less : CanLess (get_or area (y * n + z) 0) (get_or degrees' y 0)
+    pass_less = record { some = λ d. omega (arith, old, can.some y l, ap (λ t. ind (not t)) (ne_eqb (get_or area (y * n + z) 0) 0 d)) }
 
     pub passed-more : length degrees' ≡ length degrees → {left : ℕ} → left ≡ less (get_or area (y * n + z) 0) (get_or degrees' y 0) → Passed area n (y + 1) z degrees (set degrees' y left)
     passed-more long {left} e = record {

@@ -13,7 +13,7 @@ use Rattle.graphs.specs.Lists.{any, all, has, any_give, any-take, all_give}
 use Rattle.move_ledger.specs.Graph.{at}
 use Rattle.move_ledger.specs.Listing.{Rising}
 use Rattle.move_order.specs.Order.{ready, first, listing}
-use Rattle.move_order.specs.Listing.{snoc-length, has_snoc, first_is, first_least, Fit, ready-fit}
+use Rattle.move_order.specs.Listing.{snoc_length, has_snoc, first_is, first_least, Fit, ready_fit}
 
 -- A graph of sets and the nodes below r that have them: between sets there are the edges `over`, wanted are the sets that pass, `chunks` rises; the set
 -- of a node, and the edges between nodes.
@@ -121,11 +121,11 @@ module _ {s : Setting} {n r a k : ℕ} {listed marks degrees : List ℕ} (fits :
       subst (λ u. has u listed ≡ true) (fits.apart q.0 x (t.inside q.0 q.1) b q.2) q.1
 
   -- a set is ready exactly where its node can be listed
-  to-node : (x : ℕ) → x < r → test (s.set x) ≡ true → is_ready marks degrees x ≡ true
-  to-node x b h = and_both (eqb (at marks x) 1) _ (eq-eqb _ _ (t.mark_at x b ∙ unlisted (has x listed) refl)) (eq-eqb _ _ (t.degree_at x b ∙ count-all_no _ n none))
+  to_node : (x : ℕ) → x < r → test (s.set x) ≡ true → is_ready marks degrees x ≡ true
+  to_node x b h = and_both (eqb (at marks x) 1) _ (eq-eqb _ _ (t.mark_at x b ∙ unlisted (has x listed) refl)) (eq-eqb _ _ (t.degree_at x b ∙ count-all_no _ n none))
     where
       f : Fit s.over s.wanted s.chunks sets (s.set x)
-      f = ready-fit s.over s.wanted s.chunks sets (s.set x) h
+      f = ready_fit s.over s.wanted s.chunks sets (s.set x) h
 
       unlisted : (u : Bool) → has x listed ≡ u → cond u 2 (ind (s.wanted (s.set x))) ≡ 1
       unlisted true q = absurd (true≢false (sym (map-has s.set x listed q) ∙ f.new))
@@ -167,24 +167,24 @@ module _ {s : Setting} {n r a k : ℕ} {listed marks degrees : List ℕ} (fits :
               there y c i false p = absurd (omega (arith, empty, count_pos (λ y. s.edge x y && not (has y listed)) n y (omega arith) (and_both (s.edge x y) _ i (ap not p))))
 
   -- no node can be listed: it is the whole list
-  pub turns-end : ((x : ℕ) → x < r → is_ready marks degrees x ≡ false) → whole s a ≡ sets
+  pub turns_end : ((x : ℕ) → x < r → is_ready marks degrees x ≡ false) → whole s a ≡ sets
   unfolding listing
-  turns-end h = t.goes ∙ stop (a - k)
+  turns_end h = t.goes ∙ stop (a - k)
     where
       idle : any test s.chunks ≡ false
       idle = fails _ (λ q.
           let y = any-take test s.chunks q in
           let x = fits.node y.0 y.1 in
-          true≢false (sym (to-node x.0 x.1 (ap test x.2 ∙ y.2)) ∙ h x.0 x.1))
+          true≢false (sym (to_node x.0 x.1 (ap test x.2 ∙ y.2)) ∙ h x.0 x.1))
 
       stop : (j : ℕ) → listing s.over s.wanted s.chunks j sets ≡ sets
       stop zero = refl
       stop (suc j) = rw idle refl
 
   -- as many turns as can be
-  pub turns-full : k ≡ a → whole s a ≡ sets
+  pub turns_full : k ≡ a → whole s a ≡ sets
   unfolding listing
-  turns-full e = let z : a - k ≡ 0 = omega arith in t.goes ∙ ap (λ j. listing s.over s.wanted s.chunks j sets) z
+  turns_full e = let z : a - k ≡ 0 = omega arith in t.goes ∙ ap (λ j. listing s.over s.wanted s.chunks j sets) z
 
   -- the first node that can be listed is listed
   module _ {order : List ℕ} (row : Row s r order) {i : ℕ} (here : i < r) (can : is_ready marks degrees (at order i) ≡ true)
@@ -198,20 +198,20 @@ module _ {s : Setting} {n r a k : ℕ} {listed marks degrees : List ℕ} (fits :
     test-z : test (s.set z) ≡ true
     test-z = to_set z zr can
 
-    fit-z : Fit s.over s.wanted s.chunks sets (s.set z)
-    fit-z = ready-fit s.over s.wanted s.chunks sets (s.set z) test-z
+    fit_z : Fit s.over s.wanted s.chunks sets (s.set z)
+    fit_z = ready_fit s.over s.wanted s.chunks sets (s.set z) test-z
 
-    in-chunks : has (s.set z) s.chunks ≡ true
-    in-chunks = fits.member z fit-z.want
+    in_chunks : has (s.set z) s.chunks ≡ true
+    in_chunks = fits.member z fit_z.want
 
     some : any test s.chunks ≡ true
-    some = any_give test s.chunks (s.set z) in-chunks test-z
+    some = any_give test s.chunks (s.set z) in_chunks test-z
 
     -- no ready set is smaller
     least : (X : ℕ) → has X s.chunks ≡ true → test X ≡ true → s.set z ≤ X
     least X m h =
         let x = fits.node X m in
-        let q = to-node x.0 x.1 (ap test x.2 ∙ h) in
+        let q = to_node x.0 x.1 (ap test x.2 ∙ h) in
         let p = row.place x.0 x.1 in
         let no-earlier : p.0 < i → ⊥ = λ l. true≢false (sym q ∙ ap (is_ready marks degrees) (sym p.2) ∙ before p.0 l) in
         elim (ℕ_discrete p.0 i) [
@@ -225,10 +225,10 @@ module _ {s : Setting} {n r a k : ℕ} {listed marks degrees : List ℕ} (fits :
     chosen : first test s.chunks ≡ s.set z
     chosen =
         let f = first_is test s.chunks some in
-        omega (arith, first_least test fits.rises (s.set z) in-chunks test-z, least (first test s.chunks) f.0 f.1)
+        omega (arith, first_least test fits.rises (s.set z) in_chunks test-z, least (first test s.chunks) f.0 f.1)
 
     pub turn-new : has z listed ≡ false
-    turn-new = fails _ (λ q. true≢false (sym (map-has s.set z listed q) ∙ fit-z.new))
+    turn-new = fails _ (λ q. true≢false (sym (map-has s.set z listed q) ∙ fit_z.new))
 
     goes_on : whole s a ≡ listing s.over s.wanted s.chunks (a - (k + 1)) (map s.set (listed ++ z ∷ []))
     unfolding listing
@@ -247,9 +247,9 @@ module _ {s : Setting} {n r a k : ℕ} {listed marks degrees : List ℕ} (fits :
         → Turn s n r a (k + 1) (listed ++ z ∷ []) marks' degrees'
     turn_more {marks'} {degrees'} m long d = record {
       most = omega arith;
-      many = omega (arith, snoc-length listed z, t.many);
+      many = omega (arith, snoc_length listed z, t.many);
       inside = λ x h. ⊎_elim (t.inside x) (λ q. omega (arith, eqb-true x z q, zr)) (or_cases (has x listed) _ (sym (has_snoc x z listed) ∙ h));
-      wanted = λ x h. ⊎_elim (t.wanted x) (λ q. rw (eqb-true x z q) fit-z.want) (or_cases (has x listed) _ (sym (has_snoc x z listed) ∙ h));
+      wanted = λ x h. ⊎_elim (t.wanted x) (λ q. rw (eqb-true x z q) fit_z.want) (or_cases (has x listed) _ (sym (has_snoc x z listed) ∙ h));
       goes = goes_on;
       mark_at = λ x b. ap (λ l. at l x) m ∙ marks-at x b (ℕ_discrete x z);
       degree_at = λ x b. omega (arith, d x b, left_over x b);

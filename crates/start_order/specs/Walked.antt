@@ -6,7 +6,7 @@ use Rattle.graph_slots.specs.Asked.{ListRoom}
 use Rattle.move_ledger.specs.Graph.{Load, at}
 use Rattle.move_questions.specs.Answers.{Checked}
 use Rattle.start_order.specs.Bits.{CanPick}
-use Rattle.start_order.specs.Roots.{Roots, roots-can}
+use Rattle.start_order.specs.Roots.{Roots, roots_can}
 
 pub record CanSeed (area : List ℕ) (n b x : ℕ) (marks stack : List ℕ) (h : ℕ) : Type 0 where
   pub pick : CanPick area n b x
@@ -35,4 +35,4 @@ pub record MarkRoom (n m : ℕ) (stack sources targets heads list : List ℕ) : 
 pub seed_can : {p : ℕ → Bool} {area : List ℕ} {n r b x : ℕ} {marks stack : List ℕ} {h : ℕ} → CanFind area n r b → Roots p n x marks stack h → x < r → CanSeed area n b x marks stack h
 seed_can {n} {x} c v l =
     let k : x < n = omega (arith, c.few) in
-    record { pick = record { room = c.room; bit = c.bit; node = k }; small = c.small; look = roots-can v k }
+    record { pick = record { room = c.room; bit = c.bit; node = k }; small = c.small; look = roots_can v k }

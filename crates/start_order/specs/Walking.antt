@@ -8,7 +8,7 @@ use Rattle.graph_neighbours.specs.Lists.{edge, deg, nb}
 use Rattle.graph_neighbours.specs.Steps.{CanGroup, Grouped}
 use Rattle.graph_walks.specs.Spread.{every, CanSpread, Done}
 use Rattle.graph_slots.specs.Asked.{Slots, SlotLists}
-use Rattle.graph_slots.specs.Listing.{group-can, slot-lists}
+use Rattle.graph_slots.specs.Listing.{group_can, slot-lists}
 use Rattle.entry_set.specs.Lanes.{lanes}
 use Rattle.move_ledger.specs.Graph.{Load, at, members}
 use Rattle.move_ledger.specs.GraphLaws.{occupied-by, occupy}
@@ -18,9 +18,9 @@ use Rattle.move_area.specs.Bodies.{lane_at}
 use Rattle.move_area.specs.Checked.{nodes_in, sets-at, sets-length}
 use Rattle.move_questions.specs.Answers.{place_in, Checked}
 use Rattle.move_slots.specs.Filled.{CanFillOwn, Filled}
-use Rattle.move_slots.specs.SlotLaws.{slotted-edge, slotted-ends}
+use Rattle.move_slots.specs.SlotLaws.{slotted_edge, slotted_ends}
 use Rattle.move_order.specs.Order.{holds}
-use Rattle.start_order.specs.Nodes.{order-of, placing, long, few, atoms, place_at}
+use Rattle.start_order.specs.Nodes.{order_of, placing, long, few, atoms, place_at}
 use Rattle.start_order.specs.Bits.{picks}
 use Rattle.start_order.specs.Roots.{Roots, Blank}
 use Rattle.start_order.specs.Marked.{Picks, Marked, all-marked}
@@ -31,14 +31,14 @@ module _ {load : Load} {n : ℕ} {area : List ℕ} {r : ℕ} (h : Checked load n
   set_is : (x : ℕ) → x < r → holds b (at (sets_in n area) x) ≡ holds b (lanes area (lane_at n 0 + x) n)
   set_is x c = ap (holds b) (sets-at n area x (omega (arith, sets-length n area, long h)))
 
-  count-is : (x : ℕ) → x < r → get_or area (lane_at n 8 + x) 0 ≡ members load (nodes_in load n area) x
-  count-is x c = h.worked.counts x (omega (arith, few h))
+  count_is : (x : ℕ) → x < r → get_or area (lane_at n 8 + x) 0 ≡ members load (nodes_in load n area) x
+  count_is x c = h.worked.counts x (omega (arith, few h))
 
   pub picks_of : Picks load n area r b (picks area n b)
   picks_of = record {
     chunk = λ x c q.
         let d : get_or area (lane_at n 8 + x) 0 ≡ 0 → ⊥ = eqb-false (get_or area (lane_at n 8 + x) 0) 0 (not-true _ (and_left (not (eqb (get_or area (lane_at n 8 + x) 0) 0)) _ q)) in
-        let i = occupied-by load (nodes_in load n area) x (lt-ltb 0 (members load (nodes_in load n area) x) (omega (arith, count-is x c, d))) in (
+        let i = occupied-by load (nodes_in load n area) x (lt-ltb 0 (members load (nodes_in load n area) x) (omega (arith, count_is x c, d))) in (
           subst (λ X. has X (place_in load n area) ≡ true) (place_at h i.0 i.1 ∙ ap (at (sets_in n area)) i.2) (has-at (place_in load n area) i.0 (omega (arith, i.1, atoms h))),
           set_is x c ∙ and_right (not (eqb (get_or area (lane_at n 8 + x) 0) 0)) _ q,
         );
@@ -46,14 +46,14 @@ module _ {load : Load} {n : ℕ} {area : List ℕ} {r : ℕ} (h : Checked load n
         let x : ℕ = at (nodes_in load n area) i in
         let l : x < r = omega (arith, (placing h).inside i c, long h) in
         and_both (not (eqb (get_or area (lane_at n 8 + x) 0) 0)) _
-        (ap not (ne_eqb (get_or area (lane_at n 8 + x) 0) 0 (omega (arith, count-is x l, ltb-true 0 (members load (nodes_in load n area) x) (occupy load (nodes_in load n area) x i c refl)))))
+        (ap not (ne_eqb (get_or area (lane_at n 8 + x) 0) 0 (omega (arith, count_is x l, ltb-true 0 (members load (nodes_in load n area) x) (occupy load (nodes_in load n area) x i c refl)))))
         (sym (set_is x l) ∙ q);
   }
 
 module _ {load : Load} {n : ℕ} {area : List ℕ} {r b : ℕ} {marks stack sources targets heads list : List ℕ}
     (can : CanMark load n area r b marks) (room : MarkRoom n (load.D + load.E) stack sources targets heads list) where
-  pub mark-fill : CanFillOwn load n area stack sources targets
-  mark-fill = record {
+  pub mark_fill : CanFillOwn load n area stack sources targets
+  mark_fill = record {
     loadable = can.checked.loadable;
     few = can.checked.ranged.few;
     inside = can.checked.ranged.nodes;
@@ -62,36 +62,36 @@ module _ {load : Load} {n : ℕ} {area : List ℕ} {r b : ℕ} {marks stack sour
     targets_long = room.targets_long;
   }
 
-  pub mark-sum : load.D + load.E ≤ 8448
-  mark-sum = omega (arith, can.checked.loadable.sizes.entries, can.checked.loadable.sizes.bits)
+  pub mark_sum : load.D + load.E ≤ 8448
+  mark_sum = omega (arith, can.checked.loadable.sizes.entries, can.checked.loadable.sizes.bits)
 
   module _ {counts s t : List ℕ} (f : Filled load n (nodes_in load n area) (sets_in n area) counts s t) where
-    mark-slots : length s ≡ length sources → length t ≡ length targets → Slots s t (load.D + load.E) n
-    mark-slots p q = record {
-      slots = mark-sum;
+    mark_slots : length s ≡ length sources → length t ≡ length targets → Slots s t (load.D + load.E) n
+    mark_slots p q = record {
+      slots = mark_sum;
       sources = omega (arith, room.sources_long);
       targets = omega (arith, room.targets_long);
-      ends = slotted-ends f.slots (ends-nodes (order-of can.checked) (placing can.checked) n (omega (arith, long can.checked, few can.checked)) (omega (arith, can.checked.loadable.sizes.wide)));
+      ends = slotted_ends f.slots (ends-nodes (order_of can.checked) (placing can.checked) n (omega (arith, long can.checked, few can.checked)) (omega (arith, can.checked.loadable.sizes.wide)));
       nodes = can.checked.loadable.sizes.sets;
     }
 
     module _ (p : length s ≡ length sources) (q : length t ≡ length targets) where
-      pub mark-group : CanGroup s t (load.D + load.E) n heads list
-      mark-group = group-can (mark-slots p q) room.lists
+      pub mark_group : CanGroup s t (load.D + load.E) n heads list
+      mark_group = group_can (mark_slots p q) room.lists
 
-      mark-lists : {heads' list' : List ℕ} → Grouped s t (load.D + load.E) n heads heads' list list' → SlotLists s t (load.D + load.E) n heads' list'
-      mark-lists g = slot-lists (mark-slots p q) room.lists g
+      mark_lists : {heads' list' : List ℕ} → Grouped s t (load.D + load.E) n heads heads' list list' → SlotLists s t (load.D + load.E) n heads' list'
+      mark_lists g = slot-lists (mark_slots p q) room.lists g
 
       module _ {heads' list' : List ℕ} (g : Grouped s t (load.D + load.E) n heads heads' list list')
           {marks' stack' : List ℕ} {h : ℕ} (roots : Roots (picks area n b) n r marks' stack' h) where
-        pub mark-spread : CanSpread heads' list' n 1 marks' stack' h
-        mark-spread = record { graph = (mark-lists g).graph; ready = roots.ready }
+        pub mark_spread : CanSpread heads' list' n 1 marks' stack' h
+        mark_spread = record { graph = (mark_lists g).graph; ready = roots.ready }
 
-        pub mark-done : {marks'' stack'' : List ℕ} → Done (edge heads' list' n) n (deg heads') (nb heads' list') every 1 marks' stack' h marks'' stack'' 0 → Marked load n area r b marks''
-        mark-done d = all-marked can.checked (picks_of can.checked b) (mark-lists g).graph ((mark-lists g).same ∙ slotted-edge f.slots) roots d
+        pub mark_done : {marks'' stack'' : List ℕ} → Done (edge heads' list' n) n (deg heads') (nb heads' list') every 1 marks' stack' h marks'' stack'' 0 → Marked load n area r b marks''
+        mark_done d = all-marked can.checked (picks_of can.checked b) (mark_lists g).graph ((mark_lists g).same ∙ slotted_edge f.slots) roots d
 
-  pub mark-find : CanFind area n r b
-  mark-find = record { room = omega (arith, can.checked.loadable.sizes.area); bit = can.bit; few = few can.checked; small = can.checked.loadable.sizes.sets }
+  pub mark_find : CanFind area n r b
+  mark_find = record { room = omega (arith, can.checked.loadable.sizes.area); bit = can.bit; few = few can.checked; small = can.checked.loadable.sizes.sets }
 
-  pub mark-blank : {counts : List ℕ} → length counts ≡ length stack → Blank n marks counts
-  mark-blank e = record { cells = can.long; room = omega (arith, room.stack_long); clear = can.clear }
+  pub mark_blank : {counts : List ℕ} → length counts ≡ length stack → Blank n marks counts
+  mark_blank e = record { cells = can.long; room = omega (arith, room.stack_long); clear = can.clear }

@@ -1,10 +1,10 @@
 // The lowest atom of each node.
-ghost use Rattle.start_order.specs.Lowest.{node_at, CanLower, Lowest};
+ghost use Rattle.start_order.specs.Lowest.{atom_node, CanLower, Lowest};
 
 // Atoms are gone through from the last to the first, so that the lowest of each node stays.
 pub fn lowest(area: &[u32], a: usize, n: usize, low: &mut [u32])
     requires { CanLower area.now a n low.old }
-    ensures { Lowest (node_at area.now n) 0 a low.new }
+    ensures { Lowest (atom_node area.now n) 0 a low.new }
 {
     let nodes = n * n + 24 + 24 * n;
     let mut k = a;

@@ -1,5 +1,5 @@
 use Rattle.merge_laws.specs.May.{may_add}
-use Rattle.merge_laws.specs.Rows.{refused-called, acted-called}
+use Rattle.merge_laws.specs.Rows.{refused_called, acted_called}
 use Rattle.merge_area.specs.Writes.{write}
 use Rattle.merge_state.specs.Table.{acted}
 use mathlib.Core.Path.{refl}
@@ -14,7 +14,7 @@ same_length : tie.Need-same-length
 same_length c = search rules
 
 returns : tie.Need-returns
-returns c = refused-called _ _ _ c.before.add_row.ensures c.if1.true refl refl
+returns c = refused_called _ _ _ c.before.add_row.ensures c.if1.true refl refl
 
 cast-at : tie.Need-overflow-cast-at
 cast-at c = search rules
@@ -33,7 +33,7 @@ same-length-2 c = search rules
 
 returns-2 : tie.Need-returns-2
 unfolding acted write
-returns-2 c = acted-called _ _ _ c.before.before.before.before.before.before.before.add_row.ensures c.before.before.before.before.before.before.if1.false refl c.before.before.append.ensures
+returns-2 c = acted_called _ _ _ c.before.before.before.before.before.before.before.add_row.ensures c.before.before.before.before.before.before.if1.false refl c.before.before.append.ensures
 
 pub add-module-to-chunk-spec : {M : Type 1} → statement M
 add-module-to-chunk-spec =

@@ -1,5 +1,5 @@
-use Rattle.merge_laws.specs.May.{may-calc}
-use Rattle.merge_laws.specs.Rows.{refused-called, acted-called}
+use Rattle.merge_laws.specs.May.{may_calc}
+use Rattle.merge_laws.specs.Rows.{refused_called, acted_called}
 use Rattle.merge_area.specs.Writes.{write}
 use Rattle.merge_state.specs.Table.{acted}
 use mathlib.Core.Path.{refl}
@@ -15,23 +15,23 @@ same_length : tie.Need-same-length
 same_length c = search rules
 
 returns : tie.Need-returns
-returns c = refused-called _ _ _ c.before.calc-row.ensures c.if1.true refl refl
+returns c = refused_called _ _ _ c.before.calc-row.ensures c.if1.true refl refl
 
 header-requires : tie.Need-header-requires
-header-requires c κs = let m = (may-calc _ _ _ _ c.before.before.calc-row.ensures c.before.if1.false).1 in (m.within, m.long, omega arith)
+header-requires c κs = let m = (may_calc _ _ _ _ c.before.before.calc-row.ensures c.before.if1.false).1 in (m.within, m.long, omega arith)
 
 cast-used : tie.Need-overflow-cast-used
 cast-used c = search rules
 
 calculate-requires : tie.Need-calculate-requires
-calculate-requires c κs = rw c.before.header.ensures (may-calc _ _ _ _ c.before.before.before.before.calc-row.ensures c.before.before.before.if1.false).0
+calculate-requires c κs = rw c.before.header.ensures (may_calc _ _ _ _ c.before.before.before.before.calc-row.ensures c.before.before.before.if1.false).0
 
 same-length-2 : tie.Need-same-length-2
 same-length-2 c = search rules
 
 returns-2 : tie.Need-returns-2
 unfolding acted write
-returns-2 c = acted-called _ _ _ c.before.before.before.before.before.before.before.calc-row.ensures c.before.before.before.before.before.before.if1.false refl (rw c.before.before.before.before.header.ensures at c.before.before.calculate.ensures)
+returns-2 c = acted_called _ _ _ c.before.before.before.before.before.before.before.calc-row.ensures c.before.before.before.before.before.before.if1.false refl (rw c.before.before.before.before.header.ensures at c.before.before.calculate.ensures)
 
 pub calc-chunk-dependencies-spec : {M : Type 1} → statement M
 calc-chunk-dependencies-spec =

@@ -2,7 +2,7 @@
 use native.Mathlib.Omega.{arith}
 use mathlib.Core.Path.{refl}
 use borrow.Author.Rules.{rules}
-use Rattle.chunk_optimizer.specs.Registering.{key-past, not_made, registers}
+use Rattle.chunk_optimizer.specs.Registering.{key_past, not_made, registers}
 use Rattle.chunk_optimizer.proofs.register_made.Statement.{statement}
 use Rattle.chunk_optimizer.proofs.register_made.Tie as tie
 
@@ -10,7 +10,7 @@ cast-if1 : tie.Need-overflow-cast-if1
 cast-if1 c = search rules
 
 returns : tie.Need-returns
-returns c = key-past (search rules) _ _ (omega arith) refl refl
+returns c = key_past (search rules) _ _ (omega arith) refl refl
 
 header-requires : tie.Need-header-requires
 header-requires c κs = search rules

@@ -2,7 +2,7 @@
 use Prim.Native.Nat.{◌-◌}
 use native.Mathlib.Omega.{arith}
 use Rattle.entry_set.specs.Sets.{number}
-use Rattle.entry_set.proofs.Writing.{Writing, writing_none, writing-room, writing_more, writing-done}
+use Rattle.entry_set.proofs.Writing.{Writing, writing_none, writing_room, writing_more, writing_done}
 use Rattle.entry_set.proofs.write_lanes.Statement.{statement}
 use Rattle.entry_set.proofs.write_lanes.Tie as tie
 
@@ -19,13 +19,13 @@ word-requires : tie.Need-word-requires invariant-loop decreases-loop
 word-requires c κs = omega arith
 
 mul-area : tie.Need-overflow-mul-area invariant-loop decreases-loop
-mul-area c = omega (arith, writing-room c.before.before.loop.invariant c.before.loop-test.true c.before.before.before.before.requires, c.before.before.loop.invariant.same_length)
+mul-area c = omega (arith, writing_room c.before.before.loop.invariant c.before.loop-test.true c.before.before.before.before.requires, c.before.before.loop.invariant.same_length)
 
 slice-write-area : tie.Need-slice-write-area invariant-loop decreases-loop
-slice-write-area c = writing-room c.before.before.loop.invariant c.before.loop-test.true c.before.before.before.before.requires
+slice-write-area c = writing_room c.before.before.loop.invariant c.before.loop-test.true c.before.before.before.before.requires
 
 add-p : tie.Need-overflow-add-p invariant-loop decreases-loop
-add-p c = omega (arith, writing-room c.before.before.loop.invariant c.before.loop-test.true c.before.before.before.before.requires, c.before.before.loop.invariant.same_length)
+add-p c = omega (arith, writing_room c.before.before.loop.invariant c.before.loop-test.true c.before.before.before.before.requires, c.before.before.loop.invariant.same_length)
 
 add-j : tie.Need-overflow-add-j invariant-loop decreases-loop
 add-j c = omega arith
@@ -40,7 +40,7 @@ same_length : tie.Need-same-length invariant-loop decreases-loop
 same_length c = c.before.loop.invariant.same_length
 
 returns : tie.Need-returns invariant-loop decreases-loop
-returns c = writing-done c.before.loop.invariant (omega arith)
+returns c = writing_done c.before.loop.invariant (omega arith)
 
 pub write-lanes-spec : {M : Type 1} → statement M
 write-lanes-spec =

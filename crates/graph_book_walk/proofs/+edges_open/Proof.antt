@@ -7,7 +7,7 @@ use Rattle.graphs.specs.Total.{whites}
 use Rattle.graph_neighbours.specs.Lists.{deg, nb, row_of, place_of}
 use Rattle.graph_book_walk.specs.Book.{at, CanOpen, Opened, CanGo, Gone}
 use Rattle.graph_book_walk.proofs.Falling.{falling}
-use Rattle.graph_book_walk.proofs.Colours.{Going, open-go, open-less, open_done, going_none, going-gray, going-black, going_less, going-can, going-met, going_more, going_done, next-node}
+use Rattle.graph_book_walk.proofs.Colours.{Going, open_go, open_less, open_done, going_none, going_gray, going_black, going_less, going_can, going_met, going_more, going_done, next_node}
 use borrow.Fn.Kinds.{In}
 use borrow.Fn.PlainCycle.{Measures, is, falls, and}
 use Rattle.graph_book_walk.proofs.edges.Reads as edges
@@ -103,7 +103,7 @@ edges-mul-c : (t : ℕ) → edges-lts.Need-overflow-mul-c (
   open-below t,
   open.Post,
 ) (edges_at t) edges.Post edges-Inv-loop edges-μ-loop
-edges-mul-c t c = omega (arith, next-node c.before.before.loop.invariant.0 (omega (arith, c.before.before.loop.invariant.1)) c.neighbour.ensures)
+edges-mul-c t c = omega (arith, next_node c.before.before.loop.invariant.0 (omega (arith, c.before.before.loop.invariant.1)) c.neighbour.ensures)
 
 edges-slice-read-c : (t : ℕ) → edges-lts.Need-slice-read-c (
   degree-reads.Asked,
@@ -113,7 +113,7 @@ edges-slice-read-c : (t : ℕ) → edges-lts.Need-slice-read-c (
   open-below t,
   open.Post,
 ) (edges_at t) edges.Post edges-Inv-loop edges-μ-loop
-edges-slice-read-c t c = omega (arith, c.before.before.before.loop.invariant.0.long, next-node c.before.before.before.loop.invariant.0 (omega (arith, c.before.before.before.loop.invariant.1)) c.before.neighbour.ensures)
+edges-slice-read-c t c = omega (arith, c.before.before.before.loop.invariant.0.long, next_node c.before.before.before.loop.invariant.0 (omega (arith, c.before.before.before.loop.invariant.1)) c.before.neighbour.ensures)
 
 edges-same-length : (t : ℕ) → edges-lts.Need-same-length (
   degree-reads.Asked,
@@ -133,7 +133,7 @@ edges-returns : (t : ℕ) → edges-lts.Need-returns (
   open-below t,
   open.Post,
 ) (edges_at t) edges.Post edges-Inv-loop edges-μ-loop
-edges-returns t c = going-gray c.before.before.before.before.loop.invariant.0 (omega (arith, c.before.before.before.before.loop.invariant.1)) c.before.before.neighbour.ensures c.if1.true
+edges-returns t c = going_gray c.before.before.before.before.loop.invariant.0 (omega (arith, c.before.before.before.before.loop.invariant.1)) c.before.before.neighbour.ensures c.if1.true
 
 edges-loop-less : (t : ℕ) → edges-lts.Need-loop-smaller (
   degree-reads.Asked,
@@ -153,7 +153,7 @@ edges-loop-again : (t : ℕ) → edges-lts.Need-loop-preserved (
   open-below t,
   open.Post,
 ) (edges_at t) edges.Post edges-Inv-loop edges-μ-loop
-edges-loop-again t c = (going-black c.before.before.before.before.before.loop.invariant.0 (omega (arith, c.before.before.before.before.before.loop.invariant.1)) c.before.before.before.neighbour.ensures c.if2.true c.before.if1.false, c.before.before.before.before.before.loop.invariant.1)
+edges-loop-again t c = (going_black c.before.before.before.before.before.loop.invariant.0 (omega (arith, c.before.before.before.before.before.loop.invariant.1)) c.before.before.before.neighbour.ensures c.if2.true c.before.if1.false, c.before.before.before.before.before.loop.invariant.1)
 
 edges-open-requires : (t : ℕ) → edges-lts.Need-open-requires (
   degree-reads.Asked,
@@ -167,7 +167,7 @@ edges-open-requires t c κs =
     let v = c.before.before.before.before.before.before.loop.invariant in
     let b : c.before.before.before.before.before.before.loop.i < deg c.before.before.before.before.before.before.before.before.before.before.before.args.starts.now c.before.before.before.before.before.before.before.before.before.before.before.args.x = omega (arith, v.1) in (
       subst (λ (j : ℕ). falling (whites (length c.before.before.before.before.before.before.loop.colour) (at c.before.before.before.before.before.before.loop.colour)) (length c.before.before.before.before.before.before.before.before.before.before.before.args.list.now) 0 < j) c.before.before.before.before.before.before.before.before.before.before.before.requires.0 (going_less v.0 b c.before.before.before.before.neighbour.ensures),
-      subst (λ (j : ℕ). CanOpen c.before.before.before.before.before.before.before.before.before.before.before.args.starts.now c.before.before.before.before.before.before.before.before.before.before.before.args.list.now j c.before.before.before.before.before.before.loop.colour c.before.before.before.before.neighbour.result) (sym v.0.long) (going-can v.0 b c.before.before.before.before.neighbour.ensures c.before.if2.false),
+      subst (λ (j : ℕ). CanOpen c.before.before.before.before.before.before.before.before.before.before.before.args.starts.now c.before.before.before.before.before.before.before.before.before.before.before.args.list.now j c.before.before.before.before.before.before.loop.colour c.before.before.before.before.neighbour.result) (sym v.0.long) (going_can v.0 b c.before.before.before.before.neighbour.ensures c.before.if2.false),
     )
 
 edges-same-length-2 : (t : ℕ) → edges-lts.Need-same-length-2 (
@@ -190,7 +190,7 @@ edges-returns-2 : (t : ℕ) → edges-lts.Need-returns-2 (
 ) (edges_at t) edges.Post edges-Inv-loop edges-μ-loop
 edges-returns-2 t c =
     let v = c.before.before.before.before.before.before.before.before.before.before.loop.invariant in
-    going-met v.0 (omega (arith, v.1)) c.before.before.before.before.before.before.before.before.neighbour.ensures c.before.before.before.before.before.if2.false c.if3.true (subst (λ (j : ℕ). Opened c.before.before.before.before.before.before.before.before.before.before.before.before.before.before.before.args.starts.now c.before.before.before.before.before.before.before.before.before.before.before.before.before.before.before.args.list.now j c.before.before.before.before.before.before.before.before.before.before.loop.colour c.before.before.before.before.before.before.before.before.neighbour.result c.before.before.before.«open».new.1.1.0 c.before.before.before.«open».result) v.0.long c.before.before.before.«open».ensures)
+    going_met v.0 (omega (arith, v.1)) c.before.before.before.before.before.before.before.before.neighbour.ensures c.before.before.before.before.before.if2.false c.if3.true (subst (λ (j : ℕ). Opened c.before.before.before.before.before.before.before.before.before.before.before.before.before.before.before.args.starts.now c.before.before.before.before.before.before.before.before.before.before.before.before.before.before.before.args.list.now j c.before.before.before.before.before.before.before.before.before.before.loop.colour c.before.before.before.before.before.before.before.before.neighbour.result c.before.before.before.«open».new.1.1.0 c.before.before.before.«open».result) v.0.long c.before.before.before.«open».ensures)
 
 edges-loop-less-2 : (t : ℕ) → edges-lts.Need-loop-smaller-2 (
   degree-reads.Asked,
@@ -245,8 +245,8 @@ open-slice-write-colour t c = c.before.before.before.requires.1.node
 open-edges-requires :
     (t : ℕ) → open-lts.Need-edges-requires (edges-below t, edges.Post) (open_at t) open.Post
 open-edges-requires t c κs = (
-  subst (λ (j : ℕ). falling (whites (length (set c.before.before.before.before.args.colour.now c.before.before.before.before.args.x 1)) (at (set c.before.before.before.before.args.colour.now c.before.before.before.before.args.x 1))) (length c.before.before.before.before.args.list.now) (deg c.before.before.before.before.args.starts.now c.before.before.before.before.args.x) < j) c.before.before.before.before.requires.0 (open-less c.before.before.before.before.requires.1),
-  rw length-set (open-go c.before.before.before.before.requires.1),
+  subst (λ (j : ℕ). falling (whites (length (set c.before.before.before.before.args.colour.now c.before.before.before.before.args.x 1)) (at (set c.before.before.before.before.args.colour.now c.before.before.before.before.args.x 1))) (length c.before.before.before.before.args.list.now) (deg c.before.before.before.before.args.starts.now c.before.before.before.before.args.x) < j) c.before.before.before.before.requires.0 (open_less c.before.before.before.before.requires.1),
+  rw length-set (open_go c.before.before.before.before.requires.1),
 )
 
 open-mul-colour-2 :

@@ -4,7 +4,7 @@ use native.Mathlib.Omega.{arith}
 use mathlib.Core.Path.{◌≡◌, sym, subst, ◌∙◌}
 use lib.ListN.{length}
 use Rattle.graph_book_walk.specs.Book.{CanOpen, Opened}
-use Rattle.graph_book_walk.proofs.Rounds.{Round, cleared, round_first, round-skip, round-can, round-more, round-done}
+use Rattle.graph_book_walk.proofs.Rounds.{Round, cleared, round_first, round_skip, round_can, round_more, round_done}
 use Rattle.graph_book_walk.proofs.has_cycle.Statement.{statement}
 use Rattle.graph_book_walk.proofs.has_cycle.Tie as tie
 use Rattle.graph_book_walk.proofs.has_cycle.Reads as reads
@@ -37,10 +37,10 @@ loop-less : tie.Need-loop-smaller invariant-loop decreases-loop
 loop-less c = omega arith
 
 loop-again : tie.Need-loop-preserved invariant-loop decreases-loop
-loop-again c = round-skip c.before.before.before.loop.invariant c.before.before.loop-test.true c.if1.true
+loop-again c = round_skip c.before.before.before.loop.invariant c.before.before.loop-test.true c.if1.true
 
 open-requires : tie.Need-open-requires invariant-loop decreases-loop
-open-requires c κs = subst (λ (j : ℕ). CanOpen c.before.before.before.before.before.before.before.before.before.before.before.before.args.starts.now c.before.before.before.before.before.before.before.before.before.before.before.before.args.list.now j c.before.before.before.before.loop.colour c.before.before.before.before.loop.x) (sym c.before.before.before.before.loop.invariant.long) (round-can c.before.before.before.before.loop.invariant c.before.before.before.loop-test.true c.before.if1.false)
+open-requires c κs = subst (λ (j : ℕ). CanOpen c.before.before.before.before.before.before.before.before.before.before.before.before.args.starts.now c.before.before.before.before.before.before.before.before.before.before.before.before.args.list.now j c.before.before.before.before.loop.colour c.before.before.before.before.loop.x) (sym c.before.before.before.before.loop.invariant.long) (round_can c.before.before.before.before.loop.invariant c.before.before.before.loop-test.true c.before.if1.false)
 
 same_length : tie.Need-same-length invariant-loop decreases-loop
 same_length c = c.before.before.before.«open».auto.1.1.0 ∙ c.before.before.before.before.before.before.before.before.loop.invariant.long
@@ -52,13 +52,13 @@ loop-less-2 : tie.Need-loop-smaller-2 invariant-loop decreases-loop
 loop-less-2 c = omega arith
 
 loop-again-2 : tie.Need-loop-preserved-2 invariant-loop decreases-loop
-loop-again-2 c = round-more c.before.before.before.before.before.before.before.before.loop.invariant c.before.before.before.before.before.before.before.loop-test.true c.if2.false c.before.before.before.«open».auto.1.1.0 (subst (λ (j : ℕ). Opened c.before.before.before.before.before.before.before.before.before.before.before.before.before.before.before.before.args.starts.now c.before.before.before.before.before.before.before.before.before.before.before.before.before.before.before.before.args.list.now j c.before.before.before.before.before.before.before.before.loop.colour c.before.before.before.before.before.before.before.before.loop.x c.before.before.before.«open».new.1.1.0 c.before.before.before.«open».result) c.before.before.before.before.before.before.before.before.loop.invariant.long c.before.before.before.«open».ensures)
+loop-again-2 c = round_more c.before.before.before.before.before.before.before.before.loop.invariant c.before.before.before.before.before.before.before.loop-test.true c.if2.false c.before.before.before.«open».auto.1.1.0 (subst (λ (j : ℕ). Opened c.before.before.before.before.before.before.before.before.before.before.before.before.before.before.before.before.args.starts.now c.before.before.before.before.before.before.before.before.before.before.before.before.before.before.before.before.args.list.now j c.before.before.before.before.before.before.before.before.loop.colour c.before.before.before.before.before.before.before.before.loop.x c.before.before.before.«open».new.1.1.0 c.before.before.before.«open».result) c.before.before.before.before.before.before.before.before.loop.invariant.long c.before.before.before.«open».ensures)
 
 same-length-2 : tie.Need-same-length-2 invariant-loop decreases-loop
 same-length-2 c = c.before.loop.invariant.long
 
 returns-2 : tie.Need-returns-2 invariant-loop decreases-loop
-returns-2 c = sym (round-done c.before.loop.invariant c.loop-test.false)
+returns-2 c = sym (round_done c.before.loop.invariant c.loop-test.false)
 
 pub has-cycle-spec : {M : Type 1} → statement M
 has-cycle-spec =

@@ -1,16 +1,16 @@
 -- `graph_components::gather` meets its contract. Assumes nothing.
-use Rattle.graph_components.proofs.Gathering.{gather-can, spread-can, gather_done}
+use Rattle.graph_components.proofs.Gathering.{gather_can, spread_can, gather_done}
 use borrow.Author.Rules.{rules}
 use Rattle.graph_components.proofs.gather.Statement.{statement}
 use Rattle.graph_components.proofs.gather.Tie as tie
 
 look-requires : tie.Need-look-requires
 look-requires c κs =
-    gather-can c.before.before.before.before.before.before.before.requires
+    gather_can c.before.before.before.before.before.before.before.requires
 
 spread-requires : tie.Need-spread-requires
 spread-requires c κs =
-    spread-can c.before.before.before.before.before.before.before.before.before.before.before.before.before.before.requires c.before.before.before.before.before.before.look.ensures
+    spread_can c.before.before.before.before.before.before.before.before.before.before.before.before.before.before.requires c.before.before.before.before.before.before.look.ensures
 
 same_length : tie.Need-same-length
 same_length c = search rules

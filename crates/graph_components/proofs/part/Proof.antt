@@ -1,5 +1,5 @@
 -- `graph_components::part` meets its contract. Assumes nothing.
-use Rattle.graph_components.proofs.Labels.{part-can, part-new, part-skip}
+use Rattle.graph_components.proofs.Labels.{part_can, part-new, part_skip}
 use borrow.Author.Rules.{rules}
 use Rattle.graph_components.proofs.part.Statement.{statement}
 use Rattle.graph_components.proofs.part.Tie as tie
@@ -21,7 +21,7 @@ slice-read-if1 c = search rules
 
 returns : tie.Need-returns
 returns c =
-    part-skip c.before.before.before.before.before.before.before.before.before.args.k c.before.before.before.before.before.before.before.before.before.requires.0 c.if1.true
+    part_skip c.before.before.before.before.before.before.before.before.before.args.k c.before.before.before.before.before.before.before.before.before.requires.0 c.if1.true
 
 cast-gather : tie.Need-overflow-cast-gather
 cast-gather c = search rules
@@ -31,7 +31,7 @@ add-gather c = search rules
 
 gather-requires : tie.Need-gather-requires
 gather-requires c κs =
-    part-can c.before.before.before.before.before.before.before.before.before.before.before.args.k c.before.before.before.before.before.before.before.before.before.before.before.requires.0 c.before.before.before.before.before.before.before.before.before.before.before.requires.2 c.before.before.if1.false
+    part_can c.before.before.before.before.before.before.before.before.before.before.before.args.k c.before.before.before.before.before.before.before.before.before.before.before.requires.0 c.before.before.before.before.before.before.before.before.before.before.before.requires.2 c.before.before.if1.false
 
 same_length : tie.Need-same-length
 same_length c = search rules

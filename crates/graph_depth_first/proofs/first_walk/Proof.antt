@@ -4,11 +4,11 @@ use native.Mathlib.Omega.{arith}
 use mathlib.Core.Path.{◌≡◌, refl, ap, ◌∙◌}
 use Rattle.graph_neighbours.specs.Lists.{deg, nb}
 use Rattle.graph_colours.specs.Colours.{view, Run, none, colour_of}
-use Rattle.graph_colours.specs.States.{state_black}
+use Rattle.graph_colours.specs.States.{state-black}
 use Rattle.graph_depth_first.proofs.Views.{held_none, run_join}
 use lib.ListN.{length}
 use Rattle.graph_neighbours.specs.Direction.{along}
-use Rattle.graph_depth_first.proofs.Rounds.{Round, cleared, round_first, round-more, round-done, round-black}
+use Rattle.graph_depth_first.proofs.Rounds.{Round, cleared, round_first, round_more, round_done, round_black}
 use Rattle.graph_depth_first.proofs.first_walk.Statement.{statement}
 use Rattle.graph_depth_first.proofs.first_walk.Tie as tie
 
@@ -50,7 +50,7 @@ loop-again : tie.Need-loop-preserved invariant-loop decreases-loop
 loop-again c =
     let v = c.before.before.before.before.before.before.before.before.before.before.before.before.before.before.before.before.before.loop.invariant in
     let k = c.before.before.before.before.before.before.before.before.before.before.search.auto.1.1.1.1.1 in
-    (round-more v.0 c.before.before.before.before.before.before.before.before.before.before.before.before.before.before.before.before.loop-test.true c.before.before.before.before.before.before.before.before.before.before.search.ensures, k.0 ∙ v.1, k.1.0 ∙ v.2, k.1.1.0 ∙ v.3, k.1.1.1.0 ∙ v.4, k.1.1.1.1.0 ∙ v.5, run_join v.6 c.before.before.before.before.before.before.before.before.before.before.search.ensures.ran)
+    (round_more v.0 c.before.before.before.before.before.before.before.before.before.before.before.before.before.before.before.before.loop-test.true c.before.before.before.before.before.before.before.before.before.before.search.ensures, k.0 ∙ v.1, k.1.0 ∙ v.2, k.1.1.0 ∙ v.3, k.1.1.1.0 ∙ v.4, k.1.1.1.1.0 ∙ v.5, run_join v.6 c.before.before.before.before.before.before.before.before.before.before.search.ensures.ran)
 
 same_length : tie.Need-same-length invariant-loop decreases-loop
 same_length c =
@@ -75,7 +75,7 @@ same-length-5 c =
 returns : tie.Need-returns invariant-loop decreases-loop
 returns c =
     let v = c.before.loop.invariant in (
-      round-done v.0 c.loop-test.false,
+      round_done v.0 c.loop-test.false,
       record {
         first = view c.before.before.before.before.before.before.before.before.clear.new.0 c.before.before.before.before.clear2.new.0 c.before.before.before.before.before.before.before.before.before.before.before.before.before.before.before.before.before.before.args.stack.now 0;
         starts = record {
@@ -84,7 +84,7 @@ returns c =
           empty = held_none _;
         };
         run = v.6;
-        black = λ x b. state_black _ (round-black v.0 c.loop-test.false x b);
+        black = λ x b. state-black _ (round_black v.0 c.loop-test.false x b);
       },
     )
 

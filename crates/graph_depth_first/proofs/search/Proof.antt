@@ -9,7 +9,7 @@ use Rattle.graph_colours.specs.Colours.{view, Run, none, more}
 use Rattle.graph_depth_first.proofs.Views.{held_none, run_join}
 use Rattle.graph_depth_first.specs.Search.{size}
 use Rattle.graph_depth_first.specs.Steps.{at, Ready, Kept}
-use Rattle.graph_depth_first.proofs.Layer.{top_of, kept_refl, kept_trans, discover-can, push-ready, push_kept, push-known, push-moved}
+use Rattle.graph_depth_first.proofs.Layer.{top_of, kept_refl, kept_trans, discover_can, push_ready, push_kept, push_known, push_moved}
 use Rattle.graph_depth_first.proofs.search.Statement.{statement}
 use Rattle.graph_depth_first.proofs.search.Tie as tie
 
@@ -41,11 +41,11 @@ cast-discover c =
 
 discover-requires : tie.Need-discover-requires invariant-loop decreases-loop
 discover-requires c κs =
-    discover-can c.before.before.before.before.before.before.before.before.before.before.before.before.before.requires.0 _ c.before.before.before.before.before.before.before.before.before.before.before.before.before.requires.1 c.before.before.before.if1.false
+    discover_can c.before.before.before.before.before.before.before.before.before.before.before.before.before.requires.0 _ c.before.before.before.before.before.before.before.before.before.before.before.before.before.requires.1 c.before.before.before.if1.false
 
 loop-holds : tie.Need-loop-init invariant-loop decreases-loop
 loop-holds c =
-    (push-ready c.before.before.before.before.before.before.before.before.before.before.before.before.before.before.before.before.before.before.before.before.requires.0 _ c.before.before.before.before.before.before.before.before.before.before.before.before.before.before.before.before.before.before.before.before.requires.1 c.before.before.before.before.before.before.before.before.before.before.if1.false (λ p h. absurd (omega arith)) (inl (held_none _)) c.before.before.before.before.before.before.discover.ensures, kept_refl _ _, refl, refl, refl, refl, refl, none)
+    (push_ready c.before.before.before.before.before.before.before.before.before.before.before.before.before.before.before.before.before.before.before.before.requires.0 _ c.before.before.before.before.before.before.before.before.before.before.before.before.before.before.before.before.before.before.before.before.requires.1 c.before.before.before.before.before.before.before.before.before.before.if1.false (λ p h. absurd (omega arith)) (inl (held_none _)) c.before.before.before.before.before.before.discover.ensures, kept_refl _ _, refl, refl, refl, refl, refl, none)
 
 step-requires : tie.Need-step-requires invariant-loop decreases-loop
 step-requires c κs =
@@ -87,9 +87,9 @@ returns-2 c =
     let z : c.before.loop.sp ≡ 0 = omega arith in
     record {
       kept = kept_trans (push_kept c.before.before.before.before.before.before.before.before.before.before.before.before.before.before.before.before.before.before.before.before.before.before.requires.0 _ c.before.before.before.before.before.before.before.before.before.before.before.before.before.before.before.before.before.before.before.before.before.before.requires.1 c.before.before.before.before.before.before.before.before.before.before.before.before.if1.false (λ p h. absurd (omega arith)) (inl (held_none _)) c.before.before.before.before.before.before.before.before.discover.ensures) v.1;
-      known = v.1.known _ c.before.before.before.before.before.before.before.before.before.before.before.before.before.before.before.before.before.before.before.before.before.before.requires.1 (push-known c.before.before.before.before.before.before.before.before.before.before.before.before.before.before.before.before.before.before.before.before.before.before.requires.0 _ c.before.before.before.before.before.before.before.before.before.before.before.before.before.before.before.before.before.before.before.before.before.before.requires.1 c.before.before.before.before.before.before.before.before.before.before.before.before.if1.false (λ p h. absurd (omega arith)) (inl (held_none _)) c.before.before.before.before.before.before.before.before.discover.ensures);
+      known = v.1.known _ c.before.before.before.before.before.before.before.before.before.before.before.before.before.before.before.before.before.before.before.before.before.before.requires.1 (push_known c.before.before.before.before.before.before.before.before.before.before.before.before.before.before.before.before.before.before.before.before.before.before.requires.0 _ c.before.before.before.before.before.before.before.before.before.before.before.before.before.before.before.before.before.before.before.before.before.before.requires.1 c.before.before.before.before.before.before.before.before.before.before.before.before.if1.false (λ p h. absurd (omega arith)) (inl (held_none _)) c.before.before.before.before.before.before.before.before.discover.ensures);
       ready = rw z at v.0;
-      ran = run_join (more none (push-moved c.before.before.before.before.before.before.before.before.before.before.before.before.before.before.before.before.before.before.before.before.before.before.requires.0 _ c.before.before.before.before.before.before.before.before.before.before.before.before.before.before.before.before.before.before.before.before.before.before.requires.1 c.before.before.before.before.before.before.before.before.before.before.before.before.if1.false (λ p h. absurd (omega arith)) (inl (held_none _)) c.before.before.before.before.before.before.before.before.discover.ensures)) (rw z at v.7);
+      ran = run_join (more none (push_moved c.before.before.before.before.before.before.before.before.before.before.before.before.before.before.before.before.before.before.before.before.before.before.requires.0 _ c.before.before.before.before.before.before.before.before.before.before.before.before.before.before.before.before.before.before.before.before.before.before.requires.1 c.before.before.before.before.before.before.before.before.before.before.before.before.if1.false (λ p h. absurd (omega arith)) (inl (held_none _)) c.before.before.before.before.before.before.before.before.discover.ensures)) (rw z at v.7);
     }
 
 pub search-spec : {M : Type 1} → statement M

@@ -1,7 +1,7 @@
 -- `graph_depth_first::step` meets its contract. Assumes nothing.
 use mathlib.Core.Path.{sym, ◌∙◌}
 use Rattle.graph_neighbours.specs.Lists.{row_of, place_of}
-use Rattle.graph_depth_first.proofs.Layer.{pop_step, next-in, visit-can, visit-step}
+use Rattle.graph_depth_first.proofs.Layer.{pop_step, next_in, visit_can, visit_step}
 use borrow.Author.Rules.{rules}
 use Rattle.graph_depth_first.proofs.step.Statement.{statement}
 use Rattle.graph_depth_first.proofs.step.Tie as tie
@@ -52,11 +52,11 @@ returns c =
 
 neighbour-requires : tie.Need-neighbour-requires
 neighbour-requires c κs =
-    place_of c.before.before.before.before.before.before.before.before.before.before.before.before.requires.0.graph _ _ c.before.before.before.before.before.before.before.before.before.before.before.before.requires.1.node (next-in c.before.before.before.before.before.before.before.before.before.before.before.before.requires.0 c.before.before.before.before.before.before.before.before.before.before.before.before.requires.1 (λ h. c.if1.false (h ∙ sym c.before.degree.ensures)))
+    place_of c.before.before.before.before.before.before.before.before.before.before.before.before.requires.0.graph _ _ c.before.before.before.before.before.before.before.before.before.before.before.before.requires.1.node (next_in c.before.before.before.before.before.before.before.before.before.before.before.before.requires.0 c.before.before.before.before.before.before.before.before.before.before.before.before.requires.1 (λ h. c.if1.false (h ∙ sym c.before.degree.ensures)))
 
 visit-requires : tie.Need-visit-requires
 visit-requires c κs =
-    visit-can c.before.before.before.before.before.before.before.before.before.before.before.before.before.before.before.before.before.requires.0 c.before.before.before.before.before.before.before.before.before.before.before.before.before.before.before.before.before.requires.1 (λ h. c.before.before.before.before.before.if1.false (h ∙ sym c.before.before.before.before.before.before.degree.ensures)) c.before.before.before.before.neighbour.ensures
+    visit_can c.before.before.before.before.before.before.before.before.before.before.before.before.before.before.before.before.before.requires.0 c.before.before.before.before.before.before.before.before.before.before.before.before.before.before.before.before.before.requires.1 (λ h. c.before.before.before.before.before.if1.false (h ∙ sym c.before.before.before.before.before.before.degree.ensures)) c.before.before.before.before.neighbour.ensures
 
 same-length-3 : tie.Need-same-length-3
 same-length-3 c = search rules
@@ -72,7 +72,7 @@ same-length-6 c = search rules
 
 returns-2 : tie.Need-returns-2
 returns-2 c =
-    visit-step c.before.before.before.before.before.before.before.before.before.before.before.before.before.before.before.before.before.before.before.before.before.before.before.before.before.before.requires.0 c.before.before.before.before.before.before.before.before.before.before.before.before.before.before.before.before.before.before.before.before.before.before.before.before.before.before.requires.1 (λ h. c.before.before.before.before.before.before.before.before.before.before.before.before.before.before.if1.false (h ∙ sym c.before.before.before.before.before.before.before.before.before.before.before.before.before.before.before.degree.ensures)) c.before.before.before.before.before.before.before.before.before.before.before.before.before.neighbour.ensures c.before.before.before.before.before.before.before.before.visit.ensures
+    visit_step c.before.before.before.before.before.before.before.before.before.before.before.before.before.before.before.before.before.before.before.before.before.before.before.before.before.before.requires.0 c.before.before.before.before.before.before.before.before.before.before.before.before.before.before.before.before.before.before.before.before.before.before.before.before.before.before.requires.1 (λ h. c.before.before.before.before.before.before.before.before.before.before.before.before.before.before.if1.false (h ∙ sym c.before.before.before.before.before.before.before.before.before.before.before.before.before.before.before.degree.ensures)) c.before.before.before.before.before.before.before.before.before.before.before.before.before.neighbour.ensures c.before.before.before.before.before.before.before.before.visit.ensures
 
 pub step_spec : {M : Type 1} → statement M
 step_spec =

@@ -1,7 +1,7 @@
 -- `graph_slots::flag_component` meets its contract. Assumes nothing.
 use native.Mathlib.Omega.{arith}
 use mathlib.Core.Path.{refl}
-use Rattle.graph_slots.proofs.Turned.{only-can, only-slots}
+use Rattle.graph_slots.proofs.Turned.{only_can, only_slots}
 use borrow.Author.Rules.{rules}
 use Rattle.graph_slots.proofs.flag_component.Statement.{statement}
 use Rattle.graph_slots.proofs.flag_component.Tie as tie
@@ -31,7 +31,7 @@ slice-aggregate-only-cyclic-component-2 : tie.Need-slice-aggregate-only-cyclic-c
 slice-aggregate-only-cyclic-component-2 c = search rules
 
 only-cyclic-component-requires : tie.Need-only-cyclic-component-requires
-only-cyclic-component-requires c κs = only-can c.before.before.before.before.before.before.before.before.before.before.before.before.before.before.before.before.before.before.requires refl refl c.before.before.before.before.before.before.before.group.ensures
+only-cyclic-component-requires c κs = only_can c.before.before.before.before.before.before.before.before.before.before.before.before.before.before.before.before.before.before.requires refl refl c.before.before.before.before.before.before.before.group.ensures
 
 same_length : tie.Need-same-length
 same_length c = search rules
@@ -43,7 +43,7 @@ same-length-3 : tie.Need-same-length-3
 same-length-3 c = search rules
 
 returns : tie.Need-returns
-returns c = only-slots c.before.before.before.before.before.before.before.before.before.before.before.before.before.before.before.before.before.before.before.before.before.before.before.before.before.requires refl refl c.before.before.before.before.before.before.before.before.before.before.before.before.before.before.group.ensures c.before.before.before.before.before.before.only-cyclic-component.ensures
+returns c = only_slots c.before.before.before.before.before.before.before.before.before.before.before.before.before.before.before.before.before.before.before.before.before.before.before.before.before.requires refl refl c.before.before.before.before.before.before.before.before.before.before.before.before.before.before.group.ensures c.before.before.before.before.before.before.only-cyclic-component.ensures
 
 pub flag-component-spec : {M : Type 1} → statement M
 flag-component-spec =

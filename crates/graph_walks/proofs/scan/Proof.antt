@@ -6,7 +6,7 @@ use lib.ListN.{length}
 use Rattle.graph_neighbours.specs.Direction.{along}
 use Rattle.graph_neighbours.specs.Lists.{deg, nb, edge, row_of, place_of}
 use Rattle.graph_walks.specs.Spread.{every, Scanned}
-use Rattle.graph_walks.proofs.Layer.{scan-none, turn-can, turn_more}
+use Rattle.graph_walks.proofs.Layer.{scan_none, turn_can, turn_more}
 use Rattle.graph_walks.proofs.Ends.{offers_list}
 use Rattle.graph_walks.proofs.scan.Statement.{statement}
 use Rattle.graph_walks.proofs.scan.Tie as tie
@@ -26,7 +26,7 @@ degree-requires c κs =
 
 loop-holds : tie.Need-loop-init invariant-loop decreases-loop
 loop-holds c =
-    (scan-none (offers_list c.before.before.before.before.before.before.requires.graph) c.before.before.before.before.before.before.requires.ready, omega arith, refl, refl)
+    (scan_none (offers_list c.before.before.before.before.before.before.requires.graph) c.before.before.before.before.before.before.requires.ready, omega arith, refl, refl)
 
 neighbour-requires : tie.Need-neighbour-requires invariant-loop decreases-loop
 neighbour-requires c κs =
@@ -34,7 +34,7 @@ neighbour-requires c κs =
 
 look-requires : tie.Need-look-requires invariant-loop decreases-loop
 look-requires c κs =
-    turn-can (offers_list c.before.before.before.before.before.before.before.before.before.before.before.requires.graph) c.before.before.before.before.loop.invariant.0 c.before.before.before.before.before.before.before.before.before.before.before.requires.node (omega (arith, c.before.before.before.before.before.degree.ensures, c.before.before.before.loop-test.true)) refl c.before.before.neighbour.ensures
+    turn_can (offers_list c.before.before.before.before.before.before.before.before.before.before.before.requires.graph) c.before.before.before.before.loop.invariant.0 c.before.before.before.before.before.before.before.before.before.before.before.requires.node (omega (arith, c.before.before.before.before.before.degree.ensures, c.before.before.before.loop-test.true)) refl c.before.before.neighbour.ensures
 
 add-j : tie.Need-overflow-add-j invariant-loop decreases-loop
 add-j c =

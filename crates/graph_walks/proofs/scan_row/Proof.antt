@@ -5,8 +5,8 @@ use mathlib.Core.Path.{◌≡◌, refl, ◌∙◌}
 use lib.ListN.{length}
 use Rattle.graph_walks.specs.Closed.{flag_edge}
 use Rattle.graph_walks.specs.Spread.{wide, itself, Scanned}
-use Rattle.graph_walks.proofs.Layer.{scan-none}
-use Rattle.graph_walks.proofs.Ends.{offers_rows, flag-can, flag-more}
+use Rattle.graph_walks.proofs.Layer.{scan_none}
+use Rattle.graph_walks.proofs.Ends.{offers_rows, flag_can, flag-more}
 use Rattle.graph_walks.proofs.scan_row.Statement.{statement}
 use Rattle.graph_walks.proofs.scan_row.Tie as tie
 
@@ -25,7 +25,7 @@ mul-from c =
 
 loop-holds : tie.Need-loop-init invariant-loop decreases-loop
 loop-holds c =
-    (scan-none (offers_rows _ _ _) c.before.before.before.requires.ready, omega arith, refl, refl)
+    (scan_none (offers_rows _ _ _) c.before.before.before.requires.ready, omega arith, refl, refl)
 
 add-look-flag : tie.Need-overflow-add-look-flag invariant-loop decreases-loop
 add-look-flag c =
@@ -45,7 +45,7 @@ cast-look-flag c =
 
 look-flag-requires : tie.Need-look-flag-requires invariant-loop decreases-loop
 look-flag-requires c κs =
-    flag-can c.before.before.before.before.before.before.before.before.requires c.before.before.before.before.loop.invariant.0 c.before.before.before.loop-test.true
+    flag_can c.before.before.before.before.before.before.before.before.requires c.before.before.before.before.loop.invariant.0 c.before.before.before.loop-test.true
 
 add-j : tie.Need-overflow-add-j invariant-loop decreases-loop
 add-j c =

@@ -5,7 +5,7 @@ use lib.ListN.{length}
 use Rattle.graph_neighbours.specs.Direction.{along}
 use Rattle.graph_neighbours.specs.Lists.{deg, nb, edge}
 use Rattle.graph_walks.specs.Spread.{every, size, Done}
-use Rattle.graph_walks.proofs.Layer.{done_none, done_more, top-node, top_ready, scan_less}
+use Rattle.graph_walks.proofs.Layer.{done_none, done_more, top_node, top_ready, scan_less}
 use Rattle.graph_walks.proofs.Ends.{offers_list}
 use Rattle.graph_walks.proofs.spread.Statement.{statement}
 use Rattle.graph_walks.proofs.spread.Tie as tie
@@ -37,11 +37,11 @@ slice-read-t c =
 
 cast_t : tie.Need-overflow-cast-t invariant-loop decreases-loop
 cast_t c =
-    omega (arith, top-node (offers_list c.before.before.before.before.before.before.before.before.requires.graph) c.before.before.loop.invariant.0 (omega arith))
+    omega (arith, top_node (offers_list c.before.before.before.before.before.before.before.before.requires.graph) c.before.before.loop.invariant.0 (omega arith))
 
 scan-requires : tie.Need-scan-requires invariant-loop decreases-loop
 scan-requires c κs =
-    record { graph = c.before.before.before.before.before.before.before.before.before.before.requires.graph; ready = top_ready (offers_list c.before.before.before.before.before.before.before.before.before.before.requires.graph) c.before.before.before.before.loop.invariant.0 (omega arith); node = top-node (offers_list c.before.before.before.before.before.before.before.before.before.before.requires.graph) c.before.before.before.before.loop.invariant.0 (omega arith) }
+    record { graph = c.before.before.before.before.before.before.before.before.before.before.requires.graph; ready = top_ready (offers_list c.before.before.before.before.before.before.before.before.before.before.requires.graph) c.before.before.before.before.loop.invariant.0 (omega arith); node = top_node (offers_list c.before.before.before.before.before.before.before.before.before.before.requires.graph) c.before.before.before.before.loop.invariant.0 (omega arith) }
 
 loop-less : tie.Need-loop-smaller invariant-loop decreases-loop
 loop-less c =

@@ -5,7 +5,7 @@ use native.Mathlib.Omega.{arith}
 use mathlib.Core.Path.{◌≡◌, refl, ◌∙◌}
 use lib.ListN.{length}
 use Rattle.graph_walks.specs.Spread.{wide, itself, size, Done}
-use Rattle.graph_walks.proofs.Layer.{done_none, done_more, top-node, top_ready, scan_less}
+use Rattle.graph_walks.proofs.Layer.{done_none, done_more, top_node, top_ready, scan_less}
 use Rattle.graph_walks.proofs.spread_rows.Statement.{statement}
 use Rattle.graph_walks.proofs.spread_rows.Tie as tie
 
@@ -36,11 +36,11 @@ slice-read-t c =
 
 cast_t : tie.Need-overflow-cast-t invariant-loop decreases-loop
 cast_t c =
-    omega (arith, top-node (offers_rows _ _ _) c.before.before.loop.invariant.0 (omega arith))
+    omega (arith, top_node (offers_rows _ _ _) c.before.before.loop.invariant.0 (omega arith))
 
 scan-row-requires : tie.Need-scan-row-requires invariant-loop decreases-loop
 scan-row-requires c κs =
-    row_can c.before.before.before.before.before.before.before.before.requires.rows (top_ready (offers_rows _ _ _) c.before.before.before.before.loop.invariant.0 (omega arith)) (top-node (offers_rows _ _ _) c.before.before.before.before.loop.invariant.0 (omega arith))
+    row_can c.before.before.before.before.before.before.before.before.requires.rows (top_ready (offers_rows _ _ _) c.before.before.before.before.loop.invariant.0 (omega arith)) (top_node (offers_rows _ _ _) c.before.before.before.before.loop.invariant.0 (omega arith))
 
 loop-less : tie.Need-loop-smaller invariant-loop decreases-loop
 loop-less c =

@@ -1,4 +1,4 @@
-use Rattle.merge_area.proofs.Laws.{head_first, head-second, head-third, head-last}
+use Rattle.merge_area.proofs.Laws.{head_first, head_second, head_third, head-last}
 use native.Mathlib.Omega.{arith}
 use borrow.Author.Rules.{rules}
 use Rattle.merge_area.proofs.head_has_fault.Statement.{statement}
@@ -20,7 +20,7 @@ returns : tie.Need-returns
 returns c = head_first _ _ (omega (arith, c.if1.true, c.before.before.header.ensures, c.before.header2.ensures))
 
 returns-2 : tie.Need-returns-2
-returns-2 c = head-second _ _ (omega (arith, c.before.before.if1.false, c.before.before.before.before.header.ensures, c.before.before.before.header2.ensures)) (omega (arith, c.if2.true, c.before.before.before.before.header.ensures))
+returns-2 c = head_second _ _ (omega (arith, c.before.before.if1.false, c.before.before.before.before.header.ensures, c.before.before.before.header2.ensures)) (omega (arith, c.if2.true, c.before.before.before.before.header.ensures))
 
 add-if3 : tie.Need-overflow-add-if3
 add-if3 c = search rules
@@ -32,7 +32,7 @@ cast-if3 : tie.Need-overflow-cast-if3
 cast-if3 c = search rules
 
 returns-3 : tie.Need-returns-3
-returns-3 c = head-third _ _ (omega (arith, c.before.before.before.before.before.if1.false, c.before.before.before.before.before.before.before.header.ensures, c.before.before.before.before.before.before.header2.ensures)) (omega (arith, c.before.before.before.if2.false, c.before.before.before.before.before.before.before.header.ensures)) (omega (arith, c.if3.true, c.before.before.before.before.before.before.before.header.ensures, c.before.header3.ensures))
+returns-3 c = head_third _ _ (omega (arith, c.before.before.before.before.before.if1.false, c.before.before.before.before.before.before.before.header.ensures, c.before.before.before.before.before.before.header2.ensures)) (omega (arith, c.before.before.before.if2.false, c.before.before.before.before.before.before.before.header.ensures)) (omega (arith, c.if3.true, c.before.before.before.before.before.before.before.header.ensures, c.before.header3.ensures))
 
 header-requires-4 : tie.Need-header-requires-4
 header-requires-4 c κs = search rules

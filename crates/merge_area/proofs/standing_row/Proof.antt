@@ -1,4 +1,4 @@
-use Rattle.merge_area.proofs.Laws.{stands-over, stands-many, stands-lists, stands-short, stands-odd, stands}
+use Rattle.merge_area.proofs.Laws.{stands-over, stands_many, stands-lists, stands-short, stands_odd, stands}
 use Rattle.merge_area.specs.Within.{within, longs}
 use mathlib.Core.Path.{sym, ◌∙◌}
 use borrow.Author.Rules.{rules}
@@ -12,7 +12,7 @@ returns : tie.Need-returns
 returns c = stands-over _ _ _ _ c.before.over-limits.ensures c.if1.true
 
 returns-2 : tie.Need-returns-2
-returns-2 c = stands-many _ _ _ _ c.before.before.over-limits.ensures c.before.if1.false c.if2.true
+returns-2 c = stands_many _ _ _ _ c.before.before.over-limits.ensures c.before.if1.false c.if2.true
 
 returns-3 : tie.Need-returns-3
 returns-3 c = stands-lists _ _ _ _ c.before.before.before.over-limits.ensures c.before.before.if1.false c.before.if2.false c.if3.true
@@ -27,7 +27,7 @@ is-inconsistent-requires : tie.Need-is-inconsistent-requires
 is-inconsistent-requires c κs = (within _ (sym c.before.before.before.before.before.over-limits.ensures ∙ c.before.before.before.before.if1.false), longs _ _ (sym c.before.too_short.ensures ∙ c.if4.false))
 
 returns-5 : tie.Need-returns-5
-returns-5 c = stands-odd _ _ _ _ c.before.before.before.before.before.before.before.over-limits.ensures c.before.before.before.before.before.before.if1.false c.before.before.before.before.before.if2.false c.before.before.before.before.if3.false c.before.before.before.too_short.ensures c.before.before.if4.false c.before.is-inconsistent.ensures c.if5.true
+returns-5 c = stands_odd _ _ _ _ c.before.before.before.before.before.before.before.over-limits.ensures c.before.before.before.before.before.before.if1.false c.before.before.before.before.before.if2.false c.before.before.before.before.if3.false c.before.before.before.too_short.ensures c.before.before.if4.false c.before.is-inconsistent.ensures c.if5.true
 
 returns-6 : tie.Need-returns-6
 returns-6 c = stands _ _ _ _ c.before.before.before.before.before.before.before.over-limits.ensures c.before.before.before.before.before.before.if1.false c.before.before.before.before.before.if2.false c.before.before.before.before.if3.false c.before.before.before.too_short.ensures c.before.before.if4.false c.before.is-inconsistent.ensures c.if5.false

@@ -3,7 +3,7 @@ use Prim.Native.Nat.{◌+◌, ◌-◌, ◌≤◌}
 use native.Mathlib.Omega.{arith}
 use mathlib.Core.Path.{◌≡◌}
 use Rattle.merge_area.specs.Writes.{linked}
-use Rattle.merge_laws.specs.Keeps.{linked-can, linked_long, linked-none, linked-more}
+use Rattle.merge_laws.specs.Keeps.{linked_can, linked_long, linked-none, linked-more}
 use Rattle.merge_dependencies.proofs.add_links.Statement.{statement}
 use Rattle.merge_dependencies.proofs.add_links.Tie as tie
 
@@ -38,7 +38,7 @@ slice-read-y : tie.Need-slice-read-y invariant-loop decreases-loop
 slice-read-y c = omega (arith, c.before.home-place.ensures, c.before.before.before.before.before.before.before.requires.modules (c.before.before.before.before.before.before.before.args.from + c.before.before.before.before.loop.j) (omega (arith, c.before.before.before.before.before.before.before.requires.part)), c.before.before.before.before.before.before.before.requires.long, linked_long _ _ _ _ _ _ c.before.before.before.before.before.before.before.requires _ _ c.before.before.before.before.loop.invariant.1 c.before.before.before.before.loop.invariant.0)
 
 add-link-requires : tie.Need-add-link-requires invariant-loop decreases-loop
-add-link-requires c κs = rw c.before.before.home-place.ensures (linked-can _ _ _ _ _ _ c.before.before.before.before.before.before.before.before.requires _ _ c.before.before.before.before.before.loop.invariant.1 c.before.before.before.before.loop-test.true)
+add-link-requires c κs = rw c.before.before.home-place.ensures (linked_can _ _ _ _ _ _ c.before.before.before.before.before.before.before.before.requires _ _ c.before.before.before.before.before.loop.invariant.1 c.before.before.before.before.loop-test.true)
 
 add-j : tie.Need-overflow-add-j invariant-loop decreases-loop
 add-j c = omega arith

@@ -2,7 +2,7 @@ use native.Mathlib.Omega.{arith}
 use Prim.Native.Nat.{◌-◌}
 use mathlib.Core.Path.{◌≡◌}
 use Rattle.merge_area.specs.Layout.{cell, head}
-use Rattle.merge_pass.specs.Going.{Going, going_none, going-can, going_more, going-length, going-kinds, going-numbers, going_done}
+use Rattle.merge_pass.specs.Going.{Going, going_none, going_can, going_more, going_length, going_kinds, going_numbers, going_done}
 use Rattle.merge_pass.proofs.commit.Statement.{statement}
 use Rattle.merge_pass.proofs.commit.Tie as tie
 
@@ -22,7 +22,7 @@ loop-holds : tie.Need-loop-init invariant-loop decreases-loop
 loop-holds c = (c.header.ensures, going_none _ _ _ _ _ _)
 
 turn-requires : tie.Need-turn-requires invariant-loop decreases-loop
-turn-requires c κs = going-can c.before.before.before.before.before.before.before.before.before.before.before.before.requires c.before.before.before.before.loop.invariant.1 (omega (arith, c.before.before.before.before.loop.invariant.0))
+turn-requires c κs = going_can c.before.before.before.before.before.before.before.before.before.before.before.before.requires c.before.before.before.before.loop.invariant.1 (omega (arith, c.before.before.before.before.loop.invariant.0))
 
 add-k : tie.Need-overflow-add-k invariant-loop decreases-loop
 add-k c = omega arith
@@ -34,13 +34,13 @@ loop-again : tie.Need-loop-preserved invariant-loop decreases-loop
 loop-again c = (c.before.before.before.before.before.before.before.before.before.before.before.loop.invariant.0, going_more c.before.before.before.before.before.before.before.before.before.before.before.before.before.before.before.before.before.before.before.requires c.before.before.before.before.before.before.before.before.before.before.before.loop.invariant.1 (omega (arith, c.before.before.before.before.before.before.before.before.before.before.before.loop.invariant.0)) c.before.before.before.before.before.before.turn.ensures)
 
 same_length : tie.Need-same-length invariant-loop decreases-loop
-same_length c = going-length c.before.before.before.before.before.before.before.before.before.requires c.before.loop.invariant.1
+same_length c = going_length c.before.before.before.before.before.before.before.before.before.requires c.before.loop.invariant.1
 
 same-length-2 : tie.Need-same-length-2 invariant-loop decreases-loop
-same-length-2 c = going-kinds c.before.before.before.before.before.before.before.before.before.requires c.before.loop.invariant.1
+same-length-2 c = going_kinds c.before.before.before.before.before.before.before.before.before.requires c.before.loop.invariant.1
 
 same-length-3 : tie.Need-same-length-3 invariant-loop decreases-loop
-same-length-3 c = going-numbers c.before.before.before.before.before.before.before.before.before.requires c.before.loop.invariant.1
+same-length-3 c = going_numbers c.before.before.before.before.before.before.before.before.before.requires c.before.loop.invariant.1
 
 returns : tie.Need-returns invariant-loop decreases-loop
 returns c = going_done c.before.before.before.before.before.before.before.before.before.requires c.before.loop.invariant.1 (omega (arith, c.before.loop.invariant.0, c.before.loop.invariant.1.few))

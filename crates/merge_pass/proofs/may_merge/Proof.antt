@@ -1,11 +1,11 @@
 -- `merge_pass::may_merge` meets its contract. Assumes nothing.
-use Rattle.merge_pass.specs.Placing.{not-proposed, barred, asked}
+use Rattle.merge_pass.specs.Placing.{not_proposed, barred, asked}
 use native.Mathlib.Omega.{arith}
 use Rattle.merge_pass.proofs.may_merge.Statement.{statement}
 use Rattle.merge_pass.proofs.may_merge.Tie as tie
 
 returns : tie.Need-returns
-returns c = not-proposed _ _ _ _ c.if1.true
+returns c = not_proposed _ _ _ _ c.if1.true
 
 returns-2 : tie.Need-returns-2
 returns-2 c = barred _ _ _ _ c.before.if1.false c.if2.true

@@ -1,7 +1,7 @@
 use native.Mathlib.Omega.{arith}
 use mathlib.Core.Path.{refl, sym, ◌∙◌}
 use Rattle.merge_reads.specs.Pass.{proposed, place-merge}
-use Rattle.merge_pass.specs.Placing.{placed-merged, placed-created}
+use Rattle.merge_pass.specs.Placing.{placed-merged, placed_created}
 use borrow.Author.Rules.{rules}
 use Rattle.merge_pass.proofs.place.Statement.{statement}
 use Rattle.merge_pass.proofs.place.Tie as tie
@@ -34,7 +34,7 @@ same-length-2 : tie.Need-same-length-2
 same-length-2 c = search rules
 
 returns-2 : tie.Need-returns-2
-returns-2 c = placed-created _ _ _ _ _ c.before.before.before.before.before.before.before.before.before.may-merge.ensures _ c.before.before.before.before.before.before.before.before.if1.false refl (omega (arith, c.before.before.before.before.before.before.header.ensures, c.before.before.before.before.header2.ensures)) c.before.before.create.ensures
+returns-2 c = placed_created _ _ _ _ _ c.before.before.before.before.before.before.before.before.before.may-merge.ensures _ c.before.before.before.before.before.before.before.before.if1.false refl (omega (arith, c.before.before.before.before.before.before.header.ensures, c.before.before.before.before.header2.ensures)) c.before.before.create.ensures
 
 pub place-spec : {M : Type 1} → statement M
 place-spec =

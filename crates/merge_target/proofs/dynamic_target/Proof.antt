@@ -1,5 +1,5 @@
 -- `merge_target::dynamic_target` meets its contract. Assumes nothing.
-use Rattle.merge_choice.specs.Chosen.{can-first, can_pollute, found_below, dynamic-none, dynamic-polluted, dynamic-found}
+use Rattle.merge_choice.specs.Chosen.{can_first, can_pollute, found_below, dynamic-none, dynamic-polluted, dynamic-found}
 use borrow.Author.Rules.{rules}
 use Rattle.merge_target.proofs.dynamic_target.Statement.{statement}
 use Rattle.merge_target.proofs.dynamic_target.Tie as tie
@@ -8,7 +8,7 @@ bits-requires : tie.Need-bits-requires
 bits-requires c κs = search rules
 
 first-target-requires : tie.Need-first-target-requires
-first-target-requires c κs = can-first c.before.before.before.before.before.before.before.requires.0 c.bits.ensures
+first-target-requires c κs = can_first c.before.before.before.before.before.before.before.requires.0 c.bits.ensures
 
 returns : tie.Need-returns
 returns c = let s = c.before.before.before.before.before.before.before.before.before.args in dynamic-none s.roles.now _ _ _ _ _ c.before.before.bits.ensures c.before.first-target.ensures c.if1.true

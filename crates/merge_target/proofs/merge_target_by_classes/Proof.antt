@@ -1,7 +1,7 @@
 -- `merge_target::merge_target_by_classes` meets its contract. Assumes nothing.
 use mathlib.Core.Path.{sym, ◌∙◌}
 use borrow.Author.Rules.{rules}
-use Rattle.merge_choice.specs.Classes.{classes, by-lists, by-classes, by-choice}
+use Rattle.merge_choice.specs.Classes.{classes, by-lists, by_classes, by-choice}
 use Rattle.merge_target.proofs.merge_target_by_classes.Statement.{statement}
 use Rattle.merge_target.proofs.merge_target_by_classes.Tie as tie
 
@@ -16,7 +16,7 @@ are-refused-requires c κs = search rules
 
 returns-2 : tie.Need-returns-2
 returns-2 c =
-    by-classes _ _ _ _ _ _ (sym c.before.before.before.is-refused.ensures ∙ c.before.before.if1.false) (sym c.before.are-refused.ensures ∙ c.if2.true)
+    by_classes _ _ _ _ _ _ (sym c.before.before.before.is-refused.ensures ∙ c.before.before.if1.false) (sym c.before.are-refused.ensures ∙ c.if2.true)
 
 choose-requires : tie.Need-choose-requires
 choose-requires c κs =

@@ -1,4 +1,4 @@
-use Rattle.graph_walks.specs.ClosedLaws.{flag-from, flag-to}
+use Rattle.graph_walks.specs.ClosedLaws.{flag_from, flag-to}
 use native.Mathlib.Omega.{arith}
 use Rattle.merge_warning.specs.Hits.{marked-yes, closed-reach}
 use Rattle.graphs.specs.Tab.{zeros}
@@ -23,7 +23,7 @@ array-read-result : tie.Need-array-read-result
 array-read-result c = search rules
 
 returns : tie.Need-returns
-returns c = marked-yes _ _ _ _ (λ x h. zeros 1024 x) (omega (arith, c.before.before.before.before.before.before.requires.narrow, c.before.before.before.before.before.before.requires.few)) c.before.before.closure.ensures _ c.before.before.before.before.before.before.requires.second ∙ closed-reach _ _ (flag-from _ _ _) (flag-to _ _ _) _ _
+returns c = marked-yes _ _ _ _ (λ x h. zeros 1024 x) (omega (arith, c.before.before.before.before.before.before.requires.narrow, c.before.before.before.before.before.before.requires.few)) c.before.before.closure.ensures _ c.before.before.before.before.before.before.requires.second ∙ closed-reach _ _ (flag_from _ _ _) (flag-to _ _ _) _ _
 
 pub reaches-spec : {M : Type 1} → statement M
 reaches-spec =

@@ -5,7 +5,7 @@ use mathlib.Core.Path.{◌≡◌, sym, ap, ◌∙◌}
 use Rattle.graphs.specs.Count.{ind, ind_le}
 use Rattle.graphs.specs.Slots.{cell}
 use Rattle.move_edges.specs.Steps.{Grown, filled}
-use Rattle.move_edges.proofs.Following.{grown_none, fill-can, fill_more, fill_done, fill_none, fill-tally}
+use Rattle.move_edges.proofs.Following.{grown_none, fill_can, fill_more, fill_done, fill_none, fill_tally}
 use Rattle.move_edges.proofs.fill.Statement.{statement}
 use Rattle.move_edges.proofs.fill.Tie as tie
 
@@ -37,7 +37,7 @@ shared-slice-read-add-2 : tie.Need-shared-slice-read-add-2 invariant-loop decrea
 shared-slice-read-add-2 c = omega arith
 
 add-requires : tie.Need-add-requires invariant-loop decreases-loop
-add-requires c κs = fill-can c.before.before.before.before.before.before.before.before.before.before.before.before.requires c.before.before.before.before.before.before.before.fill-with.ensures c.before.before.before.before.loop.invariant.1 c.before.before.before.loop-test.true
+add-requires c κs = fill_can c.before.before.before.before.before.before.before.before.before.before.before.before.requires c.before.before.before.before.before.before.before.fill-with.ensures c.before.before.before.before.loop.invariant.1 c.before.before.before.loop-test.true
 
 told-requires : tie.Need-told-requires invariant-loop decreases-loop
 told-requires c κs = tt
@@ -55,7 +55,7 @@ loop-again : tie.Need-loop-preserved invariant-loop decreases-loop
 loop-again c = (
   omega arith,
   fill_more c.before.before.before.before.before.before.before.before.before.before.before.before.before.before.before.before.requires c.before.before.before.before.before.before.before.before.before.before.before.fill-with.ensures c.before.before.before.before.before.before.before.before.loop.invariant.1 c.before.before.before.before.before.before.before.loop-test.true c.before.before.before.add.ensures.1,
-  fill-tally c.before.before.before.before.before.before.before.before.before.before.before.before.before.before.before.before.requires c.before.before.before.before.before.before.before.before.before.before.before.fill-with.ensures c.before.before.before.before.before.before.before.before.loop.invariant.1 c.before.before.before.before.before.before.before.loop-test.true c.before.before.before.add.ensures.1 c.before.before.before.before.before.before.before.before.loop.found (c.told.ensures ∙ ap ind c.before.before.before.add.ensures.0) c.before.before.before.before.before.before.before.before.loop.invariant.2,
+  fill_tally c.before.before.before.before.before.before.before.before.before.before.before.before.before.before.before.before.requires c.before.before.before.before.before.before.before.before.before.before.before.fill-with.ensures c.before.before.before.before.before.before.before.before.loop.invariant.1 c.before.before.before.before.before.before.before.loop-test.true c.before.before.before.add.ensures.1 c.before.before.before.before.before.before.before.before.loop.found (c.told.ensures ∙ ap ind c.before.before.before.add.ensures.0) c.before.before.before.before.before.before.before.before.loop.invariant.2,
   omega (arith, c.before.before.before.before.before.before.before.before.loop.invariant.3, c.told.ensures, ind_le c.before.before.before.add.result),
 )
 

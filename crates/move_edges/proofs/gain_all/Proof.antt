@@ -6,7 +6,7 @@ use mathlib.Core.Path.{◌≡◌}
 use mathlib.Core.Bool.{◌&&◌}
 use lib.ListN.{get_or}
 use Rattle.graphs.specs.Count.{ind_le}
-use Rattle.move_edges.proofs.Following.{grown_none, grown_done, gain-can, gain-more, gain-tally}
+use Rattle.move_edges.proofs.Following.{grown_none, grown_done, gain_can, gain_more, gain_tally}
 use Rattle.move_edges.proofs.gain_all.Statement.{statement}
 use Rattle.move_edges.proofs.gain_all.Tie as tie
 
@@ -44,7 +44,7 @@ shared-slice-read-gain-4 : tie.Need-shared-slice-read-gain-4 invariant-loop decr
 shared-slice-read-gain-4 c = omega arith
 
 gain-requires : tie.Need-gain-requires invariant-loop decreases-loop
-gain-requires c κs = gain-can c.before.before.before.before.before.before.before.before.before.before.before.before.requires c.before.before.before.before.before.before.loop.invariant.1 c.before.before.before.before.before.loop-test.true
+gain-requires c κs = gain_can c.before.before.before.before.before.before.before.before.before.before.before.before.requires c.before.before.before.before.before.before.loop.invariant.1 c.before.before.before.before.before.loop-test.true
 
 add-found : tie.Need-overflow-add-found invariant-loop decreases-loop
 add-found c = omega (arith, c.before.before.before.before.before.before.before.before.before.loop.invariant.3, c.before.before.before.before.before.before.before.before.before.loop.invariant.0, ind_le (changed c.before.before.before.before.before.before.before.before.before.before.before.before.before.before.before.args.s.now c.before.before.before.before.before.before.before.before.before.before.before.before.before.before.before.args.t.now c.before.before.before.before.before.before.before.before.before.before.before.before.before.before.before.args.u.now c.before.before.before.before.before.before.before.before.before.before.before.before.before.before.before.args.v.now c.before.before.before.before.before.before.before.before.before.loop.k && appears c.before.before.before.before.before.before.before.before.before.loop.edges c.before.before.before.before.before.before.before.before.before.before.before.before.before.before.before.args.n (get_or c.before.before.before.before.before.before.before.before.before.before.before.before.before.before.before.args.u.now c.before.before.before.before.before.before.before.before.before.loop.k 0) (get_or c.before.before.before.before.before.before.before.before.before.before.before.before.before.before.before.args.v.now c.before.before.before.before.before.before.before.before.before.loop.k 0)), c.before.before.gain.ensures.0, c.before.before.before.before.before.before.before.before.before.before.before.before.before.before.before.requires.both.few)
@@ -56,7 +56,7 @@ loop-less : tie.Need-loop-smaller invariant-loop decreases-loop
 loop-less c = omega arith
 
 loop-again : tie.Need-loop-preserved invariant-loop decreases-loop
-loop-again c = (omega arith, gain-more c.before.before.before.before.before.before.before.before.before.before.before.before.before.before.before.requires c.before.before.before.before.before.before.before.before.before.loop.invariant.1 c.before.before.before.before.before.before.before.before.loop-test.true c.before.before.gain.ensures.1, gain-tally c.before.before.before.before.before.before.before.before.before.before.before.before.before.before.before.requires c.before.before.before.before.before.before.before.before.before.loop.invariant.1 c.before.before.before.before.before.before.before.before.loop-test.true c.before.before.gain.ensures.1 c.before.before.before.before.before.before.before.before.before.loop.found c.before.before.gain.ensures.0 c.before.before.before.before.before.before.before.before.before.loop.invariant.2, omega (arith, c.before.before.before.before.before.before.before.before.before.loop.invariant.3, c.before.before.gain.ensures.0, ind_le (changed c.before.before.before.before.before.before.before.before.before.before.before.before.before.before.before.args.s.now c.before.before.before.before.before.before.before.before.before.before.before.before.before.before.before.args.t.now c.before.before.before.before.before.before.before.before.before.before.before.before.before.before.before.args.u.now c.before.before.before.before.before.before.before.before.before.before.before.before.before.before.before.args.v.now c.before.before.before.before.before.before.before.before.before.loop.k && appears c.before.before.before.before.before.before.before.before.before.loop.edges c.before.before.before.before.before.before.before.before.before.before.before.before.before.before.before.args.n (get_or c.before.before.before.before.before.before.before.before.before.before.before.before.before.before.before.args.u.now c.before.before.before.before.before.before.before.before.before.loop.k 0) (get_or c.before.before.before.before.before.before.before.before.before.before.before.before.before.before.before.args.v.now c.before.before.before.before.before.before.before.before.before.loop.k 0))))
+loop-again c = (omega arith, gain_more c.before.before.before.before.before.before.before.before.before.before.before.before.before.before.before.requires c.before.before.before.before.before.before.before.before.before.loop.invariant.1 c.before.before.before.before.before.before.before.before.loop-test.true c.before.before.gain.ensures.1, gain_tally c.before.before.before.before.before.before.before.before.before.before.before.before.before.before.before.requires c.before.before.before.before.before.before.before.before.before.loop.invariant.1 c.before.before.before.before.before.before.before.before.loop-test.true c.before.before.gain.ensures.1 c.before.before.before.before.before.before.before.before.before.loop.found c.before.before.gain.ensures.0 c.before.before.before.before.before.before.before.before.before.loop.invariant.2, omega (arith, c.before.before.before.before.before.before.before.before.before.loop.invariant.3, c.before.before.gain.ensures.0, ind_le (changed c.before.before.before.before.before.before.before.before.before.before.before.before.before.before.before.args.s.now c.before.before.before.before.before.before.before.before.before.before.before.before.before.before.before.args.t.now c.before.before.before.before.before.before.before.before.before.before.before.before.before.before.before.args.u.now c.before.before.before.before.before.before.before.before.before.before.before.before.before.before.before.args.v.now c.before.before.before.before.before.before.before.before.before.loop.k && appears c.before.before.before.before.before.before.before.before.before.loop.edges c.before.before.before.before.before.before.before.before.before.before.before.before.before.before.before.args.n (get_or c.before.before.before.before.before.before.before.before.before.before.before.before.before.before.before.args.u.now c.before.before.before.before.before.before.before.before.before.loop.k 0) (get_or c.before.before.before.before.before.before.before.before.before.before.before.before.before.before.before.args.v.now c.before.before.before.before.before.before.before.before.before.loop.k 0))))
 
 same_length : tie.Need-same-length invariant-loop decreases-loop
 same_length c = c.before.loop.invariant.1.long

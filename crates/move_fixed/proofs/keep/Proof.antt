@@ -1,5 +1,5 @@
 -- `move_fixed::keep` meets its contract. Assumes nothing.
-use Rattle.move_fixed.specs.Flags.{kept-is}
+use Rattle.move_fixed.specs.Flags.{kept_is}
 use borrow.Author.Rules.{rules}
 use Rattle.move_fixed.proofs.keep.Statement.{statement}
 use Rattle.move_fixed.proofs.keep.Tie as tie
@@ -35,7 +35,7 @@ same_length : tie.Need-same-length
 same_length c = search rules
 
 returns : tie.Need-returns
-returns c = kept-is c.before.before.before.before.before.before.before.before.before.before.requires c.before.before.before.before.before.before.flags-into.ensures c.before.before.copy.ensures
+returns c = kept_is c.before.before.before.before.before.before.before.before.before.before.requires c.before.before.before.before.before.before.flags-into.ensures c.before.before.copy.ensures
 
 pub keep_spec : {M : Type 1} → statement M
 keep_spec =

@@ -1,5 +1,5 @@
 -- `move_fixed::keeps` meets its contract. Assumes nothing.
-use Rattle.move_fixed.specs.Flags.{keeps-is}
+use Rattle.move_fixed.specs.Flags.{keeps_is}
 use borrow.Author.Rules.{rules}
 use Rattle.move_fixed.proofs.keeps.Statement.{statement}
 use Rattle.move_fixed.proofs.keeps.Tie as tie
@@ -32,7 +32,7 @@ same-numbers-requires : tie.Need-same-numbers-requires
 same-numbers-requires c κs = search rules
 
 returns : tie.Need-returns
-returns c = keeps-is c.before.before.before.before.before.before.before.requires c.before.before.before.flags-into.ensures c.same_numbers.ensures
+returns c = keeps_is c.before.before.before.before.before.before.before.requires c.before.before.before.flags-into.ensures c.same_numbers.ensures
 
 pub keeps_spec : {M : Type 1} → statement M
 keeps_spec =

@@ -6,7 +6,7 @@ use mathlib.Core.Path.{◌≡◌, sym, ◌∙◌}
 use lib.ListN.{get_or}
 use Rattle.graphs.specs.Lists.{some_below}
 use Rattle.move_load_rows.specs.Checks.{spans}
-use Rattle.move_load_rows.proofs.Spans.{wrong, span-first, span-hit, span_more, span-done, span_can}
+use Rattle.move_load_rows.proofs.Spans.{wrong, span-first, span_hit, span_more, span-done, span_can}
 use Rattle.move_load_rows.proofs.bad_dependencies.Statement.{statement}
 use Rattle.move_load_rows.proofs.bad_dependencies.Tie as tie
 
@@ -23,7 +23,7 @@ atom-fails-requires : tie.Need-atom-fails-requires invariant-loop decreases-loop
 atom-fails-requires c κs = span_can c.before.before.before.before.requires c.before.loop.atom (omega arith)
 
 returns : tie.Need-returns invariant-loop decreases-loop
-returns c = span-hit c.before.before.before.before.before.before.requires.rise c.before.before.before.loop.atom (omega arith) (sym c.before.atom-fails.ensures ∙ c.if1.true)
+returns c = span_hit c.before.before.before.before.before.before.requires.rise c.before.before.before.loop.atom (omega arith) (sym c.before.atom-fails.ensures ∙ c.if1.true)
 
 add_atom : tie.Need-overflow-add-atom invariant-loop decreases-loop
 add_atom c = omega arith

@@ -1,5 +1,5 @@
 -- `move_questions::atom_count` meets its contract. Assumes nothing.
-use Rattle.move_questions.proofs.Asking.{no-count, its-count}
+use Rattle.move_questions.proofs.Asking.{no_count, its_count}
 use borrow.Author.Rules.{rules}
 use Rattle.move_questions.proofs.atom_count.Statement.{statement}
 use Rattle.move_questions.proofs.atom_count.Tie as tie
@@ -14,7 +14,7 @@ find-requires : tie.Need-find-requires
 find-requires c κs = search rules
 
 returns : tie.Need-returns
-returns c = λ load h. no-count h c.before.find.ensures c.if1.true
+returns c = λ load h. no_count h c.before.find.ensures c.if1.true
 
 mul-result : tie.Need-overflow-mul-result
 mul-result c = search rules
@@ -32,7 +32,7 @@ shared-slice-read-result : tie.Need-shared-slice-read-result
 shared-slice-read-result c = search rules
 
 returns-2 : tie.Need-returns-2
-returns-2 c = λ load h. its-count h c.before.before.find.ensures c.before.if1.false
+returns-2 c = λ load h. its_count h c.before.before.find.ensures c.before.if1.false
 
 pub atom-count-spec : {M : Type 1} → statement M
 atom-count-spec =

@@ -1,6 +1,6 @@
 -- `move_questions::chunk_count` meets its contract. Assumes nothing.
 use mathlib.Core.Path.{◌∙◌}
-use Rattle.move_questions.proofs.Asking.{chunk-total}
+use Rattle.move_questions.proofs.Asking.{chunk_total}
 use borrow.Author.Rules.{rules}
 use Rattle.move_questions.proofs.chunk_count.Statement.{statement}
 use Rattle.move_questions.proofs.chunk_count.Tie as tie
@@ -21,7 +21,7 @@ wide-requires : tie.Need-wide-requires
 wide-requires c κs = search rules
 
 returns : tie.Need-returns
-returns c = λ load registered l. c.wide.ensures.0 ∙ chunk-total l
+returns c = λ load registered l. c.wide.ensures.0 ∙ chunk_total l
 
 pub chunk-count-spec : {M : Type 1} → statement M
 chunk-count-spec = tie.close (tie.spec mul_wide add_wide mul-wide-2 shared-slice-read-wide wide-requires returns)

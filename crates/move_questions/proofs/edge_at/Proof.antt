@@ -1,12 +1,12 @@
 -- `move_questions::edge_at` meets its contract. Assumes nothing.
 use native.Mathlib.Omega.{arith}
-use Rattle.move_questions.proofs.Listing.{past, can-find-row, can-find-cell, cell-there, can-read, found}
+use Rattle.move_questions.proofs.Listing.{past, can_find-row, can_find-cell, cell-there, can_read, found}
 use borrow.Author.Rules.{rules}
 use Rattle.move_questions.proofs.edge_at.Statement.{statement}
 use Rattle.move_questions.proofs.edge_at.Tie as tie
 
 find-row-requires : tie.Need-find-row-requires
-find-row-requires c κs = can-find-row c.before.before.before.requires.1
+find-row-requires c κs = can_find-row c.before.before.before.requires.1
 
 returns : tie.Need-returns
 returns c = λ load l. past l c.before.find-row.ensures c.if1.true
@@ -21,7 +21,7 @@ cast-x : tie.Need-overflow-cast-x
 cast-x c = omega (arith, c.shared-slice-known4.given c.before.before.find-row.result.at)
 
 find-cell-requires : tie.Need-find-cell-requires
-find-cell-requires c κs = can-find-cell c.before.before.before.before.before.before.requires.1 c.before.before.find-row.result.at _ c.before.if1.false
+find-cell-requires c κs = can_find-cell c.before.before.before.before.before.before.requires.1 c.before.before.find-row.result.at _ c.before.if1.false
 
 mul-y : tie.Need-overflow-mul-y
 mul-y c = search rules
@@ -33,7 +33,7 @@ cast-y : tie.Need-overflow-cast-y
 cast-y c = omega (arith, c.shared-slice-known5.given c.before.find-cell.result)
 
 read-edge-requires : tie.Need-read-edge-requires
-read-edge-requires c κs = can-read c.before.before.before.before.before.before.before.before.requires.1 c.before.before.before.before.find-row.ensures c.before.before.before.if1.false c.before.find-cell.ensures
+read-edge-requires c κs = can_read c.before.before.before.before.before.before.before.before.requires.1 c.before.before.before.before.find-row.ensures c.before.before.before.if1.false c.before.find-cell.ensures
 
 returns-2 : tie.Need-returns-2
 returns-2 c = λ load l. found l c.before.before.before.before.before.find-row.ensures c.before.before.before.before.if1.false c.before.before.find-cell.ensures c.read-edge.ensures

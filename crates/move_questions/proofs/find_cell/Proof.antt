@@ -8,7 +8,7 @@ use mathlib.Core.Logic.{⊎_elim}
 use lib.Dec.{eqb}
 use Rattle.graphs.specs.Count.{count_none}
 use Rattle.move_questions.specs.Steps.{at, cells_before}
-use Rattle.move_questions.specs.StepLaws.{cells-step, cell-inside}
+use Rattle.move_questions.specs.StepLaws.{cells_step, cell-inside}
 use Rattle.move_questions.proofs.find_cell.Statement.{statement}
 use Rattle.move_questions.proofs.find_cell.Tie as tie
 
@@ -58,7 +58,7 @@ loop-again : tie.Need-loop-preserved invariant-loop decreases-loop
 loop-again c = (
   omega arith,
   ap (λ k. cells_before c.before.before.before.before.before.before.before.before.args.area.now c.before.before.before.before.before.before.before.before.args.n c.before.before.before.before.before.before.before.before.args.x c.before.before.before.before.before.before.before.before.args.order.now (c.before.before.before.before.before.loop.j + 1) + k) c.pass.ensures
-      ∙ cells-step c.before.before.before.before.before.before.before.before.args.area.now c.before.before.before.before.before.before.before.before.args.n c.before.before.before.before.before.before.before.before.args.x c.before.before.before.before.before.before.before.before.args.order.now c.before.before.before.before.before.loop.j _ _ c.before.before.before.before.before.loop.invariant.1
+      ∙ cells_step c.before.before.before.before.before.before.before.before.args.area.now c.before.before.before.before.before.before.before.before.args.n c.before.before.before.before.before.before.before.before.args.x c.before.before.before.before.before.before.before.before.args.order.now c.before.before.before.before.before.loop.j _ _ c.before.before.before.before.before.loop.invariant.1
       (λ d. ⊎_elim (λ w. let h = w.1.left in omega arith) (λ w. absurd (d w.left)) c.before.if1.branch),
 )
 

@@ -1,6 +1,6 @@
 -- `move_questions::multiplicity` meets its contract. Assumes nothing.
 use native.Mathlib.Omega.{arith}
-use Rattle.move_questions.proofs.Asking.{cell-inside, no_source, no_target, its-mult}
+use Rattle.move_questions.proofs.Asking.{cell-inside, no_source, no_target, its_mult}
 use borrow.Author.Rules.{rules}
 use Rattle.move_questions.proofs.multiplicity.Statement.{statement}
 use Rattle.move_questions.proofs.multiplicity.Tie as tie
@@ -36,7 +36,7 @@ shared-slice-read-result : tie.Need-shared-slice-read-result
 shared-slice-read-result c = omega (arith, cell-inside c.before.before.before.before.before.before.requires.1 c.before.before.before.before.find.result c.before.before.find2.result c.before.before.before.if1.false c.before.if2.false)
 
 returns-3 : tie.Need-returns-3
-returns-3 c = λ load h. its-mult h c.before.before.before.before.find.ensures c.before.before.find2.ensures c.before.before.before.if1.false c.before.if2.false
+returns-3 c = λ load h. its_mult h c.before.before.before.before.find.ensures c.before.before.find2.ensures c.before.before.before.if1.false c.before.if2.false
 
 pub multiplicity-spec : {M : Type 1} → statement M
 multiplicity-spec =

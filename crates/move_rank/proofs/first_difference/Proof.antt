@@ -4,7 +4,7 @@ use native.Mathlib.Omega.{arith}
 use mathlib.Core.Path.{sym, ◌∙◌}
 use borrow.Author.Rules.{rules}
 use borrow.Author.Tests.{not-true, not-false}
-use Rattle.move_rank.specs.Atoms.{set_of, Alike, alike_none, alike-more, differ-here, differ_none}
+use Rattle.move_rank.specs.Atoms.{set_of, Alike, alike_none, alike_more, differ_here, differ_none}
 use Rattle.move_rank.proofs.first_difference.Statement.{statement}
 use Rattle.move_rank.proofs.first_difference.Tie as tie
 
@@ -28,7 +28,7 @@ equal-requires c κs = search rules
 
 returns : tie.Need-returns invariant-loop decreases-loop
 returns c =
-    differ-here c.before.before.before.before.before.loop.invariant.1 c.before.before.before.atom_set.ensures c.before.before.atom-set2.ensures c.before.before.before.before.loop-test.true
+    differ_here c.before.before.before.before.before.loop.invariant.1 c.before.before.before.atom_set.ensures c.before.before.atom-set2.ensures c.before.before.before.before.loop-test.true
     (sym c.before.equal.ensures ∙ not-true _ c.if1.true)
 
 add-i : tie.Need-overflow-add-i invariant-loop decreases-loop
@@ -40,7 +40,7 @@ loop-less c = omega arith
 loop-again : tie.Need-loop-preserved invariant-loop decreases-loop
 loop-again c = (
   omega arith,
-  alike-more c.before.before.before.before.before.loop.invariant.1 c.before.before.before.atom_set.ensures c.before.before.atom-set2.ensures (sym c.before.equal.ensures ∙ not-false _ c.if1.false),
+  alike_more c.before.before.before.before.before.loop.invariant.1 c.before.before.before.atom_set.ensures c.before.before.atom-set2.ensures (sym c.before.equal.ensures ∙ not-false _ c.if1.false),
 )
 
 returns-2 : tie.Need-returns-2 invariant-loop decreases-loop

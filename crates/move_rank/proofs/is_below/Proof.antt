@@ -1,7 +1,7 @@
 -- `is_below` meets its contract. Assumes nothing.
 use mathlib.Core.Path.{sym}
 use Rattle.entry_set.proofs.Compare.{known}
-use Rattle.move_rank.proofs.Comparing.{by_last, by-third, by-second, by_first}
+use Rattle.move_rank.proofs.Comparing.{by_last, by_third, by_second, by_first}
 use Rattle.move_rank.proofs.is_below.Statement.{statement}
 use Rattle.move_rank.proofs.is_below.Tie as tie
 
@@ -13,12 +13,12 @@ returns c =
 returns-2 : tie.Need-returns-2
 returns-2 c =
     let s = c.before.before.before.before.before.before.before.before.args in
-    sym (by-third s.x s.y (known s.x c.before.before.before.before.before.before.before.struct_known.given) (known s.y c.before.before.before.before.before.before.struct-known2.given) c.before.before.before.before.before.if1.false c.before.before.if2.true)
+    sym (by_third s.x s.y (known s.x c.before.before.before.before.before.before.before.struct_known.given) (known s.y c.before.before.before.before.before.before.struct-known2.given) c.before.before.before.before.before.if1.false c.before.before.if2.true)
 
 returns-3 : tie.Need-returns-3
 returns-3 c =
     let s = c.before.before.before.before.before.before.before.before.before.before.before.args in
-    sym (by-second s.x s.y (known s.x c.before.before.before.before.before.before.before.before.before.before.struct_known.given) (known s.y c.before.before.before.before.before.before.before.before.before.struct-known2.given) c.before.before.before.before.before.before.before.before.if1.false c.before.before.before.before.before.if2.false c.before.before.if3.true)
+    sym (by_second s.x s.y (known s.x c.before.before.before.before.before.before.before.before.before.before.struct_known.given) (known s.y c.before.before.before.before.before.before.before.before.before.struct-known2.given) c.before.before.before.before.before.before.before.before.if1.false c.before.before.before.before.before.if2.false c.before.before.if3.true)
 
 returns-4 : tie.Need-returns-4
 returns-4 c =

@@ -1,7 +1,7 @@
 -- `rank` meets its contract. Assumes nothing.
 use mathlib.Core.Path.{sym, ◌∙◌}
-use Rattle.move_rank.specs.RankLaws.{chunks-decide, edges-decide, sets-decide}
-use Rattle.move_rank.specs.Atoms.{can-read, placed}
+use Rattle.move_rank.specs.RankLaws.{chunks_decide, edges-decide, sets-decide}
+use Rattle.move_rank.specs.Atoms.{can_read, placed}
 use borrow.Author.Rules.{rules}
 use Rattle.move_rank.proofs.rank.Statement.{statement}
 use Rattle.move_rank.proofs.rank.Tie as tie
@@ -24,7 +24,7 @@ smaller-first-requires c κs = search rules
 returns : tie.Need-returns
 returns c = λ load b.
     c.smaller-first.ensures
-    ∙ chunks-decide load _ _ (c.before.before.before.before.before.chunk_count.ensures load _ b.one) (c.before.before.before.before.chunk-count2.ensures load _ b.other) c.before.if1.true
+    ∙ chunks_decide load _ _ (c.before.before.before.before.before.chunk_count.ensures load _ b.one) (c.before.before.before.before.chunk-count2.ensures load _ b.other) c.before.if1.true
 
 smaller-first-requires-2 : tie.Need-smaller-first-requires-2
 smaller-first-requires-2 c κs = search rules
@@ -39,7 +39,7 @@ returns-2 c = λ load b.
 rank-sets-requires : tie.Need-rank-sets-requires
 rank-sets-requires c κs =
     let b = c.before.before.before.before.before.before.before.before.requires.1 in
-    (can-read b.atoms b.one, can-read b.atoms b.other)
+    (can_read b.atoms b.one, can_read b.atoms b.other)
 
 returns-3 : tie.Need-returns-3
 returns-3 c = λ load b.

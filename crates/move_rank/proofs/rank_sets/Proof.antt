@@ -1,7 +1,7 @@
 -- `rank_sets` meets its contract. Assumes nothing.
 use native.Mathlib.Omega.{arith}
 use mathlib.Core.Path.{sym, ◌∙◌}
-use Rattle.move_rank.specs.Atoms.{ranked_equal, ranked-before, ranked-after}
+use Rattle.move_rank.specs.Atoms.{ranked_equal, ranked_before, ranked_after}
 use borrow.Author.Rules.{rules}
 use Rattle.move_rank.proofs.rank_sets.Statement.{statement}
 use Rattle.move_rank.proofs.rank_sets.Tie as tie
@@ -23,12 +23,12 @@ is-below-requires c κs = search rules
 
 returns-2 : tie.Need-returns-2
 returns-2 c = λ p q P Q.
-    ranked-before P Q c.before.before.before.before.before.first-difference.ensures (omega arith) c.before.before.before.atom_set.ensures c.before.before.atom-set2.ensures
+    ranked_before P Q c.before.before.before.before.before.first-difference.ensures (omega arith) c.before.before.before.atom_set.ensures c.before.before.atom-set2.ensures
     (sym c.before.is_below.ensures ∙ c.if2.true)
 
 returns-3 : tie.Need-returns-3
 returns-3 c = λ p q P Q.
-    ranked-after P Q c.before.before.before.before.before.first-difference.ensures (omega arith) c.before.before.before.atom_set.ensures c.before.before.atom-set2.ensures
+    ranked_after P Q c.before.before.before.before.before.first-difference.ensures (omega arith) c.before.before.before.atom_set.ensures c.before.before.atom-set2.ensures
     (sym c.before.is_below.ensures ∙ c.if2.false)
 
 pub rank-sets-spec : {M : Type 1} → statement M

@@ -5,7 +5,7 @@ use native.Mathlib.Omega.{arith}
 use lib.ListN.{get_or}
 use borrow.Author.Rules.{rules}
 use Rattle.move_area.specs.Bodies.{atom_at}
-use Rattle.move_try.specs.Tried.{try-room, try-from, try-outside, try-rejected, try-find, try-register, try-settle, try-settled}
+use Rattle.move_try.specs.Tried.{try_room, try_from, try_outside, try_rejected, try_find, try_register, try_settle, try_settled}
 use Rattle.move_try.proofs.try_checked.Statement.{statement}
 use Rattle.move_try.proofs.try_checked.Tie as tie
 
@@ -37,7 +37,7 @@ outside-requires : tie.Need-outside-requires
 outside-requires c κs =
     let a = c.before.before.before.before.before.before.args in
     let can = c.before.before.before.before.before.before.requires in
-    (try-from can (get_or a.area.now (atom_at a.n + a.atom) 0) refl, omega (arith, try-room can))
+    (try_from can (get_or a.area.now (atom_at a.n + a.atom) 0) refl, omega (arith, try_room can))
 
 same_length : tie.Need-same-length
 same_length c = search rules
@@ -46,8 +46,8 @@ returns : tie.Need-returns
 returns c =
     let a = c.before.before.before.before.before.before.before.before.args in
     let can = c.before.before.before.before.before.before.before.before.requires in
-    let s1 = try-outside can (get_or a.area.now (atom_at a.n + a.atom) 0) refl c.before.outside.ensures in
-    try-rejected can s1 c.if1.true
+    let s1 = try_outside can (get_or a.area.now (atom_at a.n + a.atom) 0) refl c.before.outside.ensures in
+    try_rejected can s1 c.if1.true
 
 mul-registered : tie.Need-overflow-mul-registered
 mul-registered c = search rules
@@ -61,7 +61,7 @@ cast-registered c = let a = c.before.before.before.before.before.before.before.b
 find-requires : tie.Need-find-requires
 find-requires c κs =
     let a = c.before.before.before.before.before.before.before.before.before.before.args in
-    try-find c.before.before.before.before.before.before.before.before.before.before.requires (get_or a.area.now (a.n * a.n) 0) refl
+    try_find c.before.before.before.before.before.before.before.before.before.before.requires (get_or a.area.now (a.n * a.n) 0) refl
 
 place-requires : tie.Need-place-requires
 place-requires c κs = search rules
@@ -70,15 +70,15 @@ register-requires : tie.Need-register-requires
 register-requires c κs =
     let a = c.before.before.before.before.before.before.before.before.before.before.before.before.before.before.args in
     let can = c.before.before.before.before.before.before.before.before.before.before.before.before.before.before.requires in
-    let s1 = try-outside can (get_or a.area.now (atom_at a.n + a.atom) 0) refl c.before.before.before.before.before.before.before.outside.ensures in
-    try-register can (get_or a.area.now (a.n * a.n) 0) refl c.before.before.before.find.ensures c.before.place.ensures s1 c.before.before.before.before.before.before.if1.false
+    let s1 = try_outside can (get_or a.area.now (atom_at a.n + a.atom) 0) refl c.before.before.before.before.before.before.before.outside.ensures in
+    try_register can (get_or a.area.now (a.n * a.n) 0) refl c.before.before.before.find.ensures c.before.place.ensures s1 c.before.before.before.before.before.before.if1.false
 
 settle-requires : tie.Need-settle-requires
 settle-requires c κs =
     let a = c.before.before.before.before.before.before.before.before.before.before.before.before.before.before.before.before.before.before.args in
     let can = c.before.before.before.before.before.before.before.before.before.before.before.before.before.before.before.before.before.before.requires in
-    let s1 = try-outside can (get_or a.area.now (atom_at a.n + a.atom) 0) refl c.before.before.before.before.before.before.before.before.before.before.before.outside.ensures in
-    try-settle can (get_or a.area.now (a.n * a.n) 0) refl c.before.before.before.before.before.before.before.find.ensures c.before.before.before.before.before.place.ensures s1 c.before.before.before.before.before.before.before.before.before.before.if1.false c.before.before.before.register.ensures
+    let s1 = try_outside can (get_or a.area.now (atom_at a.n + a.atom) 0) refl c.before.before.before.before.before.before.before.before.before.before.before.outside.ensures in
+    try_settle can (get_or a.area.now (a.n * a.n) 0) refl c.before.before.before.before.before.before.before.find.ensures c.before.before.before.before.before.place.ensures s1 c.before.before.before.before.before.before.before.before.before.before.if1.false c.before.before.before.register.ensures
 
 same-length-2 : tie.Need-same-length-2
 same-length-2 c = search rules
@@ -87,8 +87,8 @@ returns-2 : tie.Need-returns-2
 returns-2 c =
     let a = c.before.before.before.before.before.before.before.before.before.before.before.before.before.before.before.before.before.before.before.before.before.args in
     let can = c.before.before.before.before.before.before.before.before.before.before.before.before.before.before.before.before.before.before.before.before.before.requires in
-    let s1 = try-outside can (get_or a.area.now (atom_at a.n + a.atom) 0) refl c.before.before.before.before.before.before.before.before.before.before.before.before.before.before.outside.ensures in
-    try-settled can (get_or a.area.now (a.n * a.n) 0) refl c.before.before.before.before.before.before.before.before.before.before.find.ensures c.before.before.before.before.before.before.before.before.place.ensures s1 c.before.before.before.before.before.before.before.before.before.before.before.before.before.if1.false c.before.before.before.before.before.before.register.ensures c.before.before.settle.ensures
+    let s1 = try_outside can (get_or a.area.now (atom_at a.n + a.atom) 0) refl c.before.before.before.before.before.before.before.before.before.before.before.before.before.before.outside.ensures in
+    try_settled can (get_or a.area.now (a.n * a.n) 0) refl c.before.before.before.before.before.before.before.before.before.before.find.ensures c.before.before.before.before.before.before.before.before.place.ensures s1 c.before.before.before.before.before.before.before.before.before.before.before.before.before.if1.false c.before.before.before.before.before.before.register.ensures c.before.before.settle.ensures
 
 pub try-checked-spec : {M : Type 1} → statement M
 try-checked-spec =

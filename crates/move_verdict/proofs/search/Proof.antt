@@ -1,18 +1,18 @@
 -- `move_verdict::search` meets its contract. Assumes nothing.
 use native.Mathlib.Omega.{arith}
-use Rattle.move_verdict.proofs.Searching.{fill-can, searched-group, searched-graph, searched-says}
+use Rattle.move_verdict.proofs.Searching.{fill_can, searched_group, searched_graph, searched-says}
 use borrow.Author.Rules.{rules}
 use Rattle.move_verdict.proofs.search.Statement.{statement}
 use Rattle.move_verdict.proofs.search.Tie as tie
 
 fill-own-slots-requires : tie.Need-fill-own-slots-requires
-fill-own-slots-requires c κs = fill-can c.before.before.before.before.before.before.before.before.before.before.before.before.requires.0 c.before.before.before.before.before.before.before.before.before.before.before.before.requires.1
+fill-own-slots-requires c κs = fill_can c.before.before.before.before.before.before.before.before.before.before.before.before.requires.0 c.before.before.before.before.before.before.before.before.before.before.before.before.requires.1
 
 slot-count-requires : tie.Need-slot-count-requires
 slot-count-requires c κs = search rules
 
 group-requires : tie.Need-group-requires
-group-requires c κs = searched-group c.before.before.before.before.before.before.before.before.before.before.before.before.before.before.before.before.before.before.before.before.before.before.before.before.requires.0 c.before.before.before.before.before.before.before.before.before.before.before.before.before.before.before.before.before.before.before.before.before.before.before.before.requires.1 c.before.before.before.before.before.before.before.before.before.before.before.fill-own-slots.ensures c.before.before.before.before.slot-count.ensures c.before.before.before.before.before.before.before.before.before.before.before.fill-own-slots.auto.1.1.1.1.1.1.1.1.1.0 c.before.before.before.before.before.before.before.before.before.before.before.fill-own-slots.auto.1.1.1.1.1.1.1.1.1.1.0 c.before.before.before.before.before.before.before.before.before.before.before.fill-own-slots.auto.1.1.1.1.1.1.1.1.0
+group-requires c κs = searched_group c.before.before.before.before.before.before.before.before.before.before.before.before.before.before.before.before.before.before.before.before.before.before.before.before.requires.0 c.before.before.before.before.before.before.before.before.before.before.before.before.before.before.before.before.before.before.before.before.before.before.before.before.requires.1 c.before.before.before.before.before.before.before.before.before.before.before.fill-own-slots.ensures c.before.before.before.before.slot-count.ensures c.before.before.before.before.before.before.before.before.before.before.before.fill-own-slots.auto.1.1.1.1.1.1.1.1.1.0 c.before.before.before.before.before.before.before.before.before.before.before.fill-own-slots.auto.1.1.1.1.1.1.1.1.1.1.0 c.before.before.before.before.before.before.before.before.before.before.before.fill-own-slots.auto.1.1.1.1.1.1.1.1.0
 
 sub-has-cycle : tie.Need-overflow-sub-has-cycle
 sub-has-cycle c = search rules
@@ -24,7 +24,7 @@ part-has-cycle-end : tie.Need-slice-bounds-has-cycle-end
 part-has-cycle-end c = omega (arith, c.before.before.before.before.before.before.before.before.before.before.before.before.before.before.before.before.before.before.before.before.before.before.before.before.before.before.before.before.before.before.before.requires.1.colours)
 
 has-cycle-requires : tie.Need-has-cycle-requires
-has-cycle-requires c κs = searched-graph c.before.before.before.before.before.before.before.before.before.before.before.before.before.before.before.before.before.before.before.before.before.before.before.before.before.before.before.before.before.before.before.before.requires.0 c.before.before.before.before.before.before.before.before.before.before.before.before.before.before.before.before.before.before.before.before.before.before.before.before.before.before.before.before.before.before.before.before.requires.1 c.before.before.before.before.before.before.before.before.before.before.before.before.before.before.before.before.before.before.before.fill-own-slots.ensures c.before.before.before.before.before.before.before.before.before.before.before.before.slot-count.ensures c.before.before.before.before.before.before.before.before.before.before.before.before.before.before.before.before.before.before.before.fill-own-slots.auto.1.1.1.1.1.1.1.1.1.0 c.before.before.before.before.before.before.before.before.before.before.before.before.before.before.before.before.before.before.before.fill-own-slots.auto.1.1.1.1.1.1.1.1.1.1.0 c.before.before.before.before.before.before.before.before.before.before.before.before.before.before.before.before.before.before.before.fill-own-slots.auto.1.1.1.1.1.1.1.1.0 c.before.before.before.before.before.before.before.group.ensures
+has-cycle-requires c κs = searched_graph c.before.before.before.before.before.before.before.before.before.before.before.before.before.before.before.before.before.before.before.before.before.before.before.before.before.before.before.before.before.before.before.before.requires.0 c.before.before.before.before.before.before.before.before.before.before.before.before.before.before.before.before.before.before.before.before.before.before.before.before.before.before.before.before.before.before.before.before.requires.1 c.before.before.before.before.before.before.before.before.before.before.before.before.before.before.before.before.before.before.before.fill-own-slots.ensures c.before.before.before.before.before.before.before.before.before.before.before.before.slot-count.ensures c.before.before.before.before.before.before.before.before.before.before.before.before.before.before.before.before.before.before.before.fill-own-slots.auto.1.1.1.1.1.1.1.1.1.0 c.before.before.before.before.before.before.before.before.before.before.before.before.before.before.before.before.before.before.before.fill-own-slots.auto.1.1.1.1.1.1.1.1.1.1.0 c.before.before.before.before.before.before.before.before.before.before.before.before.before.before.before.before.before.before.before.fill-own-slots.auto.1.1.1.1.1.1.1.1.0 c.before.before.before.before.before.before.before.group.ensures
 
 same_length : tie.Need-same-length
 same_length c = search rules

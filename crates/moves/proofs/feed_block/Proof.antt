@@ -4,7 +4,7 @@ use borrow.Author.Tests.{not-true, not-false}
 use Rattle.moves_commands.specs.Steps.{held}
 use Rattle.moves.specs.Turns.{Took}
 use Rattle.moves.proofs.Lengths.{Kept, kept-first}
-use Rattle.moves.proofs.Turning.{took_none, still-ready, part_left, then-took, goes_on, stops, ends}
+use Rattle.moves.proofs.Turning.{took_none, still_ready, part_left, then_took, goes_on, stops, ends}
 use Rattle.moves.proofs.feed_block.Statement.{statement}
 use Rattle.moves.proofs.feed_block.Tie as tie
 
@@ -30,10 +30,10 @@ part-feed-once-end : tie.Need-slice-bounds-feed-once-end invariant-loop decrease
 part-feed-once-end c = omega arith
 
 feed-once-requires : tie.Need-feed-once-requires invariant-loop decreases-loop
-feed-once-requires c κs = let i = c.before.before.before.before.before.before.before.before.before.loop.invariant in (still-ready i.0 c.before.before.before.before.before.before.before.before.before.before.before.before.before.before.before.before.before.before.requires.0, (part_left i.0 c.before.before.before.before.before.before.before.before.loop-test.true, omega (arith, i.1.out_long, c.before.before.before.before.before.before.before.before.before.before.before.before.before.before.before.before.before.before.requires.1)))
+feed-once-requires c κs = let i = c.before.before.before.before.before.before.before.before.before.loop.invariant in (still_ready i.0 c.before.before.before.before.before.before.before.before.before.before.before.before.before.before.before.before.before.before.requires.0, (part_left i.0 c.before.before.before.before.before.before.before.before.loop-test.true, omega (arith, i.1.out_long, c.before.before.before.before.before.before.before.before.before.before.before.before.before.before.before.before.before.before.requires.1)))
 
 add_at : tie.Need-overflow-add-at invariant-loop decreases-loop
-add_at c = let a = c.before.before.before.before.before.before.before.before.before.before.before.before.before.before.before.before.feed-once.ensures in omega (arith, (then-took c.before.before.before.before.before.before.before.before.before.before.before.before.before.before.before.before.before.before.before.before.before.before.before.before.before.before.loop.invariant.0 a).inside, a.some, c.before.before.before.before.before.before.before.before.before.before.before.before.before.before.before.before.before.before.before.before.before.before.before.before.before.before.before.before.before.before.before.before.before.before.before.well-formed)
+add_at c = let a = c.before.before.before.before.before.before.before.before.before.before.before.before.before.before.before.before.feed-once.ensures in omega (arith, (then_took c.before.before.before.before.before.before.before.before.before.before.before.before.before.before.before.before.before.before.before.before.before.before.before.before.before.before.loop.invariant.0 a).inside, a.some, c.before.before.before.before.before.before.before.before.before.before.before.before.before.before.before.before.before.before.before.before.before.before.before.before.before.before.before.before.before.before.before.before.before.before.before.well-formed)
 
 same_length : tie.Need-same-length invariant-loop decreases-loop
 same_length c = let k = c.before.before.before.before.before.before.before.before.before.before.before.before.before.before.before.before.before.before.before.before.before.before.before.before.before.before.before.before.loop.invariant.1 in omega arith
@@ -60,7 +60,7 @@ returns : tie.Need-returns invariant-loop decreases-loop
 returns c = stops c.before.before.before.before.before.before.before.before.before.before.before.before.before.before.before.before.before.before.before.before.before.before.before.before.before.before.before.before.loop.invariant.0 c.before.before.before.before.before.before.before.before.before.before.before.before.before.before.before.before.before.before.feed-once.ensures (not-true _ c.if1.true)
 
 loop-less : tie.Need-loop-smaller invariant-loop decreases-loop
-loop-less c = let a = c.before.before.before.before.before.before.before.before.before.before.before.before.before.before.before.before.before.before.feed-once.ensures in omega (arith, (then-took c.before.before.before.before.before.before.before.before.before.before.before.before.before.before.before.before.before.before.before.before.before.before.before.before.before.before.before.before.loop.invariant.0 a).inside, a.some)
+loop-less c = let a = c.before.before.before.before.before.before.before.before.before.before.before.before.before.before.before.before.before.before.feed-once.ensures in omega (arith, (then_took c.before.before.before.before.before.before.before.before.before.before.before.before.before.before.before.before.before.before.before.before.before.before.before.before.before.before.before.before.loop.invariant.0 a).inside, a.some)
 
 loop-again : tie.Need-loop-preserved invariant-loop decreases-loop
 loop-again c = let k = c.before.before.before.before.before.before.before.before.before.before.before.before.before.before.before.before.before.before.before.before.before.before.before.before.before.before.before.before.loop.invariant.1 in (goes_on c.before.before.before.before.before.before.before.before.before.before.before.before.before.before.before.before.before.before.before.before.before.before.before.before.before.before.before.before.loop.invariant.0 c.before.before.before.before.before.before.before.before.before.before.before.before.before.before.before.before.before.before.feed-once.ensures (not-false _ c.if1.false), record { sets_long = omega arith; sources_long = omega arith; dependencies_long = omega arith; hosts_long = omega arith; starts_long = omega arith; area_long = omega arith; out_long = omega arith })

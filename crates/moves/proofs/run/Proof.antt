@@ -3,7 +3,7 @@ use Rattle.std.proofs.Common.{◌≡◌, length, refl, arith, rules}
 use Rattle.moves_commands.specs.Program.{fresh}
 use Rattle.moves_commands.specs.Steps.{held}
 use Rattle.moves.proofs.Lengths.{Kept, kept-first}
-use Rattle.moves.proofs.Turning.{Reading, reading-none, reading-ready, reading-out, reading-ends, reading-on, fresh-ready}
+use Rattle.moves.proofs.Turning.{Reading, reading-none, reading-ready, reading-out, reading-ends, reading_on, fresh-ready}
 use Rattle.moves.proofs.run.Statement.{statement}
 use Rattle.moves.proofs.run.Tie as tie
 
@@ -63,7 +63,7 @@ loop-less : tie.Need-loop-smaller invariant-loop decreases-loop
 loop-less c = omega (arith, c.before.before.before.before.before.before.before.before.before.before.before.before.before.before.before.before.before.before.before.before.before.before.before.before.before.before.before.before.loop-test.true)
 
 loop-again : tie.Need-loop-preserved invariant-loop decreases-loop
-loop-again c = let k = c.before.before.before.before.before.before.before.before.before.before.before.before.before.before.before.before.before.before.before.before.before.before.before.before.before.before.before.before.before.loop.invariant in let l = k.1 in let r = c.before.before.before.before.before.before.before.before.before.before.before.before.before.before.before.before.before.before.before.read-block.ensures in (reading-on k.0 c.before.before.before.before.before.before.before.before.before.before.before.before.before.before.before.before.before.before.before.read-block.result.got _ r.0 r.1 c.before.wrapping-add-u64.ensures c.if1.false c.before.before.before.before.before.before.before.before.before.before.before.before.before.before.before.before.before.before.before.before.before.before.before.before.before.before.before.before.loop-test.true, record { sets_long = omega arith; sources_long = omega arith; dependencies_long = omega arith; hosts_long = omega arith; starts_long = omega arith; area_long = omega arith; out_long = omega arith }, omega (arith, k.2))
+loop-again c = let k = c.before.before.before.before.before.before.before.before.before.before.before.before.before.before.before.before.before.before.before.before.before.before.before.before.before.before.before.before.before.loop.invariant in let l = k.1 in let r = c.before.before.before.before.before.before.before.before.before.before.before.before.before.before.before.before.before.before.before.read-block.ensures in (reading_on k.0 c.before.before.before.before.before.before.before.before.before.before.before.before.before.before.before.before.before.before.before.read-block.result.got _ r.0 r.1 c.before.wrapping-add-u64.ensures c.if1.false c.before.before.before.before.before.before.before.before.before.before.before.before.before.before.before.before.before.before.before.before.before.before.before.before.before.before.before.before.loop-test.true, record { sets_long = omega arith; sources_long = omega arith; dependencies_long = omega arith; hosts_long = omega arith; starts_long = omega arith; area_long = omega arith; out_long = omega arith }, omega (arith, k.2))
 
 same-length-9 : tie.Need-same-length-9 invariant-loop decreases-loop
 same-length-9 c = c.before.loop.invariant.1.sets_long

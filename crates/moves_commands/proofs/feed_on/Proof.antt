@@ -3,7 +3,7 @@ use native.Mathlib.Omega.{arith}
 use Prim.Native.Nat.{◌-◌}
 use lib.ListN.{length}
 use Rattle.moves_commands.specs.Steps.{held}
-use Rattle.moves_commands.proofs.Feeds.{Feeding, feeding_none, feeding-on, feeding-done}
+use Rattle.moves_commands.proofs.Feeds.{Feeding, feeding-none, feeding_on, feeding-done}
 use Rattle.moves_commands.proofs.feed_on.Statement.{statement}
 use Rattle.moves_commands.proofs.feed_on.Tie as tie
 
@@ -16,7 +16,7 @@ decreases-loop sets₀ sources₀ dependencies₀ starts₀ hosts₀ area₀ inp
     length input - i
 
 loop-holds : tie.Need-loop-init invariant-loop decreases-loop
-loop-holds c = feeding_none c.before.before.before.before.before.before.before.before.requires
+loop-holds c = feeding-none c.before.before.before.before.before.before.before.before.requires
 
 goes-on-requires : tie.Need-goes-on-requires invariant-loop decreases-loop
 goes-on-requires c κs = omega (arith, c.loop.invariant.put.inside, c.loop.invariant.put.long)
@@ -34,7 +34,7 @@ loop-less : tie.Need-loop-smaller invariant-loop decreases-loop
 loop-less c = omega (arith, (c.before.before.before.before.before.before.before.before.before.before.before.before.before.before.before.before.before.before.before.before.before.before.before.before.before.goes_on.ensures.on c.before.before.before.before.before.before.before.before.before.before.before.before.before.before.before.before.before.before.before.before.before.before.before.before.if1.true).0)
 
 loop-again : tie.Need-loop-preserved invariant-loop decreases-loop
-loop-again c = let g = (c.before.before.before.before.before.before.before.before.before.before.before.before.before.before.before.before.before.before.before.before.before.before.before.before.before.goes_on.ensures.on c.before.before.before.before.before.before.before.before.before.before.before.before.before.before.before.before.before.before.before.before.before.before.before.before.if1.true) in let k = c.before.before.before.before.before.before.before.before.before.before.before.before.before.before.before.before.before.before.before.before.before.before.before.before.before.before.loop.invariant.long in feeding-on c.before.before.before.before.before.before.before.before.before.before.before.before.before.before.before.before.before.before.before.before.before.before.before.before.before.before.loop.invariant g.0 g.1 c.before.before.before.before.before.before.before.before.before.before.before.before.before.before.before.step.ensures (record { sets = omega arith; sources = omega arith; dependencies = omega arith; hosts = omega arith; starts = omega arith; area = omega arith })
+loop-again c = let g = (c.before.before.before.before.before.before.before.before.before.before.before.before.before.before.before.before.before.before.before.before.before.before.before.before.before.goes_on.ensures.on c.before.before.before.before.before.before.before.before.before.before.before.before.before.before.before.before.before.before.before.before.before.before.before.before.if1.true) in let k = c.before.before.before.before.before.before.before.before.before.before.before.before.before.before.before.before.before.before.before.before.before.before.before.before.before.before.loop.invariant.long in feeding_on c.before.before.before.before.before.before.before.before.before.before.before.before.before.before.before.before.before.before.before.before.before.before.before.before.before.before.loop.invariant g.0 g.1 c.before.before.before.before.before.before.before.before.before.before.before.before.before.before.before.step.ensures (record { sets = omega arith; sources = omega arith; dependencies = omega arith; hosts = omega arith; starts = omega arith; area = omega arith })
 
 same_length : tie.Need-same-length invariant-loop decreases-loop
 same_length c = c.before.before.loop.invariant.long.sets

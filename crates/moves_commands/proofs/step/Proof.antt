@@ -1,14 +1,14 @@
 -- `moves_commands::step` meets its contract. Assumes nothing.
 use Rattle.moves_commands.specs.Steps.{held}
 use native.Mathlib.Omega.{arith}
-use Rattle.moves_commands.proofs.Turns.{stopped-steps, refused-steps, waiting-steps, executed-steps}
+use Rattle.moves_commands.proofs.Turns.{stopped_steps, refused_steps, waiting_steps, executed_steps}
 use Rattle.moves_commands.specs.Fits.{taken-ready}
 use borrow.Author.Rules.{rules}
 use Rattle.moves_commands.proofs.step.Statement.{statement}
 use Rattle.moves_commands.proofs.step.Tie as tie
 
 returns : tie.Need-returns
-returns c = let a = c.before.before.before.before.before.before.before.before.args in stopped-steps (held a.m a.sets.now a.sources.now a.dependencies.now a.hosts.now a.starts.now a.area.now) a.b c.if1.true (omega (arith, c.before.before.before.before.before.before.before.before.requires.1))
+returns c = let a = c.before.before.before.before.before.before.before.before.args in stopped_steps (held a.m a.sets.now a.sources.now a.dependencies.now a.hosts.now a.starts.now a.area.now) a.b c.if1.true (omega (arith, c.before.before.before.before.before.before.before.before.requires.1))
 
 taken-requires : tie.Need-taken-requires
 taken-requires c κs = search rules
@@ -20,10 +20,10 @@ same_length : tie.Need-same-length
 same_length c = search rules
 
 returns-2 : tie.Need-returns-2
-returns-2 c = let a = c.before.before.before.before.before.before.before.before.before.before.before.before.before.before.args in refused-steps (held a.m a.sets.now a.sources.now a.dependencies.now a.hosts.now a.starts.now a.area.now) a.b c.before.before.before.before.before.before.if1.false c.before.before.before.before.before.taken.ensures c.before.before.before.before.if2.true c.before.before.Put-refused.ensures
+returns-2 c = let a = c.before.before.before.before.before.before.before.before.before.before.before.before.before.before.args in refused_steps (held a.m a.sets.now a.sources.now a.dependencies.now a.hosts.now a.starts.now a.area.now) a.b c.before.before.before.before.before.before.if1.false c.before.before.before.before.before.taken.ensures c.before.before.before.before.if2.true c.before.before.Put-refused.ensures
 
 returns-3 : tie.Need-returns-3
-returns-3 c = let a = c.before.before.before.before.before.before.before.before.before.before.before.before.args in waiting-steps (held a.m a.sets.now a.sources.now a.dependencies.now a.hosts.now a.starts.now a.area.now) a.b c.before.before.before.before.if1.false c.before.before.before.taken.ensures c.before.before.if2.false c.if3.true (omega (arith, c.before.before.before.before.before.before.before.before.before.before.before.before.requires.1))
+returns-3 c = let a = c.before.before.before.before.before.before.before.before.before.before.before.before.args in waiting_steps (held a.m a.sets.now a.sources.now a.dependencies.now a.hosts.now a.starts.now a.area.now) a.b c.before.before.before.before.if1.false c.before.before.before.taken.ensures c.before.before.if2.false c.if3.true (omega (arith, c.before.before.before.before.before.before.before.before.before.before.before.before.requires.1))
 
 execute-requires : tie.Need-execute-requires
 execute-requires c κs = let a = c.before.before.before.before.before.before.before.before.before.before.before.before.before.before.before.before.before.before.before.args in (taken-ready a.b c.before.before.before.before.before.before.before.before.before.before.before.before.before.before.before.before.before.before.before.requires.0 c.before.before.before.before.before.before.before.before.before.before.taken.ensures, omega (arith, c.before.before.before.before.before.before.before.before.before.before.before.before.before.before.before.before.before.before.before.requires.1))
@@ -50,7 +50,7 @@ same-length-8 : tie.Need-same-length-8
 same-length-8 c = search rules
 
 returns-4 : tie.Need-returns-4
-returns-4 c = let a = c.before.before.before.before.before.before.before.before.before.before.before.before.before.before.before.before.before.before.before.before.before.before.before.before.before.before.before.before.before.before.before.before.before.before.args in executed-steps (held a.m a.sets.now a.sources.now a.dependencies.now a.hosts.now a.starts.now a.area.now) a.b c.before.before.before.before.before.before.before.before.before.before.before.before.before.before.before.before.before.before.before.before.before.before.before.before.before.before.if1.false c.before.before.before.before.before.before.before.before.before.before.before.before.before.before.before.before.before.before.before.before.before.before.before.before.before.taken.ensures c.before.before.before.before.before.before.before.before.before.before.before.before.before.before.before.before.before.before.before.before.before.before.before.before.if2.false c.before.before.before.before.before.before.before.before.before.before.before.before.before.before.before.before.before.before.before.before.before.before.if3.false c.before.before.before.before.before.before.before.before.before.before.before.before.before.before.execute.ensures
+returns-4 c = let a = c.before.before.before.before.before.before.before.before.before.before.before.before.before.before.before.before.before.before.before.before.before.before.before.before.before.before.before.before.before.before.before.before.before.before.args in executed_steps (held a.m a.sets.now a.sources.now a.dependencies.now a.hosts.now a.starts.now a.area.now) a.b c.before.before.before.before.before.before.before.before.before.before.before.before.before.before.before.before.before.before.before.before.before.before.before.before.before.before.if1.false c.before.before.before.before.before.before.before.before.before.before.before.before.before.before.before.before.before.before.before.before.before.before.before.before.before.taken.ensures c.before.before.before.before.before.before.before.before.before.before.before.before.before.before.before.before.before.before.before.before.before.before.before.before.if2.false c.before.before.before.before.before.before.before.before.before.before.before.before.before.before.before.before.before.before.before.before.before.before.if3.false c.before.before.before.before.before.before.before.before.before.before.before.before.before.before.execute.ensures
 
 pub step_spec : {M : Type 1} → statement M
 step_spec =

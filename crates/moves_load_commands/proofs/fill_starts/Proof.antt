@@ -1,6 +1,6 @@
 -- `moves_load_commands::fill_starts` meets its contract. Assumes nothing.
 use native.Mathlib.Omega.{arith}
-use Rattle.moves_load_commands.proofs.Lists.{Starting, starting_none, starting-more, starting-done}
+use Rattle.moves_load_commands.proofs.Lists.{Starting, starting_none, starting_more, starting_done}
 use Prim.Native.Nat.{◌-◌}
 use Rattle.moves_load_commands.proofs.fill_starts.Statement.{statement}
 use Rattle.moves_load_commands.proofs.fill_starts.Tie as tie
@@ -33,13 +33,13 @@ loop-less : tie.Need-loop-smaller invariant-loop decreases-loop
 loop-less c = omega arith
 
 loop-again : tie.Need-loop-preserved invariant-loop decreases-loop
-loop-again c = starting-more c.before.before.loop.invariant c.before.before.before.before.before.requires c.before.loop-test.true c.start.ensures.0
+loop-again c = starting_more c.before.before.loop.invariant c.before.before.before.before.before.requires c.before.loop-test.true c.start.ensures.0
 
 same_length : tie.Need-same-length invariant-loop decreases-loop
 same_length c = c.before.loop.invariant.long
 
 returns : tie.Need-returns invariant-loop decreases-loop
-returns c = starting-done c.before.loop.invariant c.before.before.before.before.requires (omega arith)
+returns c = starting_done c.before.loop.invariant c.before.before.before.before.requires (omega arith)
 
 pub fill-starts-spec : {M : Type 1} → statement M
 fill-starts-spec =

@@ -1,7 +1,7 @@
 -- `moves_load_commands::insert` meets its contract. Assumes nothing.
 use mathlib.Core.Path.{refl}
 use native.Mathlib.Omega.{arith}
-use Rattle.moves_load_commands.proofs.Lists.{Shifting, shifting_none, shifting-more, shifting-done}
+use Rattle.moves_load_commands.proofs.Lists.{Shifting, shifting_none, shifting_more, shifting_done}
 use lib.ListN.{length-set}
 use Rattle.moves_load_commands.proofs.insert.Statement.{statement}
 use Rattle.moves_load_commands.proofs.insert.Tie as tie
@@ -34,7 +34,7 @@ loop-less : tie.Need-loop-smaller invariant-loop decreases-loop
 loop-less c = omega arith
 
 loop-again : tie.Need-loop-preserved invariant-loop decreases-loop
-loop-again c = shifting-more c.before.before.loop.invariant c.before.before.before.requires.1 c.before.loop-test.true refl
+loop-again c = shifting_more c.before.before.loop.invariant c.before.before.before.requires.1 c.before.loop-test.true refl
 
 mul-l-3 : tie.Need-overflow-mul-l-3 invariant-loop decreases-loop
 mul-l-3 c = omega arith
@@ -46,7 +46,7 @@ same_length : tie.Need-same-length invariant-loop decreases-loop
 same_length c = simp length-set c.before.loop.invariant.long
 
 returns : tie.Need-returns invariant-loop decreases-loop
-returns c = shifting-done c.before.loop.invariant c.before.before.requires.1 _ (omega arith)
+returns c = shifting_done c.before.loop.invariant c.before.before.requires.1 _ (omega arith)
 
 pub insert-spec : {M : Type 1} → statement M
 insert-spec =

@@ -1,5 +1,5 @@
 -- `start_order::go_on` meets its contract. Assumes nothing.
-use Rattle.start_order.specs.Calls.{go-bit, go-cyclic, go-short, go-fetch, go-told}
+use Rattle.start_order.specs.Calls.{go_bit, go_cyclic, go_short, go_fetch, go_told}
 use native.Mathlib.Omega.{arith}
 use borrow.Author.Rules.{rules}
 use Rattle.start_order.proofs.go_on.Statement.{statement}
@@ -10,7 +10,7 @@ wide-requires c κs = search rules
 
 returns : tie.Need-returns
 returns c =
-    go-bit c.before.before.before.before.before.before.before.before.before.requires _ _ (omega (arith, c.before.wide.ensures, c.if1.true))
+    go_bit c.before.before.before.before.before.before.before.before.before.requires _ _ (omega (arith, c.before.wide.ensures, c.if1.true))
 
 mul-if2 : tie.Need-overflow-mul-if2
 mul-if2 c = search rules
@@ -26,18 +26,18 @@ shared-slice-read-if2 c = search rules
 
 returns-2 : tie.Need-returns-2
 returns-2 c =
-    go-cyclic c.before.before.before.before.before.before.before.before.before.before.before.requires _ _ (omega (arith, c.before.before.before.wide.ensures, c.before.before.if1.false)) c.if2.true
+    go_cyclic c.before.before.before.before.before.before.before.before.before.before.before.requires _ _ (omega (arith, c.before.before.before.wide.ensures, c.before.before.if1.false)) c.if2.true
 
 returns-3 : tie.Need-returns-3
 returns-3 c =
-    go-short c.before.before.before.before.before.before.before.before.before.before.before.before.requires _ _ (omega (arith, c.before.before.before.before.wide.ensures, c.before.before.before.if1.false)) c.before.if2.false c.if3.true
+    go_short c.before.before.before.before.before.before.before.before.before.before.before.before.requires _ _ (omega (arith, c.before.before.before.before.wide.ensures, c.before.before.before.if1.false)) c.before.if2.false c.if3.true
 
 registered-requires : tie.Need-registered-requires
 registered-requires c κs = search rules
 
 fetch-requires : tie.Need-fetch-requires
 fetch-requires c κs =
-    go-fetch c.before.before.before.before.before.before.before.before.before.before.before.before.before.before.before.requires _ _ (omega (arith, c.before.before.before.before.before.before.before.wide.ensures, c.before.before.before.before.before.before.if1.false)) c.before.before.before.before.if2.false c.before.before.before.if3.false c.before.before.registered.ensures
+    go_fetch c.before.before.before.before.before.before.before.before.before.before.before.before.before.before.before.requires _ _ (omega (arith, c.before.before.before.before.before.before.before.wide.ensures, c.before.before.before.before.before.before.if1.false)) c.before.before.before.before.if2.false c.before.before.before.if3.false c.before.before.registered.ensures
 
 wide-requires-2 : tie.Need-wide-requires-2
 wide-requires-2 c κs = search rules
@@ -50,7 +50,7 @@ same-length-2 c = search rules
 
 returns-4 : tie.Need-returns-4
 returns-4 c =
-    go-told c.before.before.before.before.before.before.before.before.before.before.before.before.before.before.before.before.before.before.before.before.before.requires _ _ (omega (arith, c.before.before.before.before.before.before.before.before.before.before.before.before.before.wide.ensures, c.before.before.before.before.before.before.before.before.before.before.before.before.if1.false)) c.before.before.before.before.before.before.before.before.before.before.if2.false c.before.before.before.before.before.before.before.before.before.if3.false c.before.before.before.before.before.fetch.ensures c.wide2.ensures
+    go_told c.before.before.before.before.before.before.before.before.before.before.before.before.before.before.before.before.before.before.before.before.before.requires _ _ (omega (arith, c.before.before.before.before.before.before.before.before.before.before.before.before.before.wide.ensures, c.before.before.before.before.before.before.before.before.before.before.before.before.if1.false)) c.before.before.before.before.before.before.before.before.before.before.if2.false c.before.before.before.before.before.before.before.before.before.if3.false c.before.before.before.before.before.fetch.ensures c.wide2.ensures
 
 pub go-on-spec : {M : Type 1} → statement M
 go-on-spec =

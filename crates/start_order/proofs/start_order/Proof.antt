@@ -1,5 +1,5 @@
 -- `start_order::start_order` meets its contract. Assumes nothing.
-use Rattle.start_order.specs.Calls.{call-refused, call_on, call-answer}
+use Rattle.start_order.specs.Calls.{call_refused, call_on, call-answer}
 use borrow.Author.Rules.{rules}
 use Rattle.start_order.proofs.start_order.Statement.{statement}
 use Rattle.start_order.proofs.start_order.Tie as tie
@@ -15,7 +15,7 @@ listed-row-requires c κs = search rules
 
 returns : tie.Need-returns
 returns c =
-    call-refused _ _ _ _ _ _ c.before.before.before.listed-row.ensures c.if1.true
+    call_refused _ _ _ _ _ _ c.before.before.before.listed-row.ensures c.if1.true
 
 slice-aggregate-go-on : tie.Need-slice-aggregate-go-on
 slice-aggregate-go-on c = search rules

@@ -1,6 +1,6 @@
 -- `chunk_optimizer::new` meets its contract. Assumes nothing.
 use mathlib.Core.Path.{refl, ◌∙◌}
-use Rattle.merge_loading.specs.Rows.{any_mode, can_load, refused-load, free-load}
+use Rattle.merge_loading.specs.Rows.{any_mode, can_load, refused_load, free-load}
 use borrow.Author.Rules.{rules}
 use Rattle.chunk_optimizer.proofs.load.new.Statement.{statement}
 use Rattle.chunk_optimizer.proofs.load.new.Tie as tie
@@ -12,7 +12,7 @@ same_length : tie.Need-same-length
 same_length c = search rules
 
 returns : tie.Need-returns
-returns c = refused-load _ _ _ (c.before.Load-row.ensures ∙ any_mode _ _ _ _ _ _ _ _ _) c.if1.true refl refl
+returns c = refused_load _ _ _ (c.before.Load-row.ensures ∙ any_mode _ _ _ _ _ _ _ _ _) c.if1.true refl refl
 
 load-requires : tie.Need-load-requires
 load-requires c κs = can_load _ _ _ (c.before.before.Load-row.ensures ∙ any_mode _ _ _ _ _ _ _ _ _) c.before.if1.false

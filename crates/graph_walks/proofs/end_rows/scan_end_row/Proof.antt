@@ -1,6 +1,6 @@
 -- `graph_walks::end_rows::scan_end_row` meets its contract. Assumes nothing.
-use Rattle.graph_walks.proofs.Layer.{look-can}
-use Rattle.graph_walks.proofs.EndLaws.{swept_none, swept-more, swept-off}
+use Rattle.graph_walks.proofs.Layer.{look_can}
+use Rattle.graph_walks.proofs.EndLaws.{swept_none, swept_more, swept_off}
 use Rattle.graph_walks.specs.Ends.{Swept}
 use lib.ListN.{length}
 use mathlib.Core.Path.{◌≡◌, refl, sym, ◌∙◌}
@@ -25,7 +25,7 @@ cast-if1 : tie.Need-overflow-cast-if1 invariant-loop decreases-loop
 cast-if1 c = omega (arith, c.before.before.before.before.before.requires.can.rows.each _ c.before.before.before.before.before.requires.row, c.before.before.before.before.before.requires.can.rows.rows.few)
 
 returns : tie.Need-returns invariant-loop decreases-loop
-returns c = swept-off _ _ c.before.before.before.before.before.before.requires.can.rows _ _ c.before.before.before.before.before.before.requires.can.ready c.before.before.before.before.before.before.requires.row c.if1.true
+returns c = swept_off _ _ c.before.before.before.before.before.before.requires.can.rows _ _ c.before.before.before.before.before.before.requires.can.ready c.before.before.before.before.before.before.requires.row c.if1.true
 
 mul-from : tie.Need-overflow-mul-from invariant-loop decreases-loop
 mul-from c = omega (arith, c.before.before.before.before.before.before.requires.inside)
@@ -49,7 +49,7 @@ shared-slice-read-look-end-2 : tie.Need-shared-slice-read-look-end-2 invariant-l
 shared-slice-read-look-end-2 c = omega (arith, c.before.before.before.before.before.before.before.before.before.before.before.before.requires.can.rows.long, c.before.before.before.before.loop-test.true)
 
 look-end-requires : tie.Need-look-end-requires invariant-loop decreases-loop
-look-end-requires c κs = look-can c.before.before.before.before.before.loop.invariant.0.ready (c.before.before.before.before.before.before.before.before.before.before.before.before.requires.can.rows.each _ c.before.before.before.before.loop-test.true)
+look-end-requires c κs = look_can c.before.before.before.before.before.loop.invariant.0.ready (c.before.before.before.before.before.before.before.before.before.before.before.before.requires.can.rows.each _ c.before.before.before.before.loop-test.true)
 
 add-j : tie.Need-overflow-add-j invariant-loop decreases-loop
 add-j c = omega arith
@@ -58,7 +58,7 @@ loop-less : tie.Need-loop-smaller invariant-loop decreases-loop
 loop-less c = omega arith
 
 loop-again : tie.Need-loop-preserved invariant-loop decreases-loop
-loop-again c = (swept-more _ _ c.before.before.before.before.before.before.before.before.before.before.before.before.before.before.before.before.before.requires.can.rows c.before.before.before.before.before.before.before.before.before.before.loop.invariant.0 c.before.before.before.before.before.before.before.before.before.before.before.before.before.before.before.before.before.requires.can.node c.before.before.before.before.before.before.before.before.before.before.before.before.before.before.before.before.before.requires.row c.before.before.before.before.before.before.before.before.before.loop-test.true c.before.before.before.before.before.before.before.before.before.before.before.if1.false c.before.before.before.before.look-end.ensures, omega arith, c.before.before.before.before.look-end.auto.1.1.1.1.0 ∙ c.before.before.before.before.before.before.before.before.before.before.loop.invariant.2, c.before.before.before.before.look-end.auto.1.1.1.1.1.0 ∙ c.before.before.before.before.before.before.before.before.before.before.loop.invariant.3)
+loop-again c = (swept_more _ _ c.before.before.before.before.before.before.before.before.before.before.before.before.before.before.before.before.before.requires.can.rows c.before.before.before.before.before.before.before.before.before.before.loop.invariant.0 c.before.before.before.before.before.before.before.before.before.before.before.before.before.before.before.before.before.requires.can.node c.before.before.before.before.before.before.before.before.before.before.before.before.before.before.before.before.before.requires.row c.before.before.before.before.before.before.before.before.before.loop-test.true c.before.before.before.before.before.before.before.before.before.before.before.if1.false c.before.before.before.before.look-end.ensures, omega arith, c.before.before.before.before.look-end.auto.1.1.1.1.0 ∙ c.before.before.before.before.before.before.before.before.before.before.loop.invariant.2, c.before.before.before.before.look-end.auto.1.1.1.1.1.0 ∙ c.before.before.before.before.before.before.before.before.before.before.loop.invariant.3)
 
 same_length : tie.Need-same-length invariant-loop decreases-loop
 same_length c = c.before.loop.invariant.2

@@ -4,7 +4,7 @@ use native.Mathlib.Omega.{arith}
 use lib.ListN.{get_or}
 use Rattle.graphs.specs.Bools.{Decides, leb_decides}
 use Rattle.layout.specs.Compare.{PartUpTo}
-use Rattle.layout.proofs.Deciding.{each_none, each_more, each-done}
+use Rattle.layout.proofs.Deciding.{each_none, each_more, each_done}
 use Rattle.layout.proofs.compare.none_above.Statement.{statement}
 use Rattle.layout.proofs.compare.none_above.Tie as tie
 
@@ -40,7 +40,7 @@ loop-again c =
 returns : tie.Need-returns invariant-loop decreases-loop
 returns c =
     let g = c.before.before.args in
-    each-done (λ i. get_or g.list.now (g.at + i) 0 ≤ g.bound) c.before.loop.invariant.1 (omega arith)
+    each_done (λ i. get_or g.list.now (g.at + i) 0 ≤ g.bound) c.before.loop.invariant.1 (omega arith)
 
 pub none-above-spec : {M : Type 1} → statement M
 none-above-spec =

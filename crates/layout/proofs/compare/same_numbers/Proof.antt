@@ -2,7 +2,7 @@
 use mathlib.Core.Path.{◌≡◌}
 use Prim.Native.Nat.{◌+◌, ◌-◌, ◌≤◌}
 use lib.ListN.{get_or}
-use Rattle.layout.proofs.Deciding.{each_none, each_more, each-done}
+use Rattle.layout.proofs.Deciding.{each_none, each_more, each_done}
 use native.Mathlib.Omega.{arith}
 use Rattle.graphs.specs.Bools.{Decides, eqb_decides}
 use Rattle.layout.specs.Compare.{SamePart}
@@ -50,7 +50,7 @@ loop-again c =
 returns : tie.Need-returns invariant-loop decreases-loop
 returns c =
     let g = c.before.before.args in
-    each-done (λ i. get_or g.a.now (g.at + i) 0 ≡ get_or g.b.now (g.from + i) 0) c.before.loop.invariant.1 (omega arith)
+    each_done (λ i. get_or g.a.now (g.at + i) 0 ≡ get_or g.b.now (g.from + i) 0) c.before.loop.invariant.1 (omega arith)
 
 pub same-numbers-spec : {M : Type 1} → statement M
 same-numbers-spec =

@@ -1,5 +1,5 @@
 -- `merge_area::merges::count_lane_faults` meets its contract. Assumes nothing.
-use Rattle.merge_area.proofs.Merging.{lane-sum}
+use Rattle.merge_area.proofs.Merging.{lane_sum}
 use borrow.Author.Rules.{rules}
 use Rattle.merge_area.proofs.merges.count_lane_faults.Statement.{statement}
 use Rattle.merge_area.proofs.merges.count_lane_faults.Tie as tie
@@ -29,7 +29,7 @@ add-result : tie.Need-overflow-add-result
 add-result c = search rules
 
 returns : tie.Need-returns
-returns c = lane-sum _ _ c.before.before.before.before.before.header.ensures c.before.before.before.before.into-place.ensures c.before.before.into-place2.ensures c.before.before.before.count-faults.ensures.value c.count-faults2.ensures.value
+returns c = lane_sum _ _ c.before.before.before.before.before.header.ensures c.before.before.before.before.into-place.ensures c.before.before.into-place2.ensures c.before.before.before.count-faults.ensures.value c.count-faults2.ensures.value
 
 pub count-lane-faults-spec : {M : Type 1} → statement M
 count-lane-faults-spec =

@@ -2,7 +2,7 @@
 use mathlib.Core.Path.{refl}
 use native.Mathlib.Omega.{arith}
 use Prim.Native.Nat.{◌-◌, ◌≤◌}
-use Rattle.merge_area.proofs.Merging.{Doubling, doubling-none, doubling-more, doubling-done}
+use Rattle.merge_area.proofs.Merging.{Doubling, doubling_none, doubling_more, doubling_done}
 use Rattle.merge_area.proofs.merges.double.Statement.{statement}
 use Rattle.merge_area.proofs.merges.double.Tie as tie
 
@@ -13,7 +13,7 @@ abbrev decreases-loop : tie.decreases-loop
 decreases-loop n ends₀ x₀ ends x = n - x
 
 loop-holds : tie.Need-loop-init invariant-loop decreases-loop
-loop-holds c = (omega arith, doubling-none _ _ c.requires)
+loop-holds c = (omega arith, doubling_none _ _ c.requires)
 
 mul-y : tie.Need-overflow-mul-y invariant-loop decreases-loop
 mul-y c = omega (arith, c.before.loop.invariant.1.inside.long)
@@ -43,13 +43,13 @@ loop-less : tie.Need-loop-smaller invariant-loop decreases-loop
 loop-less c = omega arith
 
 loop-again : tie.Need-loop-preserved invariant-loop decreases-loop
-loop-again c = (omega arith, doubling-more _ _ _ c.before.before.before.loop.invariant.1 c.before.before.loop-test.true refl refl)
+loop-again c = (omega arith, doubling_more _ _ _ c.before.before.before.loop.invariant.1 c.before.before.loop-test.true refl refl)
 
 same_length : tie.Need-same-length invariant-loop decreases-loop
 same_length c = c.before.loop.invariant.1.same
 
 returns : tie.Need-returns invariant-loop decreases-loop
-returns c = doubling-done _ c.before.loop.invariant.1 (omega arith)
+returns c = doubling_done _ c.before.loop.invariant.1 (omega arith)
 
 pub double-spec : {M : Type 1} → statement M
 double-spec =

@@ -1,6 +1,6 @@
 -- `merge_area::merges::find_ends` meets its contract. Assumes nothing.
 use mathlib.Core.Path.{◌∙◌}
-use Rattle.merge_area.proofs.Merging.{Rounds, rounds-none, rounds-more, rounds-done}
+use Rattle.merge_area.proofs.Merging.{Rounds, rounds_none, rounds_more, rounds_done}
 use Prim.Native.Nat.{◌-◌, ◌≤◌}
 use native.Mathlib.Omega.{arith}
 use Rattle.merge_area.proofs.merges.find_ends.Statement.{statement}
@@ -16,7 +16,7 @@ take-step-requires : tie.Need-take-step-requires invariant-loop decreases-loop
 take-step-requires c κs = (c.before.before.before.requires.0, omega (arith, c.before.before.before.requires.1))
 
 loop-holds : tie.Need-loop-init invariant-loop decreases-loop
-loop-holds c = (omega arith, rounds-none _ _ c.before.before.take_step.ensures.inside)
+loop-holds c = (omega arith, rounds_none _ _ c.before.before.take_step.ensures.inside)
 
 double-requires : tie.Need-double-requires invariant-loop decreases-loop
 double-requires c κs = c.before.before.loop.invariant.1.inside
@@ -28,13 +28,13 @@ loop-less : tie.Need-loop-smaller invariant-loop decreases-loop
 loop-less c = omega arith
 
 loop-again : tie.Need-loop-preserved invariant-loop decreases-loop
-loop-again c = (omega arith, rounds-more _ _ c.before.before.before.before.before.loop.invariant.1 c.before.before.double.ensures c.before.before.double.auto.1.0)
+loop-again c = (omega arith, rounds_more _ _ c.before.before.before.before.before.loop.invariant.1 c.before.before.double.ensures c.before.before.double.auto.1.0)
 
 same_length : tie.Need-same-length invariant-loop decreases-loop
 same_length c = c.before.loop.invariant.1.same ∙ c.before.before.before.before.take_step.auto.1.1.1.0
 
 returns : tie.Need-returns invariant-loop decreases-loop
-returns c = rounds-done _ _ _ c.before.loop.invariant.1 (omega arith) c.before.before.before.before.take_step.ensures
+returns c = rounds_done _ _ _ c.before.loop.invariant.1 (omega arith) c.before.before.before.before.take_step.ensures
 
 pub find-ends-spec : {M : Type 1} → statement M
 find-ends-spec =

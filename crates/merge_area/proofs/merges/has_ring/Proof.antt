@@ -1,6 +1,6 @@
 -- `merge_area::merges::has_ring` meets its contract. Assumes nothing.
 use native.Mathlib.Omega.{arith}
-use Rattle.merge_area.specs.Merged.{ring-is}
+use Rattle.merge_area.specs.Merged.{ring_is}
 use mathlib.Core.Path.{◌∙◌}
 use borrow.Author.Rules.{rules}
 use Rattle.merge_area.proofs.merges.has_ring.Statement.{statement}
@@ -19,7 +19,7 @@ some-left-requires : tie.Need-some-left-requires
 some-left-requires c κs = search rules
 
 returns : tie.Need-returns
-returns c = c.some_left.ensures ∙ ring-is _ _ c.before.before.before.before.before.before.requires.range c.before.before.before.find-ends.ensures (omega (arith, c.before.before.before.before.before.before.requires.few, c.before.before.before.before.before.before.requires.within.chunks))
+returns c = c.some_left.ensures ∙ ring_is _ _ c.before.before.before.before.before.before.requires.range c.before.before.before.find-ends.ensures (omega (arith, c.before.before.before.before.before.before.requires.few, c.before.before.before.before.before.before.requires.within.chunks))
 
 pub has-ring-spec : {M : Type 1} → statement M
 has-ring-spec =

@@ -1,5 +1,5 @@
 -- `merge_area::merges::is_gone` meets its contract. Assumes nothing.
-use Rattle.merge_area.proofs.Merging.{not-gone-off, not-gone-past, gone_at}
+use Rattle.merge_area.proofs.Merging.{not_gone-off, not_gone_past, gone_at}
 use borrow.Author.Tests.{not-true, not-false}
 use mathlib.Core.Path.{sym, ◌∙◌}
 use native.Mathlib.Omega.{arith}
@@ -11,10 +11,10 @@ is-mode-requires : tie.Need-is-mode-requires
 is-mode-requires c κs = search rules
 
 returns : tie.Need-returns
-returns c = not-gone-off _ _ _ (sym c.before.is-mode.ensures ∙ not-true _ c.if1.true)
+returns c = not_gone-off _ _ _ (sym c.before.is-mode.ensures ∙ not-true _ c.if1.true)
 
 returns-2 : tie.Need-returns-2
-returns-2 c = not-gone-past _ _ _ c.if2.true
+returns-2 c = not_gone_past _ _ _ c.if2.true
 
 into-place-requires : tie.Need-into-place-requires
 into-place-requires c κs = search rules

@@ -2,7 +2,7 @@
 use Prim.Native.Nat.{◌-◌}
 use native.Mathlib.Omega.{arith}
 use lib.ListN.{length}
-use Rattle.merge_loading.specs.Listing.{Listed, listed-none, list-long, list-seek, list-can, list-more, list_done}
+use Rattle.merge_loading.specs.Listing.{Listed, listed-none, list_long, list_seek, list_can, list_more, list_done}
 use Rattle.merge_loading.proofs.entries.list_modules.Statement.{statement}
 use Rattle.merge_loading.proofs.entries.list_modules.Tie as tie
 
@@ -16,7 +16,7 @@ loop-holds : tie.Need-loop-init invariant-loop decreases-loop
 loop-holds c = listed-none c.before.before.before.before.requires
 
 lister-from-requires : tie.Need-lister-from-requires invariant-loop decreases-loop
-lister-from-requires c κs = list-seek c.before.before.before.before.before.before.requires c.before.loop.invariant c.loop-test.true
+lister-from-requires c κs = list_seek c.before.before.before.before.before.before.requires c.before.loop.invariant c.loop-test.true
 
 mul-m : tie.Need-overflow-mul-m invariant-loop decreases-loop
 mul-m c = omega arith
@@ -37,7 +37,7 @@ shared-slice-read-append : tie.Need-shared-slice-read-append invariant-loop decr
 shared-slice-read-append c = omega (arith, c.before.before.before.before.before.before.before.before.before.before.requires.listed c.before.before.before.before.before.loop.k c.before.before.before.before.loop-test.true, c.before.before.before.before.before.before.before.before.before.before.requires.told)
 
 append-requires : tie.Need-append-requires invariant-loop decreases-loop
-append-requires c κs = list-can c.before.before.before.before.before.before.before.before.before.before.requires c.before.before.before.before.before.loop.invariant c.before.before.before.before.loop-test.true c.before.before.before.lister-from.ensures
+append-requires c κs = list_can c.before.before.before.before.before.before.before.before.before.before.requires c.before.before.before.before.before.loop.invariant c.before.before.before.before.loop-test.true c.before.before.before.lister-from.ensures
 
 add-k : tie.Need-overflow-add-k invariant-loop decreases-loop
 add-k c = omega arith
@@ -46,10 +46,10 @@ loop-less : tie.Need-loop-smaller invariant-loop decreases-loop
 loop-less c = omega arith
 
 loop-again : tie.Need-loop-preserved invariant-loop decreases-loop
-loop-again c = list-more c.before.before.before.before.before.before.before.before.before.before.before.before.before.requires c.before.before.before.before.before.before.before.before.loop.invariant c.before.before.before.before.before.before.lister-from.ensures c.before.before.before.before.before.before.before.loop-test.true c.before.before.append.ensures
+loop-again c = list_more c.before.before.before.before.before.before.before.before.before.before.before.before.before.requires c.before.before.before.before.before.before.before.before.loop.invariant c.before.before.before.before.before.before.lister-from.ensures c.before.before.before.before.before.before.before.loop-test.true c.before.before.append.ensures
 
 same_length : tie.Need-same-length invariant-loop decreases-loop
-same_length c = list-long c.before.before.before.before.before.before.requires c.before.loop.invariant
+same_length c = list_long c.before.before.before.before.before.before.requires c.before.loop.invariant
 
 returns : tie.Need-returns invariant-loop decreases-loop
 returns c = list_done c.before.before.before.before.before.before.requires c.before.loop.invariant (omega (arith, c.before.loop.invariant.most))

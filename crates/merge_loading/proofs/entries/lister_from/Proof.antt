@@ -1,7 +1,7 @@
 use Prim.Native.Nat.{◌+◌, ◌-◌}
 -- `merge_loading::entries::lister_from` meets its contract. Assumes nothing.
 use native.Mathlib.Omega.{arith}
-use Rattle.merge_loading.specs.Listing.{CanSeek, seek-in, seek-more, seek-done}
+use Rattle.merge_loading.specs.Listing.{CanSeek, seek_in, seek_more, seek_done}
 use Rattle.merge_loading.proofs.entries.lister_from.Statement.{statement}
 use Rattle.merge_loading.proofs.entries.lister_from.Tie as tie
 
@@ -27,7 +27,7 @@ cast-if1 : tie.Need-overflow-cast-if1 invariant-loop decreases-loop
 cast-if1 c = omega (arith, c.shared-slice-known.given (c.before.before.loop.y + 1))
 
 returns : tie.Need-returns invariant-loop decreases-loop
-returns c = seek-done c.before.before.before.loop.invariant c.if1.true
+returns c = seek_done c.before.before.before.loop.invariant c.if1.true
 
 add-y : tie.Need-overflow-add-y invariant-loop decreases-loop
 add-y c = omega arith
@@ -36,10 +36,10 @@ loop-less : tie.Need-loop-smaller invariant-loop decreases-loop
 loop-less c = omega arith
 
 loop-again : tie.Need-loop-preserved invariant-loop decreases-loop
-loop-again c = seek-more c.before.before.before.loop.invariant c.if1.false
+loop-again c = seek_more c.before.before.before.loop.invariant c.if1.false
 
 returns-2 : tie.Need-returns-2 invariant-loop decreases-loop
-returns-2 c = absurd (omega (arith, seek-in c.before.loop.invariant, c.loop-test.false))
+returns-2 c = absurd (omega (arith, seek_in c.before.loop.invariant, c.loop-test.false))
 
 pub lister-from-spec : {M : Type 1} → statement M
 lister-from-spec =

@@ -1,5 +1,5 @@
 -- `merge_loading::entries::load` meets its contract. Assumes nothing.
-use Rattle.merge_loading.specs.Rows.{load-list}
+use Rattle.merge_loading.specs.Rows.{load_list}
 use Rattle.merge_loading.specs.Loading.{loaded_area}
 use borrow.Author.Rules.{rules}
 use Rattle.merge_loading.proofs.entries.load.Statement.{statement}
@@ -12,7 +12,7 @@ write-bare-requires : tie.Need-write-bare-requires
 write-bare-requires c κs = search rules
 
 list-modules-requires : tie.Need-list-modules-requires
-list-modules-requires c κs = load-list c.before.before.before.before.before.before.before.before.before.before.before.before.before.before.before.requires (rw (← c.before.before.before.before.before.before.before.write-mode.ensures) c.before.before.before.write-bare.ensures)
+list-modules-requires c κs = load_list c.before.before.before.before.before.before.before.before.before.before.before.before.before.before.before.requires (rw (← c.before.before.before.before.before.before.before.write-mode.ensures) c.before.before.before.write-bare.ensures)
 
 same_length : tie.Need-same-length
 same_length c = search rules

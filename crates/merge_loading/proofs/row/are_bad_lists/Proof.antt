@@ -1,5 +1,5 @@
 use Rattle.graphs.specs.Bools.{or_left}
-use Rattle.merge_loading.proofs.Laws.{lists-sets, lists-effects}
+use Rattle.merge_loading.proofs.Laws.{lists-sets, lists_effects}
 -- `merge_loading::row::are_bad_lists` meets its contract. Assumes nothing.
 use Prim.Native.Nat.{◌≤◌}
 use mathlib.Core.Path.{sym, ◌∙◌}
@@ -25,7 +25,7 @@ returns-2 : tie.Need-returns-2
 returns-2 c = lists-sets c.before.before.before.before.before.args.sizes c.before.before.before.before.before.args.initial c.before.before.before.before.before.args.starts.now c.before.before.before.before.before.args.listed c.before.before.before.before.before.args.flat c.before.before.before.before.before.args.pairs c.before.before.before.before.before.args.effects _ c.before.set-width.ensures c.if2.true
 
 returns-3 : tie.Need-returns-3
-returns-3 c = lists-effects c.before.before.before.before.before.before.args.sizes c.before.before.before.before.before.before.args.initial c.before.before.before.before.before.before.args.starts.now c.before.before.before.before.before.before.args.listed c.before.before.before.before.before.before.args.flat c.before.before.before.before.before.before.args.pairs c.before.before.before.before.before.before.args.effects _ c.before.before.set-width.ensures (sym c.before.before.before.before.are-bad-starts.ensures ∙ c.before.before.before.if1.false) c.before.if2.false
+returns-3 c = lists_effects c.before.before.before.before.before.before.args.sizes c.before.before.before.before.before.before.args.initial c.before.before.before.before.before.before.args.starts.now c.before.before.before.before.before.before.args.listed c.before.before.before.before.before.before.args.flat c.before.before.before.before.before.before.args.pairs c.before.before.before.before.before.before.args.effects _ c.before.before.set-width.ensures (sym c.before.before.before.before.are-bad-starts.ensures ∙ c.before.before.before.if1.false) c.before.if2.false
 
 pub are-bad-lists-spec : {M : Type 1} → statement M
 are-bad-lists-spec =

@@ -1,7 +1,7 @@
 -- `merge_loading::row::later_row` meets its contract. Assumes nothing.
 use native.Mathlib.Omega.{arith}
 use lib.ListN.{length}
-use Rattle.merge_loading.specs.Sets.{test_full, test-narrow}
+use Rattle.merge_loading.specs.Sets.{test-full, test_narrow}
 use Rattle.merge_loading.proofs.Laws.{later_is}
 use borrow.Author.Rules.{rules}
 use Rattle.merge_loading.proofs.row.later_row.Statement.{statement}
@@ -14,7 +14,7 @@ set-width-requires : tie.Need-set-width-requires
 set-width-requires c κs = search rules
 
 any-twice-requires : tie.Need-any-twice-requires
-any-twice-requires c κs = let t = test_full {sets = c.before.before.before.before.before.args.sets.now} {p = length c.before.before.before.before.before.args.chunks.now} c.before.before.before.before.before.requires.0 c.before.before.before.before.before.requires.2 c.set-width.ensures in (test-narrow t, omega (arith, t.full), c.before.before.before.before.before.requires.1)
+any-twice-requires c κs = let t = test-full {sets = c.before.before.before.before.before.args.sets.now} {p = length c.before.before.before.before.before.args.chunks.now} c.before.before.before.before.before.requires.0 c.before.before.before.before.before.requires.2 c.set-width.ensures in (test_narrow t, omega (arith, t.full), c.before.before.before.before.before.requires.1)
 
 first-later-requires : tie.Need-first-later-requires
 first-later-requires c κs = search rules

@@ -1,5 +1,5 @@
 -- `merge_rows::checks::count_candidates` meets its contract. Assumes nothing.
-use Rattle.merge_rows.proofs.Laws.{waiting_more}
+use Rattle.merge_rows.proofs.Laws.{waiting-more}
 use Rattle.merge_area.specs.Read.{read}
 use Rattle.merge_area.specs.Layout.{cell, head}
 use Rattle.merge_state.specs.Merges.{waits}
@@ -30,7 +30,7 @@ count-waiting-requires : tie.Need-count-waiting-requires invariant-loop decrease
 count-waiting-requires c κs = (c.before.before.before.before.requires, omega (arith, c.loop-test.true, c.before.before.header.ensures, c.before.before.before.before.requires.fits))
 
 add-n : tie.Need-overflow-add-n invariant-loop decreases-loop
-add-n c = omega (arith, waiting_more _ _ _ c.before.before.loop.invariant.1 c.count-waiting.ensures, count_le (waits (read c.before.before.before.before.before.args.sizes c.before.before.before.before.before.args.area.now)) (c.before.before.loop.x + 1), c.before.before.before.header.ensures, c.before.before.before.before.before.requires.fits, c.before.before.before.before.before.requires.within.chunks)
+add-n c = omega (arith, waiting-more _ _ _ c.before.before.loop.invariant.1 c.count-waiting.ensures, count_le (waits (read c.before.before.before.before.before.args.sizes c.before.before.before.before.before.args.area.now)) (c.before.before.loop.x + 1), c.before.before.before.header.ensures, c.before.before.before.before.before.requires.fits, c.before.before.before.before.before.requires.within.chunks)
 
 add-x : tie.Need-overflow-add-x invariant-loop decreases-loop
 add-x c = omega arith
@@ -39,7 +39,7 @@ loop-less : tie.Need-loop-smaller invariant-loop decreases-loop
 loop-less c = omega arith
 
 loop-again : tie.Need-loop-preserved invariant-loop decreases-loop
-loop-again c = (omega arith, waiting_more _ _ _ c.before.before.loop.invariant.1 c.count-waiting.ensures)
+loop-again c = (omega arith, waiting-more _ _ _ c.before.before.loop.invariant.1 c.count-waiting.ensures)
 
 returns : tie.Need-returns invariant-loop decreases-loop
 returns c = let e : c.before.loop.x ≡ cell c.before.before.before.before.args.area.now (head c.before.before.before.before.args.sizes 1) = omega (arith, c.before.before.header.ensures) in c.before.loop.invariant.1 ∙ ap (count (waits (read c.before.before.before.before.args.sizes c.before.before.before.before.args.area.now))) e

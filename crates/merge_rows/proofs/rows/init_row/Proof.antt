@@ -7,7 +7,7 @@ use Rattle.graphs.specs.Bools.{or_left, or_right}
 use Rattle.merge_state.specs.Table.{over_lists, bad_lists, later}
 use Rattle.merge_laws.specs.Rows.{fits_here, early, late, stood}
 use Rattle.entry_set.specs.SetLaws.{legal-short}
-use Rattle.merge_rows.proofs.Laws.{init-room}
+use Rattle.merge_rows.proofs.Laws.{init_room}
 use borrow.Author.Rules.{rules}
 use Rattle.merge_rows.proofs.rows.init_row.Statement.{statement}
 use Rattle.merge_rows.proofs.rows.init_row.Tie as tie
@@ -46,7 +46,7 @@ room-row-requires : tie.Need-room-row-requires
 room-row-requires c κs = search rules
 
 returns-4 : tie.Need-returns-4
-returns-4 c = init-room c.before.before.before.before.before.before.before.before.before.before.before.before.before.before.before.args.sizes c.before.before.before.before.before.before.before.before.before.before.before.before.before.before.before.args.area.now c.before.before.before.before.before.before.before.before.before.before.before.before.before.before.before.args.m.0 c.before.before.before.before.before.before.before.before.before.before.before.before.before.before.before.args.bits.now c.before.before.before.before.before.before.before.before.before.before.before.before.before.before.before.args.effects.now _ _ c.before.before.before.before.before.before.before.before.before.before.standing-row.ensures c.before.before.before.before.before.before.before.before.before.if1.false c.before.before.before.find-chunk.ensures (lt-leb _ _ c.before.before.before.before.before.before.if2.false) (ap not (sym c.before.before.before.before.before.is-legal.ensures) ∙ c.before.before.before.before.if3.false) c.before.before.lacks-chunk.ensures _ c.before.is-full.ensures c.Room-row.ensures
+returns-4 c = init_room c.before.before.before.before.before.before.before.before.before.before.before.before.before.before.before.args.sizes c.before.before.before.before.before.before.before.before.before.before.before.before.before.before.before.args.area.now c.before.before.before.before.before.before.before.before.before.before.before.before.before.before.before.args.m.0 c.before.before.before.before.before.before.before.before.before.before.before.before.before.before.before.args.bits.now c.before.before.before.before.before.before.before.before.before.before.before.before.before.before.before.args.effects.now _ _ c.before.before.before.before.before.before.before.before.before.before.standing-row.ensures c.before.before.before.before.before.before.before.before.before.if1.false c.before.before.before.find-chunk.ensures (lt-leb _ _ c.before.before.before.before.before.before.if2.false) (ap not (sym c.before.before.before.before.before.is-legal.ensures) ∙ c.before.before.before.before.if3.false) c.before.before.lacks-chunk.ensures _ c.before.is-full.ensures c.Room-row.ensures
 
 pub init-row-spec : {M : Type 1} → statement M
 init-row-spec =

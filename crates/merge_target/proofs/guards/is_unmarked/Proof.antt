@@ -1,5 +1,5 @@
 -- `merge_target::guards::is_unmarked` meets its contract. Assumes nothing.
-use Rattle.merge_choice.specs.Guards.{other-role, by-its-mark}
+use Rattle.merge_choice.specs.Guards.{other-role, by_its_mark}
 use borrow.Author.Rules.{rules}
 use Rattle.merge_target.proofs.guards.is_unmarked.Statement.{statement}
 use Rattle.merge_target.proofs.guards.is_unmarked.Tie as tie
@@ -20,7 +20,7 @@ shared-slice-read-result : tie.Need-shared-slice-read-result
 shared-slice-read-result c = search rules
 
 returns-2 : tie.Need-returns-2
-returns-2 c = by-its-mark _ _ _ c.before.if1.false
+returns-2 c = by_its_mark _ _ _ c.before.if1.false
 
 pub is-unmarked-spec : {M : Type 1} → statement M
 is-unmarked-spec =

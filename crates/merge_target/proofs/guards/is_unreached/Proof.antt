@@ -1,6 +1,6 @@
 -- `merge_target::guards::is_unreached` meets its contract. Assumes nothing.
 use Rattle.graphs.specs.Tab.{zeros}
-use Rattle.merge_choice.specs.Guards.{unreached-is}
+use Rattle.merge_choice.specs.Guards.{unreached_is}
 use borrow.Author.Rules.{rules}
 use Rattle.merge_target.proofs.guards.is_unreached.Statement.{statement}
 use Rattle.merge_target.proofs.guards.is_unreached.Tie as tie
@@ -18,7 +18,7 @@ some-unmarked-requires : tie.Need-some-unmarked-requires
 some-unmarked-requires c κs = search rules
 
 returns : tie.Need-returns
-returns c = unreached-is _ _ _ _ _ (zeros 1024) c.before.before.before.mark-list.ensures c.some-unmarked.ensures
+returns c = unreached_is _ _ _ _ _ (zeros 1024) c.before.before.before.mark-list.ensures c.some-unmarked.ensures
 
 pub is-unreached-spec : {M : Type 1} → statement M
 is-unreached-spec =

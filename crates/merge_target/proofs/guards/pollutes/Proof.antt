@@ -1,6 +1,6 @@
 -- `merge_target::guards::pollutes` meets its contract. Assumes nothing.
 use Rattle.graphs.specs.Tab.{zeros}
-use Rattle.merge_choice.specs.Guards.{polluted-is}
+use Rattle.merge_choice.specs.Guards.{polluted_is}
 use native.Mathlib.Omega.{arith}
 use borrow.Author.Rules.{rules}
 use Rattle.merge_target.proofs.guards.pollutes.Statement.{statement}
@@ -25,7 +25,7 @@ some-polluting-requires : tie.Need-some-polluting-requires
 some-polluting-requires c κs = record { flagged = c.before.before.before.before.before.before.before.before.before.requires.flagged; marked = λ i h. omega (arith, c.before.before.before.before.before.before.before.before.before.requires.own i h, c.before.before.before.mark-entries.ensures.long) }
 
 returns : tie.Need-returns
-returns c = let s = c.before.before.before.before.before.before.before.before.before.before.args in polluted-is s.n s.roles.now s.entries.now s.exports.now s.candidate.now s.t (zeros 4096) c.before.before.before.before.mark-entries.ensures c.some-polluting.ensures
+returns c = let s = c.before.before.before.before.before.before.before.before.before.before.args in polluted_is s.n s.roles.now s.entries.now s.exports.now s.candidate.now s.t (zeros 4096) c.before.before.before.before.mark-entries.ensures c.some-polluting.ensures
 
 pub pollutes-spec : {M : Type 1} → statement M
 pollutes-spec =

@@ -1,6 +1,6 @@
 -- `merge_target::guards::strays` meets its contract. Assumes nothing.
 use Rattle.graphs.specs.Tab.{zeros}
-use Rattle.merge_choice.specs.Guards.{strayed-is}
+use Rattle.merge_choice.specs.Guards.{strayed_is}
 use native.Mathlib.Omega.{arith}
 use borrow.Author.Rules.{rules}
 use Rattle.merge_target.proofs.guards.strays.Statement.{statement}
@@ -25,7 +25,7 @@ some-stray-requires : tie.Need-some-stray-requires
 some-stray-requires c κs = record { spans = c.before.before.before.before.before.before.before.before.before.before.before.before.requires.spans; below = λ i h. omega (arith, c.before.before.before.before.before.before.before.before.before.before.before.before.requires.below i h, c.before.before.before.before.before.mark-list.ensures.long, c.before.before.mark-free.ensures.long) }
 
 returns : tie.Need-returns
-returns c = let s = c.before.before.before.before.before.before.before.before.before.before.before.before.before.args in strayed-is s.homes.now s.modules.now s.starts.now s.importers.now s.candidate.now s.t (zeros 4096) c.before.before.before.before.before.before.mark-list.ensures c.before.before.before.mark-free.ensures c.some-stray.ensures
+returns c = let s = c.before.before.before.before.before.before.before.before.before.before.before.before.before.args in strayed_is s.homes.now s.modules.now s.starts.now s.importers.now s.candidate.now s.t (zeros 4096) c.before.before.before.before.before.before.mark-list.ensures c.before.before.before.mark-free.ensures c.some-stray.ensures
 
 pub strays-spec : {M : Type 1} → statement M
 strays-spec =

@@ -1,7 +1,7 @@
 -- `merge_target::named::role` meets its contract. Assumes nothing.
 use borrow.Author.Tests.{not-true, not-false}
 use mathlib.Core.Path.{sym, ◌∙◌}
-use Rattle.merge_choice.specs.Named.{role-unnamed, role-common, role-user, role-dynamic}
+use Rattle.merge_choice.specs.Named.{role-unnamed, role-common, role_user, role-dynamic}
 use borrow.Author.Rules.{rules}
 use Rattle.merge_target.proofs.named.role.Statement.{statement}
 use Rattle.merge_target.proofs.named.role.Tie as tie
@@ -31,7 +31,7 @@ shared-slice-read-if3 : tie.Need-shared-slice-read-if3
 shared-slice-read-if3 c = search rules
 
 returns-3 : tie.Need-returns-3
-returns-3 c = role-user _ c.before.before.before.before.before.before.before.before.requires (sym c.before.before.before.before.before.has-bit.ensures ∙ not-false _ c.before.before.before.before.if1.false) c.before.before.if2.false c.if3.true
+returns-3 c = role_user _ c.before.before.before.before.before.before.before.before.requires (sym c.before.before.before.before.before.has-bit.ensures ∙ not-false _ c.before.before.before.before.if1.false) c.before.before.if2.false c.if3.true
 
 returns-4 : tie.Need-returns-4
 returns-4 c = role-dynamic _ c.before.before.before.before.before.before.before.before.requires (sym c.before.before.before.before.before.has-bit.ensures ∙ not-false _ c.before.before.before.before.if1.false) c.before.before.if2.false c.if3.false

@@ -5,7 +5,7 @@ use mathlib.Core.Bool.{false}
 use lib.Dec.{eqb}
 use borrow.Author.Tests.{eq-eqb, ne_eqb}
 use Rattle.graphs.specs.Lists.{none_left, none_more, some_found, some_below, some_zero}
-use Rattle.merge_choice.specs.Choice.{some-role}
+use Rattle.merge_choice.specs.Choice.{some_role}
 use Rattle.merge_choice.specs.Named.{reads}
 use native.Mathlib.Omega.{arith}
 use Rattle.merge_target.proofs.named.some_role.Statement.{statement}
@@ -27,7 +27,7 @@ shared-slice-read-if1 : tie.Need-shared-slice-read-if1 invariant-loop decreases-
 shared-slice-read-if1 c = omega arith
 
 returns : tie.Need-returns invariant-loop decreases-loop
-unfolding some-role
+unfolding some_role
 returns c = some_found _ _ _ c.before.before.loop-test.true (eq-eqb _ _ c.if1.true)
 
 add-b : tie.Need-overflow-add-b invariant-loop decreases-loop
@@ -40,7 +40,7 @@ loop-again : tie.Need-loop-preserved invariant-loop decreases-loop
 loop-again c = (omega arith, none_more _ _ c.before.before.before.loop.invariant.1 (ne_eqb _ _ c.if1.false))
 
 returns-2 : tie.Need-returns-2 invariant-loop decreases-loop
-unfolding some-role
+unfolding some_role
 returns-2 c = none_left _ _ _ c.before.loop.invariant.1 (omega arith)
 
 pub some-role-spec : {M : Type 1} → statement M

@@ -1,5 +1,5 @@
 -- `merge_target::target::wins` meets its contract. Assumes nothing.
-use Rattle.merge_choice.specs.Search.{lost, won, can-mark, can-miss}
+use Rattle.merge_choice.specs.Search.{lost, won, can_mark, can_miss}
 use native.Mathlib.Omega.{arith}
 use borrow.Author.Rules.{rules}
 use Rattle.merge_target.proofs.target.wins.Statement.{statement}
@@ -30,10 +30,10 @@ cast-mark-list : tie.Need-overflow-cast-mark-list
 cast-mark-list c = omega (arith, c.shared-slice-known6.given c.before.before.before.before.before.before.before.before.args.t)
 
 mark-list-requires : tie.Need-mark-list-requires
-mark-list-requires c κs = can-mark c.before.before.before.before.before.before.before.before.before.requires c.before.before.if1.false
+mark-list-requires c κs = can_mark c.before.before.before.before.before.before.before.before.before.requires c.before.before.if1.false
 
 some-missing-requires : tie.Need-some-missing-requires
-some-missing-requires c κs = can-miss c.before.before.before.before.before.before.before.before.before.before.before.before.before.requires c.before.before.before.mark-list.ensures.long
+some-missing-requires c κs = can_miss c.before.before.before.before.before.before.before.before.before.before.before.before.before.requires c.before.before.before.mark-list.ensures.long
 
 same_length : tie.Need-same-length
 same_length c = search rules

@@ -2,7 +2,7 @@
 use Rattle.graph_walks.specs.Ends.{end_edge}
 use Rattle.graph_walks.specs.Closed.{closed}
 use lib.ListN.{get_or}
-use Rattle.merge_warning.specs.EndHits.{end-rows, reach_marks}
+use Rattle.merge_warning.specs.EndHits.{end-rows, reach-marks}
 use Rattle.merge_warning.specs.Hits.{marked-yes}
 use Rattle.graphs.specs.Tab.{zeros}
 use mathlib.Core.Path.{◌∙◌}
@@ -45,7 +45,7 @@ array-read-result : tie.Need-array-read-result
 array-read-result c = omega (arith, c.before.before.before.before.before.before.before.before.before.requires.each _ c.before.before.before.before.before.before.before.before.before.requires.ask.second, c.before.before.before.before.before.before.before.before.before.requires.ask.narrow, c.before.before.before.before.before.before.before.before.before.requires.ask.few)
 
 returns : tie.Need-returns
-returns c = let x = get_or c.before.before.before.before.before.before.before.before.before.args.ends.now c.before.before.before.before.before.before.before.before.before.args.from 0 in let y = get_or c.before.before.before.before.before.before.before.before.before.args.ends.now c.before.before.before.before.before.before.before.before.before.args.to 0 in marked-yes (closed (end_edge c.before.before.before.before.before.before.before.before.before.args.flags.now c.before.before.before.before.before.before.before.before.before.args.c c.before.before.before.before.before.before.before.before.before.args.n c.before.before.before.before.before.before.before.before.before.args.ends.now x x) c.before.before.before.before.before.before.before.before.before.args.n x x) _ _ c.before.before.before.before.before.before.before.before.before.args.n (λ x h. zeros 1024 x) (omega (arith, c.before.before.before.before.before.before.before.before.before.requires.ask.narrow, c.before.before.before.before.before.before.before.before.before.requires.ask.few)) c.before.before.closure-ends.ensures y (c.before.before.before.before.before.before.before.before.before.requires.each _ c.before.before.before.before.before.before.before.before.before.requires.ask.second) ∙ reach_marks c.before.before.before.before.before.before.before.before.before.args.flags.now c.before.before.before.before.before.before.before.before.before.args.c c.before.before.before.before.before.before.before.before.before.args.n c.before.before.before.before.before.before.before.before.before.args.ends.now c.before.before.before.before.before.before.before.before.before.requires.each x y
+returns c = let x = get_or c.before.before.before.before.before.before.before.before.before.args.ends.now c.before.before.before.before.before.before.before.before.before.args.from 0 in let y = get_or c.before.before.before.before.before.before.before.before.before.args.ends.now c.before.before.before.before.before.before.before.before.before.args.to 0 in marked-yes (closed (end_edge c.before.before.before.before.before.before.before.before.before.args.flags.now c.before.before.before.before.before.before.before.before.before.args.c c.before.before.before.before.before.before.before.before.before.args.n c.before.before.before.before.before.before.before.before.before.args.ends.now x x) c.before.before.before.before.before.before.before.before.before.args.n x x) _ _ c.before.before.before.before.before.before.before.before.before.args.n (λ x h. zeros 1024 x) (omega (arith, c.before.before.before.before.before.before.before.before.before.requires.ask.narrow, c.before.before.before.before.before.before.before.before.before.requires.ask.few)) c.before.before.closure-ends.ensures y (c.before.before.before.before.before.before.before.before.before.requires.each _ c.before.before.before.before.before.before.before.before.before.requires.ask.second) ∙ reach-marks c.before.before.before.before.before.before.before.before.before.args.flags.now c.before.before.before.before.before.before.before.before.before.args.c c.before.before.before.before.before.before.before.before.before.args.n c.before.before.before.before.before.before.before.before.before.args.ends.now c.before.before.before.before.before.before.before.before.before.requires.each x y
 
 pub reaches-counted-spec : {M : Type 1} → statement M
 reaches-counted-spec =

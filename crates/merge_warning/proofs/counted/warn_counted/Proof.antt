@@ -1,5 +1,5 @@
 -- `merge_warning::counted::warn_counted` meets its contract. Assumes nothing.
-use Rattle.merge_warning.specs.EndHits.{end-rows, end-hits-are}
+use Rattle.merge_warning.specs.EndHits.{end-rows, end-hits_are}
 use Rattle.merge_warning.specs.Hits.{warns-target, warns-member}
 use Rattle.graphs.specs.Tab.{zeros}
 use mathlib.Core.Path.{◌∙◌}
@@ -33,7 +33,7 @@ some-end-hit-requires : tie.Need-some-end-hit-requires
 some-end-hit-requires c κs = search rules
 
 returns-2 : tie.Need-returns-2
-returns-2 c = warns-member _ _ _ _ _ _ c.before.before.before.before.before.before.before.before.before.before.requires.ask.second (λ x h. zeros 1024 x) (omega (arith, c.before.before.before.before.before.before.before.before.before.before.requires.ask.narrow, c.before.before.before.before.before.before.before.before.before.before.requires.ask.few)) c.before.before.before.before.before.closure-ends.ensures c.before.before.if1.false (c.some-end-hit.ensures ∙ end-hits-are _ _ _ _ _ _ _ c.before.before.before.before.before.before.before.before.before.before.requires.each)
+returns-2 c = warns-member _ _ _ _ _ _ c.before.before.before.before.before.before.before.before.before.before.requires.ask.second (λ x h. zeros 1024 x) (omega (arith, c.before.before.before.before.before.before.before.before.before.before.requires.ask.narrow, c.before.before.before.before.before.before.before.before.before.before.requires.ask.few)) c.before.before.before.before.before.closure-ends.ensures c.before.before.if1.false (c.some-end-hit.ensures ∙ end-hits_are _ _ _ _ _ _ _ c.before.before.before.before.before.before.before.before.before.before.requires.each)
 
 pub warn-counted-spec : {M : Type 1} → statement M
 warn-counted-spec =

@@ -3,7 +3,7 @@ use Prim.Native.Nat.{◌+◌, ◌-◌, ◌^◌, ◌≤◌, ◌<◌}
 use native.Mathlib.Omega.{arith}
 use Rattle.graphs.specs.Bools.{Decides, ltb_decides}
 use Rattle.entry_set.specs.Lanes.{lanes}
-use Rattle.layout.proofs.Deciding.{each_none, each_more, each-done}
+use Rattle.layout.proofs.Deciding.{each_none, each_more, each_done}
 use Rattle.move_consistency.specs.Ranges.{SetsBelow}
 use Rattle.move_consistency.proofs.ranges.sets_in_range.Statement.{statement}
 use Rattle.move_consistency.proofs.ranges.sets_in_range.Tie as tie
@@ -37,7 +37,7 @@ loop-again c =
 returns : tie.Need-returns invariant-loop decreases-loop
 returns c =
     let g = c.before.before.before.args in
-    each-done (λ x. lanes g.area.now (g.from + x) g.stride < 2 ^ g.e) c.before.loop.invariant.1 (omega arith)
+    each_done (λ x. lanes g.area.now (g.from + x) g.stride < 2 ^ g.e) c.before.loop.invariant.1 (omega arith)
 
 pub sets-in-range-spec : {M : Type 1} → statement M
 sets-in-range-spec =

@@ -1,13 +1,13 @@
 -- `move_consistency::whole::consistent` meets its contract. Assumes nothing.
 use native.Mathlib.Omega.{arith}
 use borrow.Author.Tests.{not-true, not-false}
-use Rattle.move_consistency.proofs.Checking.{check-ranges, check-no, check-work, check_done}
+use Rattle.move_consistency.proofs.Checking.{check_ranges, check_no, check_work, check_done}
 use borrow.Author.Rules.{rules}
 use Rattle.move_consistency.proofs.whole.consistent.Statement.{statement}
 use Rattle.move_consistency.proofs.whole.consistent.Tie as tie
 
 in-ranges-requires : tie.Need-in-ranges-requires
-in-ranges-requires c κs = check-ranges c.before.before.before.before.before.before.before.before.requires
+in-ranges-requires c κs = check_ranges c.before.before.before.before.before.before.before.before.requires
 
 same_length : tie.Need-same-length
 same_length c = search rules
@@ -16,13 +16,13 @@ same-length-2 : tie.Need-same-length-2
 same-length-2 c = search rules
 
 returns : tie.Need-returns
-returns c = check-no c.before.before.before.before.before.before.before.before.before.before.before.before.before.before.requires c.before.before.before.before.before.in-ranges.ensures (not-true _ c.if1.true)
+returns c = check_no c.before.before.before.before.before.before.before.before.before.before.before.before.before.before.requires c.before.before.before.before.before.in-ranges.ensures (not-true _ c.if1.true)
 
 is-small-requires : tie.Need-is-small-requires
 is-small-requires c κs = search rules
 
 worked-small-requires : tie.Need-worked-small-requires
-worked-small-requires c κs = let s = c.before.before.is-small.ensures c.before.if2.true in (check-work c.before.before.before.before.before.before.before.before.before.before.before.before.before.before.before.before.before.requires c.before.before.before.before.before.before.before.before.in-ranges.ensures (not-false _ c.before.before.before.if1.false) c.before.before.before.before.before.before.before.before.in-ranges.auto.1.1.1.1.1.0, s.0, s.1)
+worked-small-requires c κs = let s = c.before.before.is-small.ensures c.before.if2.true in (check_work c.before.before.before.before.before.before.before.before.before.before.before.before.before.before.before.before.before.requires c.before.before.before.before.before.before.before.before.in-ranges.ensures (not-false _ c.before.before.before.if1.false) c.before.before.before.before.before.before.before.before.in-ranges.auto.1.1.1.1.1.0, s.0, s.1)
 
 same-length-3 : tie.Need-same-length-3
 same-length-3 c = search rules
@@ -34,7 +34,7 @@ returns-2 : tie.Need-returns-2
 returns-2 c = check_done c.before.before.before.before.before.before.before.before.before.before.before.before.before.before.before.before.before.before.before.before.requires c.before.before.before.before.before.before.before.before.before.before.before.in-ranges.ensures (not-false _ c.before.before.before.before.before.before.if1.false) (λ i. omega (arith, c.before.before.before.before.before.before.before.before.before.before.before.before.before.before.before.before.shared-slice-known4.given i)) c.before.before.worked-small.ensures
 
 worked-large-requires : tie.Need-worked-large-requires
-worked-large-requires c κs = check-work c.before.before.before.before.before.before.before.before.before.before.before.before.before.before.before.before.before.requires c.before.before.before.before.before.before.before.before.in-ranges.ensures (not-false _ c.before.before.before.if1.false) c.before.before.before.before.before.before.before.before.in-ranges.auto.1.1.1.1.1.0
+worked-large-requires c κs = check_work c.before.before.before.before.before.before.before.before.before.before.before.before.before.before.before.before.before.requires c.before.before.before.before.before.before.before.before.in-ranges.ensures (not-false _ c.before.before.before.if1.false) c.before.before.before.before.before.before.before.before.in-ranges.auto.1.1.1.1.1.0
 
 same-length-5 : tie.Need-same-length-5
 same-length-5 c = search rules

@@ -1,15 +1,15 @@
 -- `move_consistency::worked::edges_hold` meets its contract. Assumes nothing.
-use Rattle.graph_slots.specs.Listing.{group-can}
-use Rattle.move_consistency.proofs.Matching.{match-check, match-done}
+use Rattle.graph_slots.specs.Listing.{group_can}
+use Rattle.move_consistency.proofs.Matching.{match_check, match_done}
 use borrow.Author.Rules.{rules}
 use Rattle.move_consistency.proofs.worked.edges_hold.Statement.{statement}
 use Rattle.move_consistency.proofs.worked.edges_hold.Tie as tie
 
 group-requires : tie.Need-group-requires
-group-requires c κs = group-can c.before.before.before.before.before.before.before.before.before.requires.slots c.before.before.before.before.before.before.before.before.before.requires.lists
+group-requires c κs = group_can c.before.before.before.before.before.before.before.before.before.requires.slots c.before.before.before.before.before.before.before.before.before.requires.lists
 
 check-requires : tie.Need-check-requires
-check-requires c κs = match-check c.before.before.before.before.before.before.before.before.before.before.before.before.before.before.before.before.before.before.requires c.before.before.before.before.before.before.before.before.group.ensures
+check-requires c κs = match_check c.before.before.before.before.before.before.before.before.before.before.before.before.before.before.before.before.before.before.requires c.before.before.before.before.before.before.before.before.group.ensures
 
 same_length : tie.Need-same-length
 same_length c = search rules
@@ -24,7 +24,7 @@ same-length-4 : tie.Need-same-length-4
 same-length-4 c = search rules
 
 returns : tie.Need-returns
-returns c = match-done c.before.before.before.before.before.before.before.before.before.before.before.before.before.before.before.before.before.before.before.before.before.before.before.requires c.before.before.before.before.before.before.before.before.before.before.before.before.before.group.ensures c.before.before.before.before.check.ensures
+returns c = match_done c.before.before.before.before.before.before.before.before.before.before.before.before.before.before.before.before.before.before.before.before.before.before.before.requires c.before.before.before.before.before.before.before.before.before.before.before.before.before.group.ensures c.before.before.before.before.check.ensures
 
 pub edges-hold-spec : {M : Type 1} → statement M
 edges-hold-spec =

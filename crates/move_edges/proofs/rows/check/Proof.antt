@@ -3,7 +3,7 @@ use Prim.Native.Nat.{◌-◌, ◌≤◌}
 use mathlib.Core.Path.{◌≡◌, refl, ◌∙◌}
 use native.Mathlib.Omega.{arith}
 use lib.ListN.{length, length-set}
-use Rattle.move_edges.proofs.Checking.{Rows, rows_none, rows-can, rows_more, rows-no, rows-done}
+use Rattle.move_edges.proofs.Checking.{Rows, rows_none, rows_can, rows_more, rows_no, rows-done}
 use Rattle.move_edges.proofs.rows.check.Statement.{statement}
 use Rattle.move_edges.proofs.rows.check.Tie as tie
 
@@ -53,7 +53,7 @@ part-check-row-end : tie.Need-slice-bounds-check-row-end invariant-loop decrease
 part-check-row-end c = omega (arith, c.before.before.before.before.before.before.before.before.before.before.before.before.before.requires.graph.rows, c.before.before.before.before.before.before.before.before.before.before.before.before.before.requires.graph.rise c.before.before.before.loop.x c.before.before.loop-test.true, c.before.before.before.before.before.before.before.before.before.before.before.before.before.requires.graph.inside c.before.before.before.loop.x c.before.before.loop-test.true, c.before.before.before.before.before.before.before.before.before.before.before.before.before.requires.graph.short)
 
 check-row-requires : tie.Need-check-row-requires invariant-loop decreases-loop
-check-row-requires c κs = rows-can c.before.before.before.before.before.before.before.before.before.before.before.before.before.before.before.requires c.before.before.before.before.before.loop.invariant.1 c.before.before.before.before.loop-test.true
+check-row-requires c κs = rows_can c.before.before.before.before.before.before.before.before.before.before.before.before.before.before.before.requires c.before.before.before.before.before.loop.invariant.1 c.before.before.before.before.loop-test.true
 
 mul-degrees : tie.Need-overflow-mul-degrees invariant-loop decreases-loop
 mul-degrees c = omega (arith, c.before.before.before.before.before.before.before.before.loop.invariant.1.answers)
@@ -68,7 +68,7 @@ same-length-2 : tie.Need-same-length-2 invariant-loop decreases-loop
 same-length-2 c = simp length-set c.before.before.before.before.before.before.before.before.before.before.loop.invariant.3
 
 returns : tie.Need-returns invariant-loop decreases-loop
-returns c = rows-no c.before.before.before.before.before.before.before.before.before.before.before.before.before.before.before.before.before.before.before.before.requires c.before.before.before.before.before.before.before.before.before.before.loop.invariant.1 c.before.before.before.before.before.before.before.before.before.loop-test.true c.before.before.before.before.check-row.ensures c.if1.true
+returns c = rows_no c.before.before.before.before.before.before.before.before.before.before.before.before.before.before.before.before.before.before.before.before.requires c.before.before.before.before.before.before.before.before.before.before.loop.invariant.1 c.before.before.before.before.before.before.before.before.before.loop-test.true c.before.before.before.before.check-row.ensures c.if1.true
 
 loop-less : tie.Need-loop-smaller invariant-loop decreases-loop
 loop-less c = omega arith

@@ -1,6 +1,6 @@
 -- `move_edges::rows::check_row` meets its contract. Assumes nothing.
 use native.Mathlib.Omega.{arith}
-use Rattle.move_edges.proofs.Checking.{row-tally, row_fits, row_count, row-bare, row-compare, row-wipe, row_done}
+use Rattle.move_edges.proofs.Checking.{row_tally, row_fits, row_count, row-bare, row_compare, row_wipe, row_done}
 use borrow.Author.Rules.{rules}
 use Rattle.move_edges.proofs.rows.check_row.Statement.{statement}
 use Rattle.move_edges.proofs.rows.check_row.Tie as tie
@@ -15,16 +15,16 @@ returns : tie.Need-returns
 returns c = row-bare c.before.before.before.before.before.requires c.before.if1.true c.count-filled.ensures
 
 tally-requires : tie.Need-tally-requires
-tally-requires c κs = row-tally c.before.before.before.before.before.requires
+tally-requires c κs = row_tally c.before.before.before.before.before.requires
 
 mul-compare : tie.Need-overflow-mul-compare
 mul-compare c = omega (arith, row_fits c.before.before.before.before.before.before.before.before.requires)
 
 compare-requires : tie.Need-compare-requires
-compare-requires c κs = row-compare c.before.before.before.before.before.before.before.before.before.requires c.before.before.before.tally.ensures
+compare-requires c κs = row_compare c.before.before.before.before.before.before.before.before.before.requires c.before.before.before.tally.ensures
 
 wipe-requires : tie.Need-wipe-requires
-wipe-requires c κs = row-wipe c.before.before.before.before.before.before.before.before.before.before.before.requires c.before.before.before.before.before.tally.ensures
+wipe-requires c κs = row_wipe c.before.before.before.before.before.before.before.before.before.before.before.requires c.before.before.before.before.before.tally.ensures
 
 same_length : tie.Need-same-length
 same_length c = search rules

@@ -4,7 +4,7 @@ use native.Mathlib.Omega.{arith}
 use lib.Dec.{eqb}
 use lib.ListN.{length, get_or}
 use Rattle.graphs.specs.Count.{ind_le}
-use Rattle.move_edges.proofs.Checking.{Some, some_none, some-can, some-room, some_more, some_done}
+use Rattle.move_edges.proofs.Checking.{Some, some_none, some_can, some_room, some_more, some_done}
 use Rattle.move_edges.proofs.rows.tally.Statement.{statement}
 use Rattle.move_edges.proofs.rows.tally.Tie as tie
 
@@ -24,10 +24,10 @@ shared-slice-read-bump : tie.Need-shared-slice-read-bump invariant-loop decrease
 shared-slice-read-bump c = omega arith
 
 bump-requires : tie.Need-bump-requires invariant-loop decreases-loop
-bump-requires c κs = some-can c.before.before.before.before.before.before.requires c.before.before.before.loop.invariant.1 c.before.before.loop-test.true
+bump-requires c κs = some_can c.before.before.before.before.before.before.requires c.before.before.before.loop.invariant.1 c.before.before.loop-test.true
 
 add-found : tie.Need-overflow-add-found invariant-loop decreases-loop
-add-found c = record { fits = omega (arith, some-room c.before.before.before.before.before.before.before.before.before.requires c.before.before.before.before.before.before.loop.invariant.1 c.before.before.before.before.before.loop-test.true, c.before.before.bump.ensures.0, ind_le (eqb (get_or c.before.before.before.before.before.before.loop.row (get_or c.before.before.before.before.before.before.before.before.before.args.part.now c.before.before.before.before.before.before.loop.k 0) 0) 0)) }
+add-found c = record { fits = omega (arith, some_room c.before.before.before.before.before.before.before.before.before.requires c.before.before.before.before.before.before.loop.invariant.1 c.before.before.before.before.before.loop-test.true, c.before.before.bump.ensures.0, ind_le (eqb (get_or c.before.before.before.before.before.before.loop.row (get_or c.before.before.before.before.before.before.before.before.before.args.part.now c.before.before.before.before.before.before.loop.k 0) 0) 0)) }
 
 add-k : tie.Need-overflow-add-k invariant-loop decreases-loop
 add-k c = omega arith

@@ -1,5 +1,5 @@
 -- `move_freedom::aside::fill` meets its contract. Assumes nothing.
-use Rattle.move_freedom.specs.Aside.{fill-tally, fill-slots-can, fill_done}
+use Rattle.move_freedom.specs.Aside.{fill_tally, fill_slots_can, fill_done}
 use borrow.Author.Rules.{rules}
 use Rattle.move_freedom.proofs.aside.fill.Statement.{statement}
 use Rattle.move_freedom.proofs.aside.fill.Tie as tie
@@ -11,7 +11,7 @@ add-tally : tie.Need-overflow-add-tally
 add-tally c = search rules
 
 tally-requires : tie.Need-tally-requires
-tally-requires c κs = fill-tally c.before.before.before.before.before.before.before.before.requires
+tally-requires c κs = fill_tally c.before.before.before.before.before.before.before.before.requires
 
 mul-facades : tie.Need-overflow-mul-facades
 mul-facades c = search rules
@@ -32,7 +32,7 @@ slice-aggregate-write-slots : tie.Need-slice-aggregate-write-slots
 slice-aggregate-write-slots c = search rules
 
 write-slots-requires : tie.Need-write-slots-requires
-write-slots-requires c κs = fill-slots-can c.before.before.before.before.before.before.before.before.before.before.before.before.before.before.before.before.before.requires c.before.before.before.before.before.before.before.before.tally.ensures c.before.before.before.before.facades.ensures
+write-slots-requires c κs = fill_slots_can c.before.before.before.before.before.before.before.before.before.before.before.before.before.before.before.before.before.requires c.before.before.before.before.before.before.before.before.tally.ensures c.before.before.before.before.facades.ensures
 
 same_length : tie.Need-same-length
 same_length c = search rules

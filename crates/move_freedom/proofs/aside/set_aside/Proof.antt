@@ -1,6 +1,6 @@
 -- `move_freedom::aside::set_aside` meets its contract. Assumes nothing.
 use native.Mathlib.Omega.{arith}
-use Rattle.move_freedom.specs.Aside.{aside-can, aside-done}
+use Rattle.move_freedom.specs.Aside.{aside_can, aside-done}
 use borrow.Author.Rules.{rules}
 use Rattle.move_freedom.proofs.aside.set_aside.Statement.{statement}
 use Rattle.move_freedom.proofs.aside.set_aside.Tie as tie
@@ -45,7 +45,7 @@ cast-fill : tie.Need-overflow-cast-fill
 cast-fill c = search rules
 
 fill-requires : tie.Need-fill-requires
-fill-requires c κs = aside-can c.before.before.before.before.before.before.before.before.before.before.before.before.before.before.requires c.before.before.before.before.before.place.new.1.1.1.1.1.0 (omega arith) c.before.before.before.before.before.place.ensures
+fill-requires c κs = aside_can c.before.before.before.before.before.before.before.before.before.before.before.before.before.before.requires c.before.before.before.before.before.place.new.1.1.1.1.1.0 (omega arith) c.before.before.before.before.before.place.ensures
 
 same_length : tie.Need-same-length
 same_length c = search rules

@@ -1,7 +1,7 @@
 -- `move_freedom::atoms::accepted` meets its contract. Assumes nothing.
 use mathlib.Core.Path.{refl}
 use native.Mathlib.Omega.{arith}
-use Rattle.move_freedom.specs.Atoms.{aside-asks, rest-asks, open-asks, count_none, count-open}
+use Rattle.move_freedom.specs.Atoms.{aside_asks, rest_asks, open_asks, count_none, count_open}
 use borrow.Author.Rules.{rules}
 use Rattle.move_freedom.proofs.atoms.accepted.Statement.{statement}
 use Rattle.move_freedom.proofs.atoms.accepted.Tie as tie
@@ -13,7 +13,7 @@ slice-aggregate-set-aside-2 : tie.Need-slice-aggregate-set-aside-2
 slice-aggregate-set-aside-2 c = search rules
 
 set-aside-requires : tie.Need-set-aside-requires
-set-aside-requires c κs = aside-asks c.before.before.before.before.before.before.requires refl refl
+set-aside-requires c κs = aside_asks c.before.before.before.before.before.before.requires refl refl
 
 mul-z : tie.Need-overflow-mul-z
 mul-z c = search rules
@@ -37,7 +37,7 @@ add-rest-cyclic : tie.Need-overflow-add-rest-cyclic
 add-rest-cyclic c = search rules
 
 rest-cyclic-requires : tie.Need-rest-cyclic-requires
-rest-cyclic-requires c κs = rest-asks c.before.before.before.before.before.before.before.before.before.before.before.before.requires c.before.before.before.before.before.set-aside.auto.1.1.1.1.1.1.1.1.1.0 c.before.before.before.before.before.set-aside.auto.1.1.1.1.1.1.1.1.1.1.0 c.before.before.before.before.before.set-aside.ensures
+rest-cyclic-requires c κs = rest_asks c.before.before.before.before.before.before.before.before.before.before.before.before.requires c.before.before.before.before.before.set-aside.auto.1.1.1.1.1.1.1.1.1.0 c.before.before.before.before.before.set-aside.auto.1.1.1.1.1.1.1.1.1.1.0 c.before.before.before.before.before.set-aside.ensures
 
 returns : tie.Need-returns
 returns c = count_none c.before.before.before.before.before.before.before.before.before.before.before.before.before.before.requires c.before.before.before.before.before.before.before.set-aside.auto.1.1.1.1.1.1.1.1.1.0 c.before.before.before.before.before.before.before.set-aside.auto.1.1.1.1.1.1.1.1.1.1.0 c.before.before.before.before.before.before.before.set-aside.ensures c.before.rest-cyclic.ensures c.if1.true
@@ -82,10 +82,10 @@ add-open-nodes-2 : tie.Need-overflow-add-open-nodes-2
 add-open-nodes-2 c = search rules
 
 open-nodes-requires : tie.Need-open-nodes-requires
-open-nodes-requires c κs = open-asks c.before.before.before.before.before.before.before.before.before.before.before.before.before.before.before.before.before.requires c.before.before.before.before.before.before.before.before.before.before.set-aside.auto.1.1.1.1.1.1.1.1.1.0 c.before.before.before.before.before.before.before.before.before.before.set-aside.auto.1.1.1.1.1.1.1.1.1.1.0 c.before.before.before.before.before.before.before.before.before.before.set-aside.ensures
+open-nodes-requires c κs = open_asks c.before.before.before.before.before.before.before.before.before.before.before.before.before.before.before.before.before.requires c.before.before.before.before.before.before.before.before.before.before.set-aside.auto.1.1.1.1.1.1.1.1.1.0 c.before.before.before.before.before.before.before.before.before.before.set-aside.auto.1.1.1.1.1.1.1.1.1.1.0 c.before.before.before.before.before.before.before.before.before.before.set-aside.ensures
 
 returns-2 : tie.Need-returns-2
-returns-2 c = count-open c.before.before.before.before.before.before.before.before.before.before.before.before.before.before.before.before.before.before.requires c.before.before.before.before.before.before.before.before.before.before.before.set-aside.auto.1.1.1.1.1.1.1.1.1.0 c.before.before.before.before.before.before.before.before.before.before.before.set-aside.auto.1.1.1.1.1.1.1.1.1.1.0 c.before.before.before.before.before.before.before.before.before.before.before.set-aside.ensures c.before.before.before.before.before.rest-cyclic.ensures c.before.before.before.before.if1.false refl c.open-nodes.ensures
+returns-2 c = count_open c.before.before.before.before.before.before.before.before.before.before.before.before.before.before.before.before.before.before.requires c.before.before.before.before.before.before.before.before.before.before.before.set-aside.auto.1.1.1.1.1.1.1.1.1.0 c.before.before.before.before.before.before.before.before.before.before.before.set-aside.auto.1.1.1.1.1.1.1.1.1.1.0 c.before.before.before.before.before.before.before.before.before.before.before.set-aside.ensures c.before.before.before.before.before.rest-cyclic.ensures c.before.before.before.before.if1.false refl c.open-nodes.ensures
 
 pub accepted-spec : {M : Type 1} → statement M
 accepted-spec =

@@ -1,5 +1,5 @@
 -- `move_freedom::atoms::how_free` meets its contract. Assumes nothing.
-use Rattle.move_freedom.specs.Atoms.{all-asks, freed}
+use Rattle.move_freedom.specs.Atoms.{all_asks, freed}
 use borrow.Author.Rules.{rules}
 use Rattle.move_freedom.proofs.atoms.how_free.Statement.{statement}
 use Rattle.move_freedom.proofs.atoms.how_free.Tie as tie
@@ -32,7 +32,7 @@ others-requires : tie.Need-others-requires
 others-requires c κs = search rules
 
 of-all-requires : tie.Need-of-all-requires
-of-all-requires c κs = all-asks c.before.before.before.before.before.before.before.requires c.others.ensures
+of-all-requires c κs = all_asks c.before.before.before.before.before.before.before.requires c.others.ensures
 
 returns : tie.Need-returns
 returns c = freed c.before.before.before.before.before.before.before.before.requires c.of-all.ensures

@@ -1,6 +1,6 @@
 -- `move_freedom::reach::reach` meets its contract. Assumes nothing.
 use mathlib.Core.Path.{refl}
-use Rattle.move_freedom.specs.Reach.{reach-group, reach-can, reach-done}
+use Rattle.move_freedom.specs.Reach.{reach_group, reach_can, reach-done}
 use borrow.Author.Rules.{rules}
 use Rattle.move_freedom.proofs.reach.reach.Statement.{statement}
 use Rattle.move_freedom.proofs.reach.reach.Tie as tie
@@ -12,7 +12,7 @@ slice-aggregate-group-2 : tie.Need-slice-aggregate-group-2
 slice-aggregate-group-2 c = search rules
 
 group-requires : tie.Need-group-requires
-group-requires c κs = reach-group c.before.before.before.before.before.requires refl refl
+group-requires c κs = reach_group c.before.before.before.before.before.requires refl refl
 
 slice-aggregate-reach : tie.Need-slice-aggregate-reach
 slice-aggregate-reach c = search rules
@@ -27,7 +27,7 @@ slice-aggregate-reach-4 : tie.Need-slice-aggregate-reach-4
 slice-aggregate-reach-4 c = search rules
 
 reach-requires : tie.Need-reach-requires
-reach-requires c κs = reach-can c.before.before.before.before.before.before.before.before.before.before.before.before.before.requires refl refl c.before.before.before.before.before.before.before.group.ensures refl
+reach-requires c κs = reach_can c.before.before.before.before.before.before.before.before.before.before.before.before.before.requires refl refl c.before.before.before.before.before.before.before.group.ensures refl
 
 same_length : tie.Need-same-length
 same_length c = search rules

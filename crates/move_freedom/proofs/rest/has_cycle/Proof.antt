@@ -1,6 +1,6 @@
 -- `move_freedom::rest::has_cycle` meets its contract. Assumes nothing.
 use mathlib.Core.Path.{refl}
-use Rattle.move_freedom.specs.Rest.{rest-group, rest-graph, rest-done}
+use Rattle.move_freedom.specs.Rest.{rest_group, rest_graph, rest-done}
 use borrow.Author.Rules.{rules}
 use Rattle.move_freedom.proofs.rest.has_cycle.Statement.{statement}
 use Rattle.move_freedom.proofs.rest.has_cycle.Tie as tie
@@ -30,7 +30,7 @@ slice-aggregate-group-4 : tie.Need-slice-aggregate-group-4
 slice-aggregate-group-4 c = search rules
 
 group-requires : tie.Need-group-requires
-group-requires c κs = rest-group c.before.before.before.before.before.before.before.before.before.before.before.requires c.before.before.before.before.before.before.blanks.ensures c.before.before.before.before.before.before.blanks.ensures.long c.before.before.before.before.before.before.blanks.ensures.target_long refl refl
+group-requires c κs = rest_group c.before.before.before.before.before.before.before.before.before.before.before.requires c.before.before.before.before.before.before.blanks.ensures c.before.before.before.before.before.before.blanks.ensures.long c.before.before.before.before.before.before.blanks.ensures.target_long refl refl
 
 slice-aggregate-has-cycle : tie.Need-slice-aggregate-has-cycle
 slice-aggregate-has-cycle c = search rules
@@ -39,7 +39,7 @@ slice-aggregate-has-cycle-2 : tie.Need-slice-aggregate-has-cycle-2
 slice-aggregate-has-cycle-2 c = search rules
 
 has-cycle-requires : tie.Need-has-cycle-requires
-has-cycle-requires c κs = (rest-graph c.before.before.before.before.before.before.before.before.before.before.before.before.before.before.before.before.requires c.before.before.before.before.before.before.before.before.before.before.before.blanks.ensures refl refl c.before.before.before.before.group.ensures, c.before.before.before.before.before.before.before.before.before.before.before.before.before.before.before.before.requires.nodes)
+has-cycle-requires c κs = (rest_graph c.before.before.before.before.before.before.before.before.before.before.before.before.before.before.before.before.requires c.before.before.before.before.before.before.before.before.before.before.before.blanks.ensures refl refl c.before.before.before.before.group.ensures, c.before.before.before.before.before.before.before.before.before.before.before.before.before.before.before.before.requires.nodes)
 
 returns : tie.Need-returns
 returns c = rest-done c.before.before.before.before.before.before.before.before.before.before.before.before.before.before.before.before.before.requires c.before.before.before.before.before.before.before.before.before.before.before.before.blanks.ensures refl refl c.before.before.before.before.before.group.ensures c.has_cycle.ensures

@@ -1,5 +1,5 @@
 -- `move_freedom::walks::leaving` meets its contract. Assumes nothing.
-use Rattle.move_freedom.specs.Walks.{leave-can, leave-done}
+use Rattle.move_freedom.specs.Walks.{leave_can, leave_done}
 use borrow.Author.Rules.{rules}
 use Rattle.move_freedom.proofs.walks.leaving.Statement.{statement}
 use Rattle.move_freedom.proofs.walks.leaving.Tie as tie
@@ -14,13 +14,13 @@ slice-aggregate-steps : tie.Need-slice-aggregate-steps
 slice-aggregate-steps c = search rules
 
 steps-requires : tie.Need-steps-requires
-steps-requires c κs = leave-can c.before.before.before.before.before.before.before.before.requires c.before.before.before.mark.ensures
+steps-requires c κs = leave_can c.before.before.before.before.before.before.before.before.requires c.before.before.before.mark.ensures
 
 same_length : tie.Need-same-length
 same_length c = search rules
 
 returns : tie.Need-returns
-returns c = leave-done c.before.before.before.before.before.before.before.before.before.before.before.requires c.before.before.before.before.before.before.mark.ensures c.before.before.steps.ensures
+returns c = leave_done c.before.before.before.before.before.before.before.before.before.before.before.requires c.before.before.before.before.before.before.mark.ensures c.before.before.steps.ensures
 
 pub leaving-spec : {M : Type 1} → statement M
 leaving-spec =

@@ -1,5 +1,5 @@
 -- `move_freedom::walks::open_nodes` meets its contract. Assumes nothing.
-use Rattle.move_freedom.specs.Walks.{forth-can, back-can, ahead-can, behind-can, tally_can, opened}
+use Rattle.move_freedom.specs.Walks.{forth_can, back_can, ahead_can, behind_can, tally_can, opened}
 use borrow.Author.Rules.{rules}
 use Rattle.move_freedom.proofs.walks.open_nodes.Statement.{statement}
 use Rattle.move_freedom.proofs.walks.open_nodes.Tie as tie
@@ -11,7 +11,7 @@ slice-aggregate-reach : tie.Need-slice-aggregate-reach
 slice-aggregate-reach c = search rules
 
 reach-requires : tie.Need-reach-requires
-reach-requires c κs = forth-can c.before.before.before.before.requires
+reach-requires c κs = forth_can c.before.before.before.before.requires
 
 add-reach-2 : tie.Need-overflow-add-reach-2
 add-reach-2 c = search rules
@@ -20,7 +20,7 @@ slice-aggregate-reach-2 : tie.Need-slice-aggregate-reach-2
 slice-aggregate-reach-2 c = search rules
 
 reach-requires-2 : tie.Need-reach-requires-2
-reach-requires-2 c κs = back-can c.before.before.before.before.before.before.before.requires
+reach-requires-2 c κs = back_can c.before.before.before.before.before.before.before.requires
 
 cast-steps : tie.Need-overflow-cast-steps
 cast-steps c = search rules
@@ -32,7 +32,7 @@ slice-aggregate-steps-2 : tie.Need-slice-aggregate-steps-2
 slice-aggregate-steps-2 c = search rules
 
 steps-requires : tie.Need-steps-requires
-steps-requires c κs = ahead-can c.before.before.before.before.before.before.before.before.before.before.before.requires c.before.before.before.before.before.before.reach.ensures c.before.before.before.reach2.ensures
+steps-requires c κs = ahead_can c.before.before.before.before.before.before.before.before.before.before.before.requires c.before.before.before.before.before.before.reach.ensures c.before.before.before.reach2.ensures
 
 cast-steps-2 : tie.Need-overflow-cast-steps-2
 cast-steps-2 c = search rules
@@ -44,7 +44,7 @@ slice-aggregate-steps-4 : tie.Need-slice-aggregate-steps-4
 slice-aggregate-steps-4 c = search rules
 
 steps-requires-2 : tie.Need-steps-requires-2
-steps-requires-2 c κs = behind-can c.before.before.before.before.before.before.before.before.before.before.before.before.before.before.before.requires c.before.before.before.before.before.before.before.before.before.before.reach.ensures c.before.before.before.before.before.before.before.reach2.ensures
+steps-requires-2 c κs = behind_can c.before.before.before.before.before.before.before.before.before.before.before.before.before.before.before.requires c.before.before.before.before.before.before.before.before.before.before.reach.ensures c.before.before.before.before.before.before.before.reach2.ensures
 
 slice-aggregate-leaving : tie.Need-slice-aggregate-leaving
 slice-aggregate-leaving c = search rules

@@ -1,8 +1,8 @@
 -- `move_loading::flags::write_flags` meets its contract. Assumes nothing.
 use native.Mathlib.Omega.{arith}
 use lib.ListN.{replicate}
-use Rattle.graph_slots.specs.Listing.{group-can, slot-lists}
-use Rattle.move_loading.proofs.Flagging.{flags-none, flags-some}
+use Rattle.graph_slots.specs.Listing.{group_can, slot-lists}
+use Rattle.move_loading.proofs.Flagging.{flags-none, flags_some}
 use borrow.Author.Rules.{rules}
 use Rattle.move_loading.proofs.flags.write_flags.Statement.{statement}
 use Rattle.move_loading.proofs.flags.write_flags.Tie as tie
@@ -11,7 +11,7 @@ mul-header : tie.Need-overflow-mul-header
 mul-header c = search rules
 
 group-requires : tie.Need-group-requires
-group-requires c κs = group-can c.before.before.before.before.before.before.before.requires.slots c.before.before.before.before.before.before.before.requires.lists
+group-requires c κs = group_can c.before.before.before.before.before.before.before.requires.slots c.before.before.before.before.before.before.before.requires.lists
 
 slice-aggregate-cyclic-component : tie.Need-slice-aggregate-cyclic-component
 slice-aggregate-cyclic-component c = search rules
@@ -44,7 +44,7 @@ same-length-3 : tie.Need-same-length-3
 same-length-3 c = search rules
 
 returns : tie.Need-returns
-returns c = flags-some c.before.before.before.before.before.before.before.cyclic-component.ensures.0 (replicate 1024 0) c.before.before.before.before.before.if1.true (omega (arith, c.before.before.before.before.before.before.before.before.before.before.before.before.before.before.before.before.before.before.before.before.before.before.before.requires.slots.nodes)) c.before.before.before.before.before.before.before.cyclic-component.ensures.1 c.before.before.copy.ensures
+returns c = flags_some c.before.before.before.before.before.before.before.cyclic-component.ensures.0 (replicate 1024 0) c.before.before.before.before.before.if1.true (omega (arith, c.before.before.before.before.before.before.before.before.before.before.before.before.before.before.before.before.before.before.before.before.before.before.before.requires.slots.nodes)) c.before.before.before.before.before.before.before.cyclic-component.ensures.1 c.before.before.copy.ensures
 
 add-area : tie.Need-overflow-add-area
 add-area c = search rules

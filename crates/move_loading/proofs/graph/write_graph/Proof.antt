@@ -1,6 +1,6 @@
 -- `move_loading::graph::write_graph` meets its contract. Assumes nothing.
 use native.Mathlib.Omega.{arith}
-use Rattle.move_loading.proofs.Flagging.{fill-can, graph-written}
+use Rattle.move_loading.proofs.Flagging.{fill_can, graph_written}
 use borrow.Author.Rules.{rules}
 use Rattle.move_loading.proofs.graph.write_graph.Statement.{statement}
 use Rattle.move_loading.proofs.graph.write_graph.Tie as tie
@@ -27,7 +27,7 @@ copy-requires : tie.Need-copy-requires
 copy-requires c κs = record { inside = omega (arith, c.before.before.before.before.before.before.before.before.before.before.before.before.before.before.before.before.before.before.before.before.before.requires.0.loadable.sizes.area); there = omega (arith, c.before.before.before.before.before.before.before.before.before.before.before.before.before.before.before.before.before.before.before.before.before.requires.0.counts_long, c.before.before.before.before.before.before.before.before.before.fill-own-slots.auto.1.1.1.1.1.1.1.1.0) }
 
 write-edges-requires : tie.Need-write-edges-requires
-write-edges-requires c κs = fill-can c.before.before.before.before.before.before.before.before.before.before.before.before.before.before.before.before.before.before.before.before.before.before.before.before.before.before.before.requires.0 c.before.before.before.before.before.before.before.before.before.before.before.before.before.before.before.before.before.before.before.before.before.before.before.before.before.before.before.requires.1 c.before.before.before.before.before.before.before.before.before.before.before.before.before.before.before.fill-own-slots.ensures c.before.before.before.before.before.before.before.before.slot-count.ensures c.before.before.before.before.before.copy.auto.0 c.before.before.before.before.before.before.before.before.before.before.before.before.before.before.before.fill-own-slots.auto.1.1.1.1.1.1.1.1.1.0 c.before.before.before.before.before.before.before.before.before.before.before.before.before.before.before.fill-own-slots.auto.1.1.1.1.1.1.1.1.1.1.0
+write-edges-requires c κs = fill_can c.before.before.before.before.before.before.before.before.before.before.before.before.before.before.before.before.before.before.before.before.before.before.before.before.before.before.before.requires.0 c.before.before.before.before.before.before.before.before.before.before.before.before.before.before.before.before.before.before.before.before.before.before.before.before.before.before.before.requires.1 c.before.before.before.before.before.before.before.before.before.before.before.before.before.before.before.fill-own-slots.ensures c.before.before.before.before.before.before.before.before.slot-count.ensures c.before.before.before.before.before.copy.auto.0 c.before.before.before.before.before.before.before.before.before.before.before.before.before.before.before.fill-own-slots.auto.1.1.1.1.1.1.1.1.1.0 c.before.before.before.before.before.before.before.before.before.before.before.before.before.before.before.fill-own-slots.auto.1.1.1.1.1.1.1.1.1.1.0
 
 same_length : tie.Need-same-length
 same_length c = search rules
@@ -42,7 +42,7 @@ same-length-4 : tie.Need-same-length-4
 same-length-4 c = search rules
 
 returns : tie.Need-returns
-returns c = graph-written c.before.before.before.before.before.before.before.before.before.before.before.before.before.before.before.before.before.before.before.before.before.before.before.before.before.before.before.before.before.before.requires.0 c.before.before.before.before.before.before.before.before.before.before.before.before.before.before.before.before.before.before.before.before.before.before.before.before.before.before.before.before.before.before.requires.1 c.before.before.before.before.before.before.before.before.before.before.before.before.before.before.before.before.before.before.fill-own-slots.ensures c.before.before.before.before.before.before.before.before.before.before.before.slot-count.ensures c.before.before.before.before.before.before.before.before.copy.ensures c.before.before.write-edges.ensures
+returns c = graph_written c.before.before.before.before.before.before.before.before.before.before.before.before.before.before.before.before.before.before.before.before.before.before.before.before.before.before.before.before.before.before.requires.0 c.before.before.before.before.before.before.before.before.before.before.before.before.before.before.before.before.before.before.before.before.before.before.before.before.before.before.before.before.before.before.requires.1 c.before.before.before.before.before.before.before.before.before.before.before.before.before.before.before.before.before.before.fill-own-slots.ensures c.before.before.before.before.before.before.before.before.before.before.before.slot-count.ensures c.before.before.before.before.before.before.before.before.copy.ensures c.before.before.write-edges.ensures
 
 pub write-graph-spec : {M : Type 1} → statement M
 write-graph-spec =

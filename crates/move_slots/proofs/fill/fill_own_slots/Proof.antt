@@ -1,6 +1,6 @@
 -- `move_slots::fill::fill_own_slots` meets its contract. Assumes nothing.
 use mathlib.Core.Path.{refl}
-use Rattle.move_slots.proofs.Filling.{own_can, own-done}
+use Rattle.move_slots.proofs.Filling.{own_can, own_done}
 use borrow.Author.Rules.{rules}
 use Rattle.move_slots.proofs.fill.fill_own_slots.Statement.{statement}
 use Rattle.move_slots.proofs.fill.fill_own_slots.Tie as tie
@@ -54,7 +54,7 @@ same-length-3 : tie.Need-same-length-3
 same-length-3 c = search rules
 
 returns : tie.Need-returns
-returns c = own-done c.before.before.before.before.before.before.before.before.before.before.before.before.before.before.before.before.before.before.before.requires refl c.before.before.before.before.before.before.fill-slots.ensures
+returns c = own_done c.before.before.before.before.before.before.before.before.before.before.before.before.before.before.before.before.before.before.before.requires refl c.before.before.before.before.before.before.fill-slots.ensures
 
 pub fill-own-slots-spec : {M : Type 1} → statement M
 fill-own-slots-spec =

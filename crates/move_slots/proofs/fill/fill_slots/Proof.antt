@@ -1,11 +1,11 @@
 -- `move_slots::fill::fill_slots` meets its contract. Assumes nothing.
-use Rattle.move_slots.proofs.Filling.{fill-tally, fill-slots-can, fill_done}
+use Rattle.move_slots.proofs.Filling.{fill_tally, fill_slots_can, fill_done}
 use borrow.Author.Rules.{rules}
 use Rattle.move_slots.proofs.fill.fill_slots.Statement.{statement}
 use Rattle.move_slots.proofs.fill.fill_slots.Tie as tie
 
 tally-requires : tie.Need-tally-requires
-tally-requires c κs = fill-tally c.before.before.before.before.before.before.before.before.before.requires
+tally-requires c κs = fill_tally c.before.before.before.before.before.before.before.before.before.requires
 
 mul-facades : tie.Need-overflow-mul-facades
 mul-facades c = search rules
@@ -23,7 +23,7 @@ slice-aggregate-write-slots : tie.Need-slice-aggregate-write-slots
 slice-aggregate-write-slots c = search rules
 
 write-slots-requires : tie.Need-write-slots-requires
-write-slots-requires c κs = fill-slots-can c.before.before.before.before.before.before.before.before.before.before.before.before.before.before.before.before.before.before.before.requires c.before.before.before.before.before.before.before.before.before.tally.ensures c.before.before.before.before.facades.ensures
+write-slots-requires c κs = fill_slots_can c.before.before.before.before.before.before.before.before.before.before.before.before.before.before.before.before.before.before.before.requires c.before.before.before.before.before.before.before.before.before.tally.ensures c.before.before.before.before.facades.ensures
 
 same_length : tie.Need-same-length
 same_length c = search rules

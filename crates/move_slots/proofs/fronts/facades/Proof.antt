@@ -5,7 +5,7 @@ use native.Mathlib.Omega.{arith}
 use Rattle.move_ledger.specs.Nodes.{highest}
 use Rattle.move_slots.specs.Written.{Written}
 use Rattle.move_slots.specs.Facades.{fronting}
-use Rattle.move_slots.proofs.Fronting.{fronts-none, fronts-can, fronts-more, fronts-done}
+use Rattle.move_slots.proofs.Fronting.{fronts-none, fronts_can, fronts-more, fronts-done}
 use Rattle.move_slots.proofs.fronts.facades.Statement.{statement}
 use Rattle.move_slots.proofs.fronts.facades.Tie as tie
 
@@ -34,7 +34,7 @@ cast-front : tie.Need-overflow-cast-front invariant-loop decreases-loop
 cast-front c = omega arith
 
 front-requires : tie.Need-front-requires invariant-loop decreases-loop
-front-requires c κs = fronts-can c.before.before.before.before.before.before.before.before.before.before.before.requires c.before.before.before.before.before.before.fill-with.ensures c.before.before.before.loop.invariant.1 c.before.before.loop-test.true
+front-requires c κs = fronts_can c.before.before.before.before.before.before.before.before.before.before.before.requires c.before.before.before.before.before.before.fill-with.ensures c.before.before.before.loop.invariant.1 c.before.before.loop-test.true
 
 add-x : tie.Need-overflow-add-x invariant-loop decreases-loop
 add-x c = omega arith

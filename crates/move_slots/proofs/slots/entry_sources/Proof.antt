@@ -5,7 +5,7 @@ use native.Mathlib.Omega.{arith}
 use Rattle.move_ledger.specs.Graph.{at}
 use Rattle.move_slots.specs.Written.{Written}
 use Rattle.move_slots.specs.Slots.{spans, entry_source}
-use Rattle.move_slots.proofs.Slotting.{sources-none, start-le, entries-can, entries-end, sources-can, sources-more, sources-done}
+use Rattle.move_slots.proofs.Slotting.{sources-none, start_le, entries_can, entries-end, sources_can, sources-more, sources-done}
 use Rattle.move_slots.proofs.slots.entry_sources.Statement.{statement}
 use Rattle.move_slots.proofs.slots.entry_sources.Tie as tie
 
@@ -19,7 +19,7 @@ loop-holds : tie.Need-loop-init invariant-loop decreases-loop
 loop-holds c = let v = sources-none c.before.before.before.before.before.requires in (omega arith, v.0, v.1)
 
 atom-dependencies-requires : tie.Need-atom-dependencies-requires invariant-loop decreases-loop
-atom-dependencies-requires c κs = entries-can c.before.before.before.before.before.before.before.requires c.before.loop.i (omega arith)
+atom-dependencies-requires c κs = entries_can c.before.before.before.before.before.before.before.requires c.before.loop.i (omega arith)
 
 mul-fill-with : tie.Need-overflow-mul-fill-with invariant-loop decreases-loop
 mul-fill-with c = omega arith
@@ -28,10 +28,10 @@ shared-slice-read-fill-with : tie.Need-shared-slice-read-fill-with invariant-loo
 shared-slice-read-fill-with c = omega arith
 
 fill-with-requires : tie.Need-fill-with-requires invariant-loop decreases-loop
-fill-with-requires c κs = let v = c.before.before.before.before.loop.invariant in sources-can c.before.before.before.before.before.before.before.before.before.before.requires v.1 c.before.before.atom-dependencies.ensures v.2 (omega arith)
+fill-with-requires c κs = let v = c.before.before.before.before.loop.invariant in sources_can c.before.before.before.before.before.before.before.before.before.before.requires v.1 c.before.before.atom-dependencies.ensures v.2 (omega arith)
 
 add-from : tie.Need-overflow-add-from invariant-loop decreases-loop
-add-from c = let v = c.before.before.before.before.before.before.before.loop.invariant in omega (arith, entries-end c.before.before.before.before.before.before.before.before.before.before.before.before.before.requires v.1 c.before.before.before.before.before.atom-dependencies.ensures v.2 (omega arith), start-le c.before.before.before.before.before.before.before.before.before.before.before.before.before.requires (c.before.before.before.before.before.before.before.loop.i + 1) (omega arith))
+add-from c = let v = c.before.before.before.before.before.before.before.loop.invariant in omega (arith, entries-end c.before.before.before.before.before.before.before.before.before.before.before.before.before.requires v.1 c.before.before.before.before.before.atom-dependencies.ensures v.2 (omega arith), start_le c.before.before.before.before.before.before.before.before.before.before.before.before.before.requires (c.before.before.before.before.before.before.before.loop.i + 1) (omega arith))
 
 add-i : tie.Need-overflow-add-i invariant-loop decreases-loop
 add-i c = omega arith

@@ -3,7 +3,7 @@ use Prim.Native.Nat.{◌-◌, ◌≤◌}
 use native.Mathlib.Omega.{arith}
 use Rattle.move_slots.specs.Written.{Written}
 use Rattle.move_slots.specs.Slots.{entry_target}
-use Rattle.move_slots.proofs.Writing.{written_none, written-more, written-upto}
+use Rattle.move_slots.proofs.Writing.{written_none, written_more, written_upto}
 use Rattle.move_slots.proofs.slots.entry_targets.Statement.{statement}
 use Rattle.move_slots.proofs.slots.entry_targets.Tie as tie
 
@@ -38,13 +38,13 @@ loop-less : tie.Need-loop-smaller invariant-loop decreases-loop
 loop-less c = omega arith
 
 loop-again : tie.Need-loop-preserved invariant-loop decreases-loop
-loop-again c = (omega arith, written-more c.before.before.before.loop.invariant.1 (omega arith) (omega arith) c.at.ensures)
+loop-again c = (omega arith, written_more c.before.before.before.loop.invariant.1 (omega arith) (omega arith) c.at.ensures)
 
 same_length : tie.Need-same-length invariant-loop decreases-loop
 same_length c = c.before.loop.invariant.1.long
 
 returns : tie.Need-returns invariant-loop decreases-loop
-returns c = written-upto c.before.loop.invariant.1 (omega arith)
+returns c = written_upto c.before.loop.invariant.1 (omega arith)
 
 pub entry-targets-spec : {M : Type 1} → statement M
 entry-targets-spec =

@@ -3,8 +3,8 @@ use Prim.Native.Nat.{◌-◌, ◌≤◌}
 use native.Mathlib.Omega.{arith}
 use Rattle.move_slots.specs.Written.{Written}
 use Rattle.move_slots.specs.Slots.{facade_source, facade_target}
-use Rattle.move_slots.proofs.Writing.{written_none, written-upto}
-use Rattle.move_slots.proofs.Slotting.{facades-can, facades-source, facades-target}
+use Rattle.move_slots.proofs.Writing.{written_none, written_upto}
+use Rattle.move_slots.proofs.Slotting.{facades_can, facades_source, facades_target}
 use Rattle.move_slots.proofs.slots.facade_slots.Statement.{statement}
 use Rattle.move_slots.proofs.slots.facade_slots.Tie as tie
 
@@ -30,7 +30,7 @@ shared-slice-read-facade-slot : tie.Need-shared-slice-read-facade-slot invariant
 shared-slice-read-facade-slot c = omega arith
 
 facade-slot-requires : tie.Need-facade-slot-requires invariant-loop decreases-loop
-facade-slot-requires c κs = let v = c.before.before.before.before.before.loop.invariant in facades-can c.before.before.before.before.before.before.before.before.before.before.before.before.before.requires v.1 v.2 (omega arith) c.before.before.before.bit-host.ensures
+facade-slot-requires c κs = let v = c.before.before.before.before.before.loop.invariant in facades_can c.before.before.before.before.before.before.before.before.before.before.before.before.before.requires v.1 v.2 (omega arith) c.before.before.before.bit-host.ensures
 
 add-b : tie.Need-overflow-add-b invariant-loop decreases-loop
 add-b c = omega arith
@@ -43,7 +43,7 @@ loop-again c =
     let v = c.before.before.before.before.before.before.before.before.before.before.loop.invariant in
     let h = c.before.before.before.before.before.before.before.before.before.loop-test.true in
     let e = c.before.before.before.before.before.before.before.before.bit-host.ensures in
-    (omega arith, facades-source c.before.before.before.before.before.before.before.before.before.before.before.before.before.before.before.before.before.before.requires v.1 v.2 h e c.before.before.before.before.facade-slot.ensures.0, facades-target c.before.before.before.before.before.before.before.before.before.before.before.before.before.before.before.before.before.before.requires v.1 v.2 h e c.before.before.before.before.facade-slot.ensures.1)
+    (omega arith, facades_source c.before.before.before.before.before.before.before.before.before.before.before.before.before.before.before.before.before.before.requires v.1 v.2 h e c.before.before.before.before.facade-slot.ensures.0, facades_target c.before.before.before.before.before.before.before.before.before.before.before.before.before.before.before.before.before.before.requires v.1 v.2 h e c.before.before.before.before.facade-slot.ensures.1)
 
 same_length : tie.Need-same-length invariant-loop decreases-loop
 same_length c = c.before.loop.invariant.1.long
@@ -52,7 +52,7 @@ same-length-2 : tie.Need-same-length-2 invariant-loop decreases-loop
 same-length-2 c = c.before.loop.invariant.2.long
 
 returns : tie.Need-returns invariant-loop decreases-loop
-returns c = (written-upto c.before.loop.invariant.1 (omega arith), written-upto c.before.loop.invariant.2 (omega arith))
+returns c = (written_upto c.before.loop.invariant.1 (omega arith), written_upto c.before.loop.invariant.2 (omega arith))
 
 pub facade-slots-spec : {M : Type 1} → statement M
 facade-slots-spec =

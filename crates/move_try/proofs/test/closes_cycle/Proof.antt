@@ -5,14 +5,14 @@ use mathlib.Core.Path.{ap, ◌∙◌}
 use Rattle.graphs.specs.Lists.{below}
 use Rattle.graphs.specs.Slots.{slot_edge}
 use Rattle.graphs.specs.Walk.{cyclic}
-use Rattle.graph_slots.specs.Listing.{group-can, slot-lists}
+use Rattle.graph_slots.specs.Listing.{group_can, slot-lists}
 use Rattle.move_try.specs.Test.{search_done, walk_can, walk_done}
 use borrow.Author.Rules.{rules}
 use Rattle.move_try.proofs.test.closes_cycle.Statement.{statement}
 use Rattle.move_try.proofs.test.closes_cycle.Tie as tie
 
 group-requires : tie.Need-group-requires
-group-requires c κs = group-can c.before.before.before.before.before.before.before.requires.0.ask c.before.before.before.before.before.before.before.requires.1
+group-requires c κs = group_can c.before.before.before.before.before.before.before.requires.0.ask c.before.before.before.before.before.before.before.requires.1
 
 mul-if1 : tie.Need-overflow-mul-if1
 mul-if1 c = search rules

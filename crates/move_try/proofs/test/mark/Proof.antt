@@ -1,6 +1,6 @@
 -- `move_try::test::mark` meets its contract. Assumes nothing.
 use Rattle.graph_neighbours.specs.Lists.{edge}
-use Rattle.move_try.specs.Test.{mark-can, mark-done}
+use Rattle.move_try.specs.Test.{mark_can, mark_done}
 use borrow.Author.Rules.{rules}
 use Rattle.move_try.proofs.test.mark.Statement.{statement}
 use Rattle.move_try.proofs.test.mark.Tie as tie
@@ -33,13 +33,13 @@ part-reach-end : tie.Need-slice-bounds-reach-end
 part-reach-end c = search rules
 
 reach-requires : tie.Need-reach-requires
-reach-requires c κs = mark-can c.before.before.before.before.requires
+reach-requires c κs = mark_can c.before.before.before.before.requires
 
 same_length : tie.Need-same-length
 same_length c = search rules
 
 returns : tie.Need-returns
-returns c = mark-done c.before.before.before.before.before.before.before.requires (edge c.before.before.before.before.before.before.before.args.heads.now c.before.before.before.before.before.before.before.args.list.now c.before.before.before.before.before.before.before.args.n) c.before.before.reach.ensures
+returns c = mark_done c.before.before.before.before.before.before.before.requires (edge c.before.before.before.before.before.before.before.args.heads.now c.before.before.before.before.before.before.before.args.list.now c.before.before.before.before.before.before.before.args.n) c.before.before.reach.ensures
 
 pub mark_spec : {M : Type 1} → statement M
 mark_spec =

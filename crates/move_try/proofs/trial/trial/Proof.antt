@@ -1,6 +1,6 @@
 -- `move_try::trial::trial` meets its contract. Assumes nothing.
 use native.Mathlib.Omega.{arith}
-use Rattle.move_try.specs.Trial.{fill-can, fill_done}
+use Rattle.move_try.specs.Trial.{fill_can, fill_done}
 use borrow.Author.Rules.{rules}
 use Rattle.move_try.proofs.trial.trial.Statement.{statement}
 use Rattle.move_try.proofs.trial.trial.Tie as tie
@@ -45,7 +45,7 @@ part-fill-slots-end : tie.Need-slice-bounds-fill-slots-end
 part-fill-slots-end c = search rules
 
 fill-slots-requires : tie.Need-fill-slots-requires
-fill-slots-requires c κs = fill-can c.before.before.before.before.before.before.before.before.before.before.before.before.before.before.before.before.requires c.before.before.before.before.before.before.before.place.new.1.1.1.1.1.0 (omega arith) c.before.before.before.before.before.before.before.place.ensures
+fill-slots-requires c κs = fill_can c.before.before.before.before.before.before.before.before.before.before.before.before.before.before.before.before.requires c.before.before.before.before.before.before.before.place.new.1.1.1.1.1.0 (omega arith) c.before.before.before.before.before.before.before.place.ensures
 
 same_length : tie.Need-same-length
 same_length c = search rules

@@ -6,7 +6,7 @@ use lib.ListN.{length-set}
 use Rattle.layout.specs.Patch.{part}
 use Rattle.move_edges.specs.Matrix.{matrix}
 use Rattle.move_try.specs.Areas.{committed}
-use Rattle.move_try.specs.Commit.{edges-can, commit-long, stored-long, commit-same, commit-done}
+use Rattle.move_try.specs.Commit.{edges_can, commit_long, stored_long, commit_same, commit_done}
 use borrow.Author.Rules.{rules}
 use Rattle.move_try.proofs.writes.commit.Statement.{statement}
 use Rattle.move_try.proofs.writes.commit.Tie as tie
@@ -33,7 +33,7 @@ follow-requires : tie.Need-follow-requires
 follow-requires c κs = search rules
 
 edges-after-requires : tie.Need-edges-after-requires
-edges-after-requires c κs = edges-can c.before.before.before.before.before.before.before.before.before.before.before.before.before.requires.rows c.before.before.before.before.before.before.before.before.before.before.before.before.before.requires.edges c.before.before.follow.ensures.0
+edges-after-requires c κs = edges_can c.before.before.before.before.before.before.before.before.before.before.before.before.before.requires.rows c.before.before.before.before.before.before.before.before.before.before.before.before.before.requires.edges c.before.before.follow.ensures.0
 
 write-totals-requires : tie.Need-write-totals-requires
 write-totals-requires c κs = search rules
@@ -72,7 +72,7 @@ mul-area-3 : tie.Need-overflow-mul-area-3
 mul-area-3 c = search rules
 
 slice-write-area-2 : tie.Need-slice-write-area-2
-slice-write-area-2 c = simp length-set (omega (arith, commit-long c.before.before.before.before.before.before.before.before.before.before.before.before.before.before.before.before.before.before.before.before.before.before.args.n c.before.before.before.before.before.before.before.before.before.before.before.before.before.before.before.before.before.before.before.before.before.before.args.atom c.before.before.before.before.before.before.before.before.before.before.before.before.before.before.before.before.before.before.before.before.before.before.args.to c.before.before.before.before.before.before.before.before.before.before.before.before.before.before.chunks-after.result c.before.before.before.before.before.before.before.before.edges-after.result (matrix c.before.before.before.before.before.before.before.before.before.before.before.before.before.before.before.before.before.before.before.before.before.before.args.u.now c.before.before.before.before.before.before.before.before.before.before.before.before.before.before.before.before.before.before.before.before.before.before.args.v.now c.before.before.before.before.before.before.before.before.before.before.before.before.before.before.before.before.before.before.before.before.before.before.args.n c.before.before.before.before.before.before.before.before.before.before.before.before.before.before.before.before.before.before.before.before.before.before.args.m) (part 0 c.before.before.before.before.before.before.before.before.before.before.before.before.before.before.before.before.before.before.before.before.before.before.args.n c.before.before.before.before.before.before.before.before.before.before.before.before.before.before.before.before.before.before.before.before.before.before.args.counts.now) c.before.before.before.before.before.before.before.before.before.before.before.before.before.before.before.before.before.before.before.before.before.before.args.area.now c.before.before.before.before.before.before.before.before.before.before.before.follow.ensures.1 c.before.before.before.before.before.before.write-totals.ensures c.before.before.copy.ensures, c.before.before.before.before.before.before.before.before.before.before.before.before.before.before.before.before.before.before.before.before.before.before.requires.follow.room))
+slice-write-area-2 c = simp length-set (omega (arith, commit_long c.before.before.before.before.before.before.before.before.before.before.before.before.before.before.before.before.before.before.before.before.before.before.args.n c.before.before.before.before.before.before.before.before.before.before.before.before.before.before.before.before.before.before.before.before.before.before.args.atom c.before.before.before.before.before.before.before.before.before.before.before.before.before.before.before.before.before.before.before.before.before.before.args.to c.before.before.before.before.before.before.before.before.before.before.before.before.before.before.chunks-after.result c.before.before.before.before.before.before.before.before.edges-after.result (matrix c.before.before.before.before.before.before.before.before.before.before.before.before.before.before.before.before.before.before.before.before.before.before.args.u.now c.before.before.before.before.before.before.before.before.before.before.before.before.before.before.before.before.before.before.before.before.before.before.args.v.now c.before.before.before.before.before.before.before.before.before.before.before.before.before.before.before.before.before.before.before.before.before.before.args.n c.before.before.before.before.before.before.before.before.before.before.before.before.before.before.before.before.before.before.before.before.before.before.args.m) (part 0 c.before.before.before.before.before.before.before.before.before.before.before.before.before.before.before.before.before.before.before.before.before.before.args.n c.before.before.before.before.before.before.before.before.before.before.before.before.before.before.before.before.before.before.before.before.before.before.args.counts.now) c.before.before.before.before.before.before.before.before.before.before.before.before.before.before.before.before.before.before.before.before.before.before.args.area.now c.before.before.before.before.before.before.before.before.before.before.before.follow.ensures.1 c.before.before.before.before.before.before.write-totals.ensures c.before.before.copy.ensures, c.before.before.before.before.before.before.before.before.before.before.before.before.before.before.before.before.before.before.before.before.before.before.requires.follow.room))
 
 mul-fill-with : tie.Need-overflow-mul-fill-with
 mul-fill-with c = search rules
@@ -81,13 +81,13 @@ add-fill-with : tie.Need-overflow-add-fill-with
 add-fill-with c = omega (arith, c.before.before.before.before.before.before.before.before.before.before.before.before.before.before.before.before.before.before.before.before.before.before.before.requires.rows, mul-le-mul_right {m = c.before.before.before.before.before.before.before.before.before.before.before.before.before.before.before.before.before.before.before.before.before.before.before.args.n} {n = 1024} c.before.before.before.before.before.before.before.before.before.before.before.before.before.before.before.before.before.before.before.before.before.before.before.args.n c.before.before.before.before.before.before.before.before.before.before.before.before.before.before.before.before.before.before.before.before.before.before.before.requires.rows)
 
 fill-with-requires : tie.Need-fill-with-requires
-fill-with-requires c κs = omega (arith, stored-long c.before.before.before.before.before.before.before.before.before.before.before.before.before.before.before.before.before.before.before.before.before.before.before.args.n c.before.before.before.before.before.before.before.before.before.before.before.before.before.before.before.before.before.before.before.before.before.before.before.args.atom c.before.before.before.before.before.before.before.before.before.before.before.before.before.before.before.before.before.before.before.before.before.before.before.args.to c.before.before.before.before.before.before.before.before.before.before.before.before.before.before.before.chunks-after.result c.before.before.before.before.before.before.before.before.before.edges-after.result (matrix c.before.before.before.before.before.before.before.before.before.before.before.before.before.before.before.before.before.before.before.before.before.before.before.args.u.now c.before.before.before.before.before.before.before.before.before.before.before.before.before.before.before.before.before.before.before.before.before.before.before.args.v.now c.before.before.before.before.before.before.before.before.before.before.before.before.before.before.before.before.before.before.before.before.before.before.before.args.n c.before.before.before.before.before.before.before.before.before.before.before.before.before.before.before.before.before.before.before.before.before.before.before.args.m) (part 0 c.before.before.before.before.before.before.before.before.before.before.before.before.before.before.before.before.before.before.before.before.before.before.before.args.n c.before.before.before.before.before.before.before.before.before.before.before.before.before.before.before.before.before.before.before.before.before.before.before.args.counts.now) c.before.before.before.before.before.before.before.before.before.before.before.before.before.before.before.before.before.before.before.before.before.before.before.args.area.now c.before.before.before.before.before.before.before.before.before.before.before.before.follow.ensures.1 c.before.before.before.before.before.before.before.write-totals.ensures c.before.before.before.copy.ensures, c.before.before.before.before.before.before.before.before.before.before.before.before.before.before.before.before.before.before.before.before.before.before.before.requires.follow.room)
+fill-with-requires c κs = omega (arith, stored_long c.before.before.before.before.before.before.before.before.before.before.before.before.before.before.before.before.before.before.before.before.before.before.before.args.n c.before.before.before.before.before.before.before.before.before.before.before.before.before.before.before.before.before.before.before.before.before.before.before.args.atom c.before.before.before.before.before.before.before.before.before.before.before.before.before.before.before.before.before.before.before.before.before.before.before.args.to c.before.before.before.before.before.before.before.before.before.before.before.before.before.before.before.chunks-after.result c.before.before.before.before.before.before.before.before.before.edges-after.result (matrix c.before.before.before.before.before.before.before.before.before.before.before.before.before.before.before.before.before.before.before.before.before.before.before.args.u.now c.before.before.before.before.before.before.before.before.before.before.before.before.before.before.before.before.before.before.before.before.before.before.before.args.v.now c.before.before.before.before.before.before.before.before.before.before.before.before.before.before.before.before.before.before.before.before.before.before.before.args.n c.before.before.before.before.before.before.before.before.before.before.before.before.before.before.before.before.before.before.before.before.before.before.before.args.m) (part 0 c.before.before.before.before.before.before.before.before.before.before.before.before.before.before.before.before.before.before.before.before.before.before.before.args.n c.before.before.before.before.before.before.before.before.before.before.before.before.before.before.before.before.before.before.before.before.before.before.before.args.counts.now) c.before.before.before.before.before.before.before.before.before.before.before.before.before.before.before.before.before.before.before.before.before.before.before.args.area.now c.before.before.before.before.before.before.before.before.before.before.before.before.follow.ensures.1 c.before.before.before.before.before.before.before.write-totals.ensures c.before.before.before.copy.ensures, c.before.before.before.before.before.before.before.before.before.before.before.before.before.before.before.before.before.before.before.before.before.before.before.requires.follow.room)
 
 same_length : tie.Need-same-length
-same_length c = commit-same c.before.before.before.before.before.before.before.before.before.before.before.before.before.before.before.before.before.before.before.before.before.before.before.before.before.before.args.n c.before.before.before.before.before.before.before.before.before.before.before.before.before.before.before.before.before.before.before.before.before.before.before.before.before.before.args.atom c.before.before.before.before.before.before.before.before.before.before.before.before.before.before.before.before.before.before.before.before.before.before.before.before.before.before.args.to c.before.before.before.before.before.before.before.before.before.before.before.before.before.before.before.before.before.before.chunks-after.result c.before.before.before.before.before.before.before.before.before.before.before.before.edges-after.result (matrix c.before.before.before.before.before.before.before.before.before.before.before.before.before.before.before.before.before.before.before.before.before.before.before.before.before.before.args.u.now c.before.before.before.before.before.before.before.before.before.before.before.before.before.before.before.before.before.before.before.before.before.before.before.before.before.before.args.v.now c.before.before.before.before.before.before.before.before.before.before.before.before.before.before.before.before.before.before.before.before.before.before.before.before.before.before.args.n c.before.before.before.before.before.before.before.before.before.before.before.before.before.before.before.before.before.before.before.before.before.before.before.before.before.before.args.m) (part 0 c.before.before.before.before.before.before.before.before.before.before.before.before.before.before.before.before.before.before.before.before.before.before.before.before.before.before.args.n c.before.before.before.before.before.before.before.before.before.before.before.before.before.before.before.before.before.before.before.before.before.before.before.before.before.before.args.counts.now) c.before.before.before.before.before.before.before.before.before.before.before.before.before.before.before.before.before.before.before.before.before.before.before.before.before.before.args.area.now c.before.before.before.before.before.before.before.before.before.before.before.before.before.before.before.follow.ensures.1 c.before.before.before.before.before.before.before.before.before.before.write-totals.ensures c.before.before.before.before.before.before.copy.ensures c.before.before.fill-with.ensures
+same_length c = commit_same c.before.before.before.before.before.before.before.before.before.before.before.before.before.before.before.before.before.before.before.before.before.before.before.before.before.before.args.n c.before.before.before.before.before.before.before.before.before.before.before.before.before.before.before.before.before.before.before.before.before.before.before.before.before.before.args.atom c.before.before.before.before.before.before.before.before.before.before.before.before.before.before.before.before.before.before.before.before.before.before.before.before.before.before.args.to c.before.before.before.before.before.before.before.before.before.before.before.before.before.before.before.before.before.before.chunks-after.result c.before.before.before.before.before.before.before.before.before.before.before.before.edges-after.result (matrix c.before.before.before.before.before.before.before.before.before.before.before.before.before.before.before.before.before.before.before.before.before.before.before.before.before.before.args.u.now c.before.before.before.before.before.before.before.before.before.before.before.before.before.before.before.before.before.before.before.before.before.before.before.before.before.before.args.v.now c.before.before.before.before.before.before.before.before.before.before.before.before.before.before.before.before.before.before.before.before.before.before.before.before.before.before.args.n c.before.before.before.before.before.before.before.before.before.before.before.before.before.before.before.before.before.before.before.before.before.before.before.before.before.before.args.m) (part 0 c.before.before.before.before.before.before.before.before.before.before.before.before.before.before.before.before.before.before.before.before.before.before.before.before.before.before.args.n c.before.before.before.before.before.before.before.before.before.before.before.before.before.before.before.before.before.before.before.before.before.before.before.before.before.before.args.counts.now) c.before.before.before.before.before.before.before.before.before.before.before.before.before.before.before.before.before.before.before.before.before.before.before.before.before.before.args.area.now c.before.before.before.before.before.before.before.before.before.before.before.before.before.before.before.follow.ensures.1 c.before.before.before.before.before.before.before.before.before.before.write-totals.ensures c.before.before.before.before.before.before.copy.ensures c.before.before.fill-with.ensures
 
 returns : tie.Need-returns
-returns c = (c.before.before.before.before.before.before.before.before.before.before.before.before.before.before.before.follow.ensures.0, commit-done c.before.before.before.before.before.before.before.before.before.before.before.before.before.before.before.before.before.before.before.before.before.before.before.before.before.before.args.n c.before.before.before.before.before.before.before.before.before.before.before.before.before.before.before.before.before.before.before.before.before.before.before.before.before.before.args.atom c.before.before.before.before.before.before.before.before.before.before.before.before.before.before.before.before.before.before.before.before.before.before.before.before.before.before.args.to c.before.before.before.before.before.before.before.before.before.before.before.before.before.before.before.before.before.before.chunks-after.result c.before.before.before.before.before.before.before.before.before.before.before.before.edges-after.result (matrix c.before.before.before.before.before.before.before.before.before.before.before.before.before.before.before.before.before.before.before.before.before.before.before.before.before.before.args.u.now c.before.before.before.before.before.before.before.before.before.before.before.before.before.before.before.before.before.before.before.before.before.before.before.before.before.before.args.v.now c.before.before.before.before.before.before.before.before.before.before.before.before.before.before.before.before.before.before.before.before.before.before.before.before.before.before.args.n c.before.before.before.before.before.before.before.before.before.before.before.before.before.before.before.before.before.before.before.before.before.before.before.before.before.before.args.m) (part 0 c.before.before.before.before.before.before.before.before.before.before.before.before.before.before.before.before.before.before.before.before.before.before.before.before.before.before.args.n c.before.before.before.before.before.before.before.before.before.before.before.before.before.before.before.before.before.before.before.before.before.before.before.before.before.before.args.counts.now) c.before.before.before.before.before.before.before.before.before.before.before.before.before.before.before.before.before.before.before.before.before.before.before.before.before.before.args.area.now c.before.before.before.before.before.before.before.before.before.before.before.before.before.before.before.follow.ensures.1 c.before.before.before.before.before.before.before.before.before.before.write-totals.ensures c.before.before.before.before.before.before.copy.ensures c.before.before.fill-with.ensures ∙ ap₂ (λ k f. committed c.before.before.before.before.before.before.before.before.before.before.before.before.before.before.before.before.before.before.before.before.before.before.before.before.before.before.args.n (matrix c.before.before.before.before.before.before.before.before.before.before.before.before.before.before.before.before.before.before.before.before.before.before.before.before.before.before.args.u.now c.before.before.before.before.before.before.before.before.before.before.before.before.before.before.before.before.before.before.before.before.before.before.before.before.before.before.args.v.now c.before.before.before.before.before.before.before.before.before.before.before.before.before.before.before.before.before.before.before.before.before.before.before.before.before.before.args.n c.before.before.before.before.before.before.before.before.before.before.before.before.before.before.before.before.before.before.before.before.before.before.before.before.before.before.args.m) (part 0 c.before.before.before.before.before.before.before.before.before.before.before.before.before.before.before.before.before.before.before.before.before.before.before.before.before.before.args.n c.before.before.before.before.before.before.before.before.before.before.before.before.before.before.before.before.before.before.before.before.before.before.before.before.before.before.args.counts.now) c.before.before.before.before.before.before.before.before.before.before.before.before.before.before.before.before.before.before.before.before.before.before.before.before.before.before.args.atom c.before.before.before.before.before.before.before.before.before.before.before.before.before.before.before.before.before.before.before.before.before.before.before.before.before.before.args.to k f c.before.before.before.before.before.before.before.before.before.before.before.before.before.before.before.before.before.before.before.before.before.before.before.before.before.before.args.area.now) c.before.before.before.before.before.before.before.before.before.before.before.before.before.before.before.before.before.before.chunks-after.ensures c.before.before.before.before.before.before.before.before.before.before.before.before.edges-after.ensures)
+returns c = (c.before.before.before.before.before.before.before.before.before.before.before.before.before.before.before.follow.ensures.0, commit_done c.before.before.before.before.before.before.before.before.before.before.before.before.before.before.before.before.before.before.before.before.before.before.before.before.before.before.args.n c.before.before.before.before.before.before.before.before.before.before.before.before.before.before.before.before.before.before.before.before.before.before.before.before.before.before.args.atom c.before.before.before.before.before.before.before.before.before.before.before.before.before.before.before.before.before.before.before.before.before.before.before.before.before.before.args.to c.before.before.before.before.before.before.before.before.before.before.before.before.before.before.before.before.before.before.chunks-after.result c.before.before.before.before.before.before.before.before.before.before.before.before.edges-after.result (matrix c.before.before.before.before.before.before.before.before.before.before.before.before.before.before.before.before.before.before.before.before.before.before.before.before.before.before.args.u.now c.before.before.before.before.before.before.before.before.before.before.before.before.before.before.before.before.before.before.before.before.before.before.before.before.before.before.args.v.now c.before.before.before.before.before.before.before.before.before.before.before.before.before.before.before.before.before.before.before.before.before.before.before.before.before.before.args.n c.before.before.before.before.before.before.before.before.before.before.before.before.before.before.before.before.before.before.before.before.before.before.before.before.before.before.args.m) (part 0 c.before.before.before.before.before.before.before.before.before.before.before.before.before.before.before.before.before.before.before.before.before.before.before.before.before.before.args.n c.before.before.before.before.before.before.before.before.before.before.before.before.before.before.before.before.before.before.before.before.before.before.before.before.before.before.args.counts.now) c.before.before.before.before.before.before.before.before.before.before.before.before.before.before.before.before.before.before.before.before.before.before.before.before.before.before.args.area.now c.before.before.before.before.before.before.before.before.before.before.before.before.before.before.before.follow.ensures.1 c.before.before.before.before.before.before.before.before.before.before.write-totals.ensures c.before.before.before.before.before.before.copy.ensures c.before.before.fill-with.ensures ∙ ap₂ (λ k f. committed c.before.before.before.before.before.before.before.before.before.before.before.before.before.before.before.before.before.before.before.before.before.before.before.before.before.before.args.n (matrix c.before.before.before.before.before.before.before.before.before.before.before.before.before.before.before.before.before.before.before.before.before.before.before.before.before.before.args.u.now c.before.before.before.before.before.before.before.before.before.before.before.before.before.before.before.before.before.before.before.before.before.before.before.before.before.before.args.v.now c.before.before.before.before.before.before.before.before.before.before.before.before.before.before.before.before.before.before.before.before.before.before.before.before.before.before.args.n c.before.before.before.before.before.before.before.before.before.before.before.before.before.before.before.before.before.before.before.before.before.before.before.before.before.before.args.m) (part 0 c.before.before.before.before.before.before.before.before.before.before.before.before.before.before.before.before.before.before.before.before.before.before.before.before.before.before.args.n c.before.before.before.before.before.before.before.before.before.before.before.before.before.before.before.before.before.before.before.before.before.before.before.before.before.before.args.counts.now) c.before.before.before.before.before.before.before.before.before.before.before.before.before.before.before.before.before.before.before.before.before.before.before.before.before.before.args.atom c.before.before.before.before.before.before.before.before.before.before.before.before.before.before.before.before.before.before.before.before.before.before.before.before.before.before.args.to k f c.before.before.before.before.before.before.before.before.before.before.before.before.before.before.before.before.before.before.before.before.before.before.before.before.before.before.args.area.now) c.before.before.before.before.before.before.before.before.before.before.before.before.before.before.before.before.before.before.chunks-after.ensures c.before.before.before.before.before.before.before.before.before.before.before.before.edges-after.ensures)
 
 pub commit-spec : {M : Type 1} → statement M
 commit-spec =

@@ -1,5 +1,5 @@
 -- `follow` meets its contract: the square is lent to `update`, and comes back as a patch. Assumes nothing.
-use Rattle.move_try.specs.Commit.{follow-can, follow-done}
+use Rattle.move_try.specs.Commit.{follow_can, follow-done}
 use borrow.Author.Rules.{rules}
 use Rattle.move_try.proofs.writes.follow.Statement.{statement}
 use Rattle.move_try.proofs.writes.follow.Tie as tie
@@ -17,7 +17,7 @@ part-update-end : tie.Need-slice-bounds-update-end
 part-update-end c = search rules
 
 update-requires : tie.Need-update-requires
-update-requires c κs = follow-can c.before.before.before.before.before.before.requires
+update-requires c κs = follow_can c.before.before.before.before.before.before.requires
 
 same_length : tie.Need-same-length
 same_length c = search rules

@@ -1,5 +1,5 @@
 -- `moves_commands::commands::edges` meets its contract. Assumes nothing.
-use Rattle.moves_commands.proofs.Turns.{edges-steps}
+use Rattle.moves_commands.proofs.Turns.{edges_steps}
 use borrow.Author.Rules.{rules}
 use Rattle.moves_commands.proofs.commands.edges.Statement.{statement}
 use Rattle.moves_commands.proofs.commands.edges.Tie as tie
@@ -16,7 +16,7 @@ same_length c = search rules
 returns : tie.Need-returns
 returns c = λ u v.
     let a = c.before.before.before.before.before.before.before.before.before.before.args in
-    edges-steps a.m u v a.dependencies.now a.hosts.now a.starts.now a.area.now c.done.ensures c.before.before.before.list-edges.ensures
+    edges_steps a.m u v a.dependencies.now a.hosts.now a.starts.now a.area.now c.done.ensures c.before.before.before.list-edges.ensures
 
 pub edges_spec : {M : Type 1} → statement M
 edges_spec = tie.close (tie.spec list-edges-requires done-requires same_length returns)

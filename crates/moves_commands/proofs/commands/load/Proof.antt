@@ -1,5 +1,5 @@
 -- `moves_commands::commands::load` meets its contract. Assumes nothing.
-use Rattle.moves_commands.proofs.Turns.{load-steps}
+use Rattle.moves_commands.proofs.Turns.{load_steps}
 use borrow.Author.Rules.{rules}
 use Rattle.moves_commands.proofs.commands.load.Statement.{statement}
 use Rattle.moves_commands.proofs.commands.load.Tie as tie
@@ -33,7 +33,7 @@ same-length-3 c = search rules
 
 returns : tie.Need-returns
 returns c = let a = c.before.before.before.before.before.before.before.before.before.before.before.before.before.before.before.before.before.before.before.before.before.before.before.args in
-    load-steps a.m a.sets.now a.sources.now a.dependencies.now a.hosts.now a.starts.now a.area.now
+    load_steps a.m a.sets.now a.sources.now a.dependencies.now a.hosts.now a.starts.now a.area.now
     c.before.before.before.before.before.before.before.before.before.before.before.before.before.fill-starts.ensures c.before.before.before.before.before.before.before.before.new.ensures.0 c.before.before.before.before.before.before.before.before.new.ensures.1 c.before.is-refused.ensures c.begun.ensures c.before.before.before.before.put-load.ensures
 
 pub load_spec : {M : Type 1} → statement M

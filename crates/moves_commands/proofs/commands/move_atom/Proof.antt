@@ -1,5 +1,5 @@
 -- `moves_commands::commands::move_atom` meets its contract. Assumes nothing.
-use Rattle.moves_commands.proofs.Turns.{move-steps}
+use Rattle.moves_commands.proofs.Turns.{move_steps}
 use borrow.Author.Rules.{rules}
 use Rattle.moves_commands.proofs.commands.move_atom.Statement.{statement}
 use Rattle.moves_commands.proofs.commands.move_atom.Tie as tie
@@ -22,7 +22,7 @@ same-length-2 c = search rules
 returns : tie.Need-returns
 returns c = λ u v.
     let a = c.before.before.before.before.before.before.before.before.before.before.before.before.before.before.args in
-    move-steps a.m u v a.dependencies.now a.hosts.now a.starts.now a.area.now
+    move_steps a.m u v a.dependencies.now a.hosts.now a.starts.now a.area.now
     c.before.before.before.before.before.before.before.try_move.ensures.0 c.before.before.before.before.before.before.before.try_move.ensures.1 c.done.ensures c.before.before.before.put-move.ensures
 
 pub move-atom-spec : {M : Type 1} → statement M

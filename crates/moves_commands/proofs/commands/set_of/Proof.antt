@@ -1,5 +1,5 @@
 -- `moves_commands::commands::set_of` meets its contract. Assumes nothing.
-use Rattle.moves_commands.proofs.Turns.{set-steps}
+use Rattle.moves_commands.proofs.Turns.{set_steps}
 use borrow.Author.Rules.{rules}
 use Rattle.moves_commands.proofs.commands.set_of.Statement.{statement}
 use Rattle.moves_commands.proofs.commands.set_of.Tie as tie
@@ -19,7 +19,7 @@ same_length c = search rules
 returns : tie.Need-returns
 returns c = λ u v.
     let a = c.before.before.before.before.before.before.before.before.before.before.before.args in
-    set-steps a.m u v a.dependencies.now a.hosts.now a.starts.now a.area.now
+    set_steps a.m u v a.dependencies.now a.hosts.now a.starts.now a.area.now
     c.before.before.before.before.before.atom_set.ensures c.done.ensures c.before.before.before.put-set-answer.ensures
 
 pub set-of-spec : {M : Type 1} → statement M

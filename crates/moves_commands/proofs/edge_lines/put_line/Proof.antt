@@ -1,12 +1,12 @@
 -- `moves_commands::edge_lines::put_line` meets its contract. Assumes nothing.
 use Rattle.moves_replies.specs.Room.{put_as}
-use Rattle.moves_commands.proofs.Lines.{list-some, line-told}
+use Rattle.moves_commands.proofs.Lines.{list_some, line-told}
 use borrow.Author.Rules.{rules}
 use Rattle.moves_commands.proofs.edge_lines.put_line.Statement.{statement}
 use Rattle.moves_commands.proofs.edge_lines.put_line.Tie as tie
 
 edge-at-requires : tie.Need-edge-at-requires
-edge-at-requires c κs = list-some c.before.before.before.before.requires.0.1
+edge-at-requires c κs = list_some c.before.before.before.before.requires.0.1
 
 put-listed-requires : tie.Need-put-listed-requires
 put-listed-requires c κs = search rules

@@ -1,5 +1,5 @@
 -- `merges::nidskalm_chunk_optimization_graph_pass` meets its contract. Assumes nothing.
-use Rattle.nidskalm.specs.ReplyLaws.{pass-replied, pass-left, pass-lists}
+use Rattle.nidskalm.specs.ReplyLaws.{pass_replied, pass_left, pass_lists}
 use borrow.Author.Rules.{rules}
 use Rattle.nidskalm.proofs.merges.nidskalm_chunk_optimization_graph_pass.Statement.{statement}
 use Rattle.nidskalm.proofs.merges.nidskalm_chunk_optimization_graph_pass.Tie as tie
@@ -23,7 +23,7 @@ same-length-3 : tie.Need-same-length-3
 same-length-3 c = search rules
 
 returns : tie.Need-returns
-returns c = (pass-replied c.before.before.before.before.before.before.before.pass.result _ c.before.before.before.before.before.before.before.before.before.before.before.sizes.ensures c.before.before.before.before.before.before.before.pass.ensures c.of-pass.ensures, (pass-left c.before.before.before.before.before.before.before.pass.result _ c.before.before.before.before.before.before.before.before.before.before.before.sizes.ensures c.before.before.before.before.before.before.before.pass.ensures c.of-pass.ensures, pass-lists c.before.before.before.before.before.before.before.pass.result _ c.before.before.before.before.before.before.before.before.before.before.before.sizes.ensures c.before.before.before.before.before.before.before.pass.ensures c.of-pass.ensures))
+returns c = (pass_replied c.before.before.before.before.before.before.before.pass.result _ c.before.before.before.before.before.before.before.before.before.before.before.sizes.ensures c.before.before.before.before.before.before.before.pass.ensures c.of-pass.ensures, (pass_left c.before.before.before.before.before.before.before.pass.result _ c.before.before.before.before.before.before.before.before.before.before.before.sizes.ensures c.before.before.before.before.before.before.before.pass.ensures c.of-pass.ensures, pass_lists c.before.before.before.before.before.before.before.pass.result _ c.before.before.before.before.before.before.before.before.before.before.before.sizes.ensures c.before.before.before.before.before.before.before.pass.ensures c.of-pass.ensures))
 
 pub nidskalm-chunk-optimization-graph-pass-spec : {M : Type 1} → statement M
 nidskalm-chunk-optimization-graph-pass-spec =

@@ -1,6 +1,6 @@
 -- `reduced_chunk_graph::moves::try_move` meets its contract. Assumes nothing.
 use native.Mathlib.Omega.{arith}
-use Rattle.reduced_chunk_graph.specs.MoveLaws.{call-refused, call_on, call-answer}
+use Rattle.reduced_chunk_graph.specs.MoveLaws.{call_refused, call_on, call-answer}
 use borrow.Author.Rules.{rules}
 use Rattle.reduced_chunk_graph.proofs.moves.try_move.Statement.{statement}
 use Rattle.reduced_chunk_graph.proofs.moves.try_move.Tie as tie
@@ -12,7 +12,7 @@ same_length : tie.Need-same-length
 same_length c = search rules
 
 returns : tie.Need-returns
-returns c = call-refused _ _ _ _ _ _ _ c.before.later-row.ensures (omega arith)
+returns c = call_refused _ _ _ _ _ _ _ c.before.later-row.ensures (omega arith)
 
 go-on-requires : tie.Need-go-on-requires
 go-on-requires c κs = call_on _ _ _ _ c.before.before.before.before.before.before.before.before.before.before.args.atom c.before.before.before.before.before.before.before.before.before.before.args.bits.now c.before.before.later-row.ensures (search rules)

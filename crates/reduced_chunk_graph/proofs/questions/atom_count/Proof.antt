@@ -1,7 +1,7 @@
 -- `questions::atom_count` meets its contract. Assumes nothing.
 use native.Mathlib.Omega.{arith}
 use Rattle.entry_set.specs.SetLaws.{legal-short}
-use Rattle.reduced_chunk_graph.specs.Asked.{asked-back, loads, head-inside, checks-some, count-eleven, count-told}
+use Rattle.reduced_chunk_graph.specs.Asked.{asked-back, loads, head-inside, checks_some, count_eleven, count-told}
 use borrow.Author.Rules.{rules}
 use Rattle.reduced_chunk_graph.proofs.questions.atom_count.Statement.{statement}
 use Rattle.reduced_chunk_graph.proofs.questions.atom_count.Tie as tie
@@ -16,7 +16,7 @@ is-legal-requires : tie.Need-is-legal-requires
 is-legal-requires c κs = (loads _ _ _ _ _ c.before.later-row.ensures (omega arith)).sizes.bits
 
 returns-2 : tie.Need-returns-2
-returns-2 c = count-eleven _ _ _ _ _ c.before.before.before.later-row.ensures (omega arith) _ _ c.before.is-legal.ensures c.if2.true
+returns-2 c = count_eleven _ _ _ _ _ c.before.before.before.later-row.ensures (omega arith) _ _ c.before.is-legal.ensures c.if2.true
 
 registered-requires : tie.Need-registered-requires
 registered-requires c κs = head-inside _ _ _ _ _ c.before.before.before.later-row.ensures (omega arith)
@@ -25,7 +25,7 @@ from-list-requires : tie.Need-from-list-requires
 from-list-requires c κs = legal-short _ c.before.before.before.before.before.before.before.before.before.before.before.args.bits.now (loads _ _ _ _ _ c.before.before.before.before.later-row.ensures (omega arith)).sizes.bits c.before.before.is-legal.ensures c.before.if2.false
 
 atom-count-requires : tie.Need-atom-count-requires
-atom-count-requires c κs = checks-some _ _ _ _ _ c.before.before.before.before.before.later-row.ensures (omega arith) c.before.registered.ensures
+atom-count-requires c κs = checks_some _ _ _ _ _ c.before.before.before.before.before.later-row.ensures (omega arith) c.before.registered.ensures
 
 wide-requires : tie.Need-wide-requires
 wide-requires c κs = search rules

@@ -1,6 +1,6 @@
 -- `questions::atom_set` meets its contract. Assumes nothing.
 use native.Mathlib.Omega.{arith}
-use Rattle.reduced_chunk_graph.specs.Asked.{asked-back, set-ten, can-read-set, set_told}
+use Rattle.reduced_chunk_graph.specs.Asked.{asked-back, set_ten, can_read-set, set_told}
 use borrow.Author.Rules.{rules}
 use Rattle.reduced_chunk_graph.proofs.questions.atom_set.Statement.{statement}
 use Rattle.reduced_chunk_graph.proofs.questions.atom_set.Tie as tie
@@ -12,10 +12,10 @@ returns : tie.Need-returns
 returns c = asked-back _ _ _ _ _ c.before.later-row.ensures (omega arith) _
 
 returns-2 : tie.Need-returns-2
-returns-2 c = set-ten _ _ _ _ _ c.before.before.later-row.ensures (omega arith) _ (omega arith)
+returns-2 c = set_ten _ _ _ _ _ c.before.before.later-row.ensures (omega arith) _ (omega arith)
 
 read-set-requires : tie.Need-read-set-requires
-read-set-requires c κs = can-read-set _ _ _ _ _ c.before.before.later-row.ensures (omega arith) _ (omega arith)
+read-set-requires c κs = can_read-set _ _ _ _ _ c.before.before.later-row.ensures (omega arith) _ (omega arith)
 
 returns-3 : tie.Need-returns-3
 returns-3 c = set_told _ _ _ _ _ c.before.before.before.later-row.ensures (omega arith) _ (omega arith) _ c.read_set.ensures

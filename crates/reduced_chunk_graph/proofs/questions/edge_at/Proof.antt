@@ -2,7 +2,7 @@
 use mathlib.Core.Path.{◌∙◌}
 use native.Mathlib.Omega.{arith}
 use Rattle.reduced_chunk_graph.specs.Asked.{asked-back, head-inside, edge-told}
-use Rattle.move_rows.specs.Listed.{listable-known, listable-some}
+use Rattle.move_rows.specs.Listed.{listable_known, listable_some}
 use borrow.Author.Rules.{rules}
 use Rattle.reduced_chunk_graph.proofs.questions.edge_at.Statement.{statement}
 use Rattle.reduced_chunk_graph.proofs.questions.edge_at.Tie as tie
@@ -29,13 +29,13 @@ slice-aggregate-edge-at-2 : tie.Need-slice-aggregate-edge-at-2
 slice-aggregate-edge-at-2 c = search rules
 
 edge-at-requires : tie.Need-edge-at-requires
-edge-at-requires c κs = listable-some c.before.before.before.before.before.before.listed-row.ensures (omega arith) c.before.before.registered.ensures
+edge-at-requires c κs = listable_some c.before.before.before.before.before.before.listed-row.ensures (omega arith) c.before.before.registered.ensures
 
 answered-requires : tie.Need-answered-requires
 answered-requires c κs = search rules
 
 returns-2 : tie.Need-returns-2
-returns-2 c = edge-told _ _ _ _ _ c.before.before.before.before.before.before.before.before.listed-row.ensures.row (omega arith) _ _ (c.answered.ensures ∙ c.before.edge_at.ensures _ (listable-known c.before.before.before.before.before.before.before.before.listed-row.ensures (omega arith) c.before.before.before.before.registered.ensures))
+returns-2 c = edge-told _ _ _ _ _ c.before.before.before.before.before.before.before.before.listed-row.ensures.row (omega arith) _ _ (c.answered.ensures ∙ c.before.edge_at.ensures _ (listable_known c.before.before.before.before.before.before.before.before.listed-row.ensures (omega arith) c.before.before.before.before.registered.ensures))
 
 pub edge-at-spec : {M : Type 1} → statement M
 edge-at-spec =

@@ -1,7 +1,7 @@
 -- `reduced_chunk_graph::verdict::has_cycle` meets its contract. Assumes nothing.
 use mathlib.Core.Bool.{true, false}
 use mathlib.Core.Path.{sym, ◌∙◌}
-use Rattle.reduced_chunk_graph.specs.Asked.{asked-back, can-search, verdict-told}
+use Rattle.reduced_chunk_graph.specs.Asked.{asked-back, can_search, verdict-told}
 use borrow.Author.Rules.{rules}
 use Rattle.reduced_chunk_graph.proofs.verdict.has_cycle.Statement.{statement}
 use Rattle.reduced_chunk_graph.proofs.verdict.has_cycle.Tie as tie
@@ -13,7 +13,7 @@ returns : tie.Need-returns
 returns c = asked-back _ _ _ _ _ c.before.later-row.ensures c.if1.true _
 
 has-cycle-requires : tie.Need-has-cycle-requires
-has-cycle-requires c κs = can-search _ _ _ _ _ c.before.later-row.ensures c.if1.false
+has-cycle-requires c κs = can_search _ _ _ _ _ c.before.later-row.ensures c.if1.false
 
 returns-2 : tie.Need-returns-2
 returns-2 c = verdict-told _ _ _ _ _ c.before.before.before.later-row.ensures c.before.before.if1.false {t = true} (sym c.if2.true ∙ c.before.has_cycle.ensures)

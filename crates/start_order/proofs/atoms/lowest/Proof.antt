@@ -1,5 +1,5 @@
 -- `start_order::atoms::lowest` meets its contract. Assumes nothing.
-use Rattle.start_order.specs.Lowest.{node_at, Lowest, lowest_none, lowest_more}
+use Rattle.start_order.specs.Lowest.{atom_node, Lowest, lowest_none, lowest_more}
 use borrow.Author.Rules.{rules}
 use lib.ListN.{length, length-set}
 use mathlib.Core.Path.{◌≡◌, refl}
@@ -10,7 +10,7 @@ use Rattle.start_order.proofs.atoms.lowest.Tie as tie
 
 abbrev invariant-loop : tie.invariant-loop
 invariant-loop area a n low₀ nodes k₀ low k =
-    (k ≤ a) × (length low ≡ length low₀) × Lowest (node_at area n) k a low
+    (k ≤ a) × (length low ≡ length low₀) × Lowest (atom_node area n) k a low
 
 abbrev decreases-loop : tie.decreases-loop
 decreases-loop area a n low₀ nodes k₀ low k =

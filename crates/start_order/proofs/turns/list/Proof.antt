@@ -1,5 +1,5 @@
 -- `start_order::turns::list` meets its contract. Assumes nothing.
-use Rattle.start_order.specs.Running.{Run, run_none, run-seek, run_end, run-full, run_take, run_more}
+use Rattle.start_order.specs.Running.{Run, run_none, run_seek, run_end, run_full, run_take, run_more}
 use Rattle.start_order.specs.Steps.{CanList}
 use Rattle.start_order.specs.Turns.{Setting}
 use borrow.Author.Rules.{rules}
@@ -25,7 +25,7 @@ loop-holds c =
 
 seek-requires : tie.Need-seek-requires invariant-loop decreases-loop
 seek-requires c κs =
-    run-seek c.before.before.before.before.before.before.before.before.before.before.requires.1 c.before.before.before.loop.invariant.1 c.before.before.before.loop.invariant.2
+    run_seek c.before.before.before.before.before.before.before.before.before.before.requires.1 c.before.before.before.loop.invariant.1 c.before.before.before.loop.invariant.2
 
 same_length : tie.Need-same-length invariant-loop decreases-loop
 same_length c =
@@ -90,7 +90,7 @@ same-length-6 c =
 
 returns-2 : tie.Need-returns-2 invariant-loop decreases-loop
 returns-2 c =
-    λ s can. run-full can (c.before.loop.invariant.4 s can) (omega (arith, c.before.loop.invariant.0))
+    λ s can. run_full can (c.before.loop.invariant.4 s can) (omega (arith, c.before.loop.invariant.0))
 
 pub list-spec : {M : Type 1} → statement M
 list-spec =

@@ -1,5 +1,5 @@
 -- `start_order::turns::pass` meets its contract. Assumes nothing.
-use Rattle.start_order.specs.StepLaws.{pass-cell, pass-less, passed_none, passed-more}
+use Rattle.start_order.specs.StepLaws.{pass_cell, pass_less, passed_none, passed-more}
 use Rattle.start_order.specs.Steps.{Passed}
 use borrow.Author.Rules.{rules}
 use lib.ListN.{length, length-set}
@@ -23,19 +23,19 @@ loop-holds c =
 
 mul-one-less : tie.Need-overflow-mul-one-less invariant-loop decreases-loop
 mul-one-less c =
-    omega (arith, pass-cell c.before.before.before.before.requires c.before.loop.y c.loop-test.true)
+    omega (arith, pass_cell c.before.before.before.before.requires c.before.loop.y c.loop-test.true)
 
 add-one-less : tie.Need-overflow-add-one-less invariant-loop decreases-loop
 add-one-less c =
-    omega (arith, pass-cell c.before.before.before.before.requires c.before.loop.y c.loop-test.true)
+    omega (arith, pass_cell c.before.before.before.before.requires c.before.loop.y c.loop-test.true)
 
 mul-one-less-2 : tie.Need-overflow-mul-one-less-2 invariant-loop decreases-loop
 mul-one-less-2 c =
-    omega (arith, pass-cell c.before.before.before.before.requires c.before.loop.y c.loop-test.true)
+    omega (arith, pass_cell c.before.before.before.before.requires c.before.loop.y c.loop-test.true)
 
 shared-slice-read-one-less : tie.Need-shared-slice-read-one-smaller invariant-loop decreases-loop
 shared-slice-read-one-less c =
-    pass-cell c.before.before.before.before.before.requires c.before.before.loop.y c.before.loop-test.true
+    pass_cell c.before.before.before.before.before.requires c.before.before.loop.y c.before.loop-test.true
 
 mul-one-less-3 : tie.Need-overflow-mul-one-less-3 invariant-loop decreases-loop
 mul-one-less-3 c =
@@ -47,7 +47,7 @@ slice-read-one-less c =
 
 one-less-requires : tie.Need-one-less-requires invariant-loop decreases-loop
 one-less-requires c κs =
-    pass-less c.before.before.before.before.before.before.requires c.before.before.before.loop.invariant.2 c.before.before.loop-test.true
+    pass_less c.before.before.before.before.before.before.requires c.before.before.before.loop.invariant.2 c.before.before.loop-test.true
 
 mul-degrees : tie.Need-overflow-mul-degrees invariant-loop decreases-loop
 mul-degrees c =

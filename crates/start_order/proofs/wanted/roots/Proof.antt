@@ -1,6 +1,6 @@
 -- `start_order::wanted::roots` meets its contract. Assumes nothing.
 use Rattle.start_order.specs.Walked.{seed_can}
-use Rattle.start_order.specs.Roots.{Roots, roots_none, roots-more}
+use Rattle.start_order.specs.Roots.{Roots, roots_none, roots_more}
 use Rattle.start_order.specs.Bits.{picks}
 use borrow.Author.Rules.{rules}
 use lib.ListN.{length}
@@ -36,7 +36,7 @@ loop-less c =
 
 loop-again : tie.Need-loop-preserved invariant-loop decreases-loop
 loop-again c =
-    (omega (arith, c.before.before.before.before.before.before.before.loop-test.true), c.before.before.before.before.seed.auto.1.1.1.1.0 ∙ c.before.before.before.before.before.before.before.before.loop.invariant.1, c.before.before.before.before.seed.auto.1.1.1.1.1.0 ∙ c.before.before.before.before.before.before.before.before.loop.invariant.2, roots-more c.before.before.before.before.before.before.before.before.loop.invariant.3 (omega (arith, c.before.before.before.before.before.before.before.loop-test.true, c.before.before.before.before.before.before.before.before.before.before.before.before.requires.0.few)) c.before.before.before.before.seed.ensures)
+    (omega (arith, c.before.before.before.before.before.before.before.loop-test.true), c.before.before.before.before.seed.auto.1.1.1.1.0 ∙ c.before.before.before.before.before.before.before.before.loop.invariant.1, c.before.before.before.before.seed.auto.1.1.1.1.1.0 ∙ c.before.before.before.before.before.before.before.before.loop.invariant.2, roots_more c.before.before.before.before.before.before.before.before.loop.invariant.3 (omega (arith, c.before.before.before.before.before.before.before.loop-test.true, c.before.before.before.before.before.before.before.before.before.before.before.before.requires.0.few)) c.before.before.before.before.seed.ensures)
 
 same_length : tie.Need-same-length invariant-loop decreases-loop
 same_length c =
