@@ -2,6 +2,8 @@
 //
 // A slot k of two lists is the edge from what stands in the first to what stands in the second,
 // and no edge where the two are equal.
+#![tactic(auto)]
+
 ghost use Rattle.std.specs.Prelude.{◌≡◌, cond, ◌&&◌, ◌+◌, ◌*◌};
 ghost use Rattle.graphs.specs.Count.{ind};
 ghost use Rattle.graphs.specs.Slots.{added, removed};
@@ -12,7 +14,7 @@ ghost use Rattle.move_edges.specs.Steps.{CanAdd, CanRemove, CanLose, CanGain, Ca
 pub mod rows;
 
 // How many edges one graph has that the other hasn't: those that appeared, those that vanished.
-#[derive(Drop)]
+#[derive(Clone, Copy)]
 pub struct Changes {
     pub appeared: u32,
     pub vanished: u32,

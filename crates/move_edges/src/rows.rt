@@ -4,7 +4,7 @@ ghost use Rattle.graphs.specs.Count.{ind};
 ghost use Rattle.move_edges.specs.Rows.{CanBump, CanTally, Tallied, CanWipe, Wiped, numbers_of, CanCompare, CanCount, Compared, CanCheckRow, RowChecked, CanCheck, Checked};
 
 // How many numbers of a row differ, and how many edges it has.
-#[derive(Drop)]
+#[derive(Clone, Copy)]
 struct Row {
     unequal: u32,
     edges: u32,
