@@ -1,4 +1,6 @@
 // Walks that mark what they reach: over neighbour lists, and over rows of flags.
+#![tactic(auto)]
+
 pub mod end_rows; // end_rows.rt: over rows of flags whose nodes stand for their ends
 
 ghost use Rattle.std.specs.Prelude.{◌≡◌, ℕ, ◌+◌, ◌*◌, ◌<◌, ◌≤◌, length, get_or};
