@@ -1,5 +1,7 @@
 // Depth-first search with a stack of its own. A node is white (0) till it is discovered, gray (1) while its edges are gone through, and
 // black (2 and up, by the order of the finishing) from then on.
+#![tactic(auto)]
+
 ghost use Rattle.std.specs.Prelude.{◌≡◌, ℕ, ◌<◌, ◌^◌, get_or};
 ghost use Rattle.graphs.specs.Lists.{below};
 ghost use Rattle.graphs.specs.Walk.{cyclic};
@@ -9,7 +11,7 @@ ghost use Rattle.graph_colours.specs.Colours.{view, Ran};
 ghost use Rattle.graph_depth_first.specs.Steps.{CanDiscover, Discovered, CanFinish, Finished, CanVisit, Visited, Ready, Top, Stepped, Searched, CanWalk, Walked};
 
 // Where a search stands: the stack's height, how many nodes have finished, and whether a gray neighbour was met.
-#[derive(Drop)]
+#[derive(Clone, Copy)]
 struct At {
     sp: usize,
     fin: usize,
