@@ -11,35 +11,35 @@ use merge_area::places::key_place;
 use merge_state::{ChunkIdx, ModuleIdx, NONE, Sizes};
 
 // What a call answers that is neither a question nor the pass.
-#[derive(Drop)]
+#[derive(Clone, Copy)]
 pub enum DoneAnswer {
     Done,
     Refused(u32),
 }
 
 // A chunk, or none.
-#[derive(Drop)]
+#[derive(Clone, Copy)]
 pub enum OptionChunkIdx {
     Some(ChunkIdx),
     None,
 }
 
 // What to_temp_idx answers.
-#[derive(Drop)]
+#[derive(Clone, Copy)]
 pub enum TempIdxAnswer {
     Is(OptionChunkIdx),
     Refused(u32),
 }
 
 // What a question answers.
-#[derive(Drop)]
+#[derive(Clone, Copy)]
 pub enum YesNoAnswer {
     Is(bool),
     Refused(u32),
 }
 
 // What the pass answers: how many candidates it assigned.
-#[derive(Drop)]
+#[derive(Clone, Copy)]
 pub enum PassAnswer {
     Assigned(u32),
     Refused(u32),

@@ -1,4 +1,6 @@
 // A set of up to 256 entry bits: four numbers of 64 bits by value, lent lists of such numbers, and words in a work area.
+#![tactic(auto)]
+
 ghost use Rattle.std.specs.Prelude.{◌≡◌, [], ◌∷◌, ◌+◌, ◌-◌, ◌*◌, ◌/◌, ◌%◌, ◌^◌, ◌<◌, ◌≤◌, length, get_or, take, drop, eqb, ltb};
 ghost use Rattle.std.specs.Int.Count.{ones};
 ghost use Rattle.entry_set.specs.Joined.{parts};
@@ -6,7 +8,7 @@ ghost use Rattle.entry_set.specs.Sets.{value, words, legal, width, number, Holds
 ghost use Rattle.entry_set.specs.Lanes.{lanes, set_lanes};
 
 // Bit 0 is the lowest of the first number.
-#[derive(Drop)]
+#[derive(Clone, Copy)]
 pub struct EntrySet(pub u64, pub u64, pub u64, pub u64);
 
 // Four numbers as a set.

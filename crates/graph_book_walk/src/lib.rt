@@ -1,5 +1,7 @@
 // The textbook's search for a cycle: `open` opens a node and `edges` goes through its edges, each calling the other. A node is white (0) till it is
 // opened, gray (1) while its edges are gone through, and black (2) from then on. There is a cycle exactly where an edge leads to a gray node.
+#![tactic(auto)]
+
 ghost use Rattle.std.specs.Prelude.{◌≡◌, ℕ, ◌<◌, length};
 ghost use Rattle.graphs.specs.Lists.{below};
 ghost use Rattle.graphs.specs.Walk.{cyclic};

@@ -1,9 +1,11 @@
 // The three states of a node in a depth-first search, as in the book, and the numbers that stand for them in a list of colours.
+#![tactic(auto)]
+
 ghost use Rattle.std.specs.Prelude.{◌≡◌, ℕ, ◌<◌, ◌^◌};
 ghost use Rattle.graph_colours.specs.Colours.{next_state, colour_of, number_of};
 
 // A node's state, as in the book: white till it is discovered, gray while its edges are gone through, black from then on.
-#[derive(Drop)]
+#[derive(Clone, Copy)]
 pub enum State {
     White,
     Gray,

@@ -1,1 +1,2 @@
 // Graphs, walks and edge slots: definitions and laws only.
+#![tactic(auto)]

@@ -36,6 +36,7 @@ lay_agree (f ∷ fs) l l' e h = lay_agree fs (patch f.at f.body l) (patch f.at f
 
 -- one field with another body
 unfoldable pub swap : {f : Field} (fs : List Field) → In f fs → List ℕ → List Field
+swap {f = f} [] x'' v = elim x'' [ ]
 swap (f ∷ fs) (here) v = field f.at v ∷ fs
 swap (g ∷ fs) (there i) v = g ∷ swap fs i v
 
@@ -62,6 +63,7 @@ lay-first (f ∷ fs) lo hi a u l h b =
 pub lay-swap : (fs : List Field) (lo hi : ℕ) (l : List ℕ) {f : Field} (i : In f fs) (v : List ℕ) → Fits lo (swap fs i v) hi → length f.body ≤ length v
     → patch f.at v (lay fs l) ≡ lay (swap fs i v) l
 unfolding lay swap
+lay-swap [] lo hi l {f = f} i v h e = elim i [ ]
 lay-swap (f ∷ fs) lo hi l (here) v h e =
     lay-first fs (f.at + length v) hi f.at v (patch f.at f.body l) h.1 (omega arith) ∙ ap (lay fs) (patch-over f.at v f.body l e)
 lay-swap (g ∷ fs) lo hi l (there i) v h e = lay-swap fs (g.at + length g.body) hi (patch g.at g.body l) i v h.1 e
@@ -69,5 +71,6 @@ lay-swap (g ∷ fs) lo hi l (there i) v h e = lay-swap fs (g.at + length g.body)
 -- a body of the same length fits
 pub swap-fits : (fs : List Field) (lo hi : ℕ) {f : Field} (i : In f fs) (v : List ℕ) → Fits lo fs hi → length v ≡ length f.body → Fits lo (swap fs i v) hi
 unfolding swap
+swap-fits [] lo hi {f = f} i v h e = elim i [ ]
 swap-fits (f ∷ fs) lo hi (here) v h e = (h.0, rw e h.1)
 swap-fits (g ∷ fs) lo hi (there i) v h e = (h.0, swap-fits fs (g.at + length g.body) hi i v h.1 e)

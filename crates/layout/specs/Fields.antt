@@ -44,6 +44,7 @@ fits_up (f ∷ fs) lo hi h = omega (arith, h.0, fits_up fs (f.at + length f.body
 -- each field is read back
 pub lay-read : (fs : List Field) (lo hi : ℕ) (l : List ℕ) → Fits lo fs hi → hi ≤ length l → (f : Field) → In f fs → part f.at (length f.body) (lay fs l) ≡ f.body
 unfolding lay
+lay-read [] lo hi l h b f x3 = elim x3 [ ]
 lay-read (f ∷ fs) lo hi l h b _ (here) =
     let top = fits_up fs (f.at + length f.body) hi h.1 in
     is_part f.at (lay fs (patch f.at f.body l)) f.body (λ i z.

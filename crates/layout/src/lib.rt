@@ -1,4 +1,6 @@
 // Lists written over a part of a list, and tests on a part of a list.
+#![tactic(auto)]
+
 ghost use Rattle.std.specs.Prelude.{◌≡◌, ◌+◌, ◌≤◌, length, replicate};
 ghost use Rattle.layout.specs.Patch.{patch, part};
 ghost use Rattle.layout.specs.Steps.{CanCopy};

@@ -8,7 +8,7 @@ ghost use Rattle.merge_pass.specs.Turns.{PlacedIn, CanTurn, TurnedIn, CanPass, P
 use merge_state::{ChunkIdx, NONE, Sizes};
 
 // What a candidate is given: its kind (0 merged, 1 created) and its number.
-#[derive(Drop)]
+#[derive(Clone, Copy)]
 pub struct Placed {
     pub kind: u32,
     pub number: u32,

@@ -1,7 +1,7 @@
 // The merge graph: its index types and sizes; definitions and theorems only.
 
 // C, M, L and E: how many chunks, modules and list entries there is room for, and how many entry bits.
-#[derive(Drop)]
+#[derive(Clone, Copy)]
 pub struct Sizes {
     pub chunks: usize,
     pub modules: usize,
@@ -10,11 +10,11 @@ pub struct Sizes {
 }
 
 // A chunk, by its number.
-#[derive(Drop)]
+#[derive(Clone, Copy)]
 pub struct ChunkIdx(pub u32);
 
 // A module, by its number.
-#[derive(Drop)]
+#[derive(Clone, Copy)]
 pub struct ModuleIdx(pub u32);
 
 // No chunk, in a list of numbers.

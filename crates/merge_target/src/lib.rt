@@ -20,14 +20,14 @@ use entry_set::EntrySet;
 use merge_state::{ChunkIdx, NONE};
 
 // How many chunks and modules there are.
-#[derive(Drop)]
+#[derive(Clone, Copy)]
 pub struct Counts {
     pub chunks: usize,
     pub modules: usize,
 }
 
 // What the choice of a merge target answers.
-#[derive(Drop)]
+#[derive(Clone, Copy)]
 pub enum TargetAnswer {
     Into(ChunkIdx),
     Nothing,

@@ -89,6 +89,7 @@ data Stand (l : List ℕ) : List Field → Type 0 where
   next : {f : Field} {fs : List Field} → part f.at (length f.body) l ≡ f.body → Stand l fs → Stand l (f ∷ fs)
 
 stands : {l : List ℕ} {fs : List Field} → Stand l fs → (f : Field) → In f fs → part f.at (length f.body) l ≡ f.body
+stands {l = l} none f x3 = elim x3 [ ]
 stands (next h s) _ (here) = h
 stands (next h s) f (there i) = stands s f i
 

@@ -1,1 +1,2 @@
 // The area of a move graph.
+#![tactic(auto)]

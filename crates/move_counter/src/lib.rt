@@ -3,7 +3,7 @@ ghost use Rattle.std.specs.Prelude.{◌≡◌};
 ghost use Rattle.move_area.specs.Calls.{next};
 ghost use Rattle.move_counter.specs.Marks.{unmarked, started};
 
-#[derive(Drop)]
+#[derive(Clone, Copy)]
 pub struct WalkCounter {
     pub mark: u32,
 }

@@ -11,7 +11,7 @@ mod walks;
 pub use atoms::how_free;
 
 // The three counts.
-#[derive(Drop)]
+#[derive(Clone, Copy)]
 pub struct Counts {
     pub accepted: u64,
     pub rejected: u64,

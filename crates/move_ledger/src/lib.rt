@@ -1,1 +1,2 @@
 // The move graph's ledger: definitions and laws only.
+#![tactic(auto)]

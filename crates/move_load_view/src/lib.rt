@@ -4,7 +4,7 @@ ghost use Rattle.std.specs.Prelude.{◌≡◌, ◌<◌, length};
 ghost use Rattle.move_ledger.specs.Graph.{at};
 ghost use Rattle.move_load_view.specs.View.{CanPart, dependencies_of};
 
-#[derive(Drop)]
+#[derive(Clone, Copy)]
 pub struct Load<'s, 'd, 'h> {
     pub starts: &'s [u32],
     pub dependencies: &'d [u32],

@@ -10,7 +10,7 @@ ghost use Rattle.move_questions.specs.Answers.{place_in, Checked, Listable, CanR
 use entry_set::EntrySet;
 
 // An edge between two sets.
-#[derive(Drop)]
+#[derive(Clone, Copy)]
 pub struct Edge {
     pub from: EntrySet,
     pub to: EntrySet,
@@ -18,7 +18,7 @@ pub struct Edge {
 }
 
 // What `edge_at` finds.
-#[derive(Drop)]
+#[derive(Clone, Copy)]
 pub enum Listed {
     Found(Edge),
     None,
@@ -32,7 +32,7 @@ fn wide(x: u32) -> u64
 }
 
 // A place in the order of the nodes, and how many edges of that node come before.
-#[derive(Drop)]
+#[derive(Clone, Copy)]
 pub struct Row {
     pub at: usize,
     pub rest: u64,

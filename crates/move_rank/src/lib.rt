@@ -11,7 +11,7 @@ ghost use Rattle.move_rank.specs.Atoms.{set_of, CanRead, Placed, Both, Differ};
 use entry_set::EntrySet;
 
 // The first of two: before the second, equal to it, or after it.
-#[derive(Drop)]
+#[derive(Clone, Copy)]
 pub enum Ranked {
     Before,
     Equal,

@@ -6,7 +6,7 @@ ghost use Rattle.move_try.specs.Tried.{CanTry, Answers};
 
 // What an accepted move reports: how many distinct edges the graph has afterwards that it hadn't before, and the other way round, and how many other
 // chunks the moved atom's chunk then reaches.
-#[derive(Drop)]
+#[derive(Clone, Copy)]
 pub struct Moved {
     pub appeared: u32,
     pub vanished: u32,
@@ -14,7 +14,7 @@ pub struct Moved {
 }
 
 // What a move on a checked area comes to.
-#[derive(Drop)]
+#[derive(Clone, Copy)]
 pub enum Tried {
     Accepted(Moved),
     Rejected,

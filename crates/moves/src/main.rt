@@ -13,7 +13,7 @@ use libc::{STDIN_FILENO, STDOUT_FILENO};
 use moves_load_commands::Machine;
 
 // The machine after the bytes that were used, and how many bytes of replies were written; where the program doesn't go on, the machine has stopped.
-#[derive(Drop)]
+#[derive(Clone, Copy)]
 struct Step {
     machine: Machine,
     used: usize,
@@ -22,7 +22,7 @@ struct Step {
 }
 
 // The same of a block, whose replies are written turn by turn.
-#[derive(Drop)]
+#[derive(Clone, Copy)]
 struct Block {
     machine: Machine,
     used: usize,
@@ -30,7 +30,7 @@ struct Block {
 }
 
 // The same of a read: what the system answered to it, and how many bytes these are.
-#[derive(Drop)]
+#[derive(Clone, Copy)]
 struct Read {
     got: isize,
     read: usize,
@@ -40,7 +40,7 @@ struct Read {
 }
 
 // How the program ends: its machine, and how many bytes its reads gave, modulo 2^64.
-#[derive(Drop)]
+#[derive(Clone, Copy)]
 struct Ended {
     machine: Machine,
     bytes: u64,

@@ -14,7 +14,7 @@ use moves_load_commands::{Machine, done, fill_starts, read};
 use moves_replies::put_refused;
 
 // The machine, and the place behind the reply.
-#[derive(Drop)]
+#[derive(Clone, Copy)]
 pub struct Turn {
     pub machine: Machine,
     pub at: usize,

@@ -91,7 +91,7 @@ fn fits(
 }
 
 // The machine after the bytes that were used, and how many bytes of replies were written.
-#[derive(Drop)]
+#[derive(Clone, Copy)]
 pub struct Fed {
     pub machine: Machine,
     pub used: usize,

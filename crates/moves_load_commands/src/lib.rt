@@ -1,4 +1,6 @@
 // The commands of the program `moves` byte by byte, and those before the load.
+#![tactic(auto)]
+
 ghost use Rattle.std.specs.Prelude.{◌≡◌, List, cond, ℕ, ◌+◌, ◌≤◌, ◌<◌, length, ltb};
 ghost use Rattle.graphs.specs.Tab.{tab};
 ghost use Rattle.layout.specs.Patch.{patch};
@@ -7,7 +9,7 @@ ghost use Rattle.moves_load_commands.specs.Machine as def;
 ghost use Rattle.moves_load_commands.specs.Lists.{Roomy, CanStart};
 
 // The command that is being read, and how much has been named.
-#[derive(Drop)]
+#[derive(Clone, Copy)]
 pub struct Machine {
     pub moving: bool,
     pub stopped: bool,

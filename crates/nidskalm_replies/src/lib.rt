@@ -17,7 +17,7 @@ use reduced_chunk_graph::{
 
 // `refusal` is 0 or the number of the row that refuses the call, here and below; the other fields are 0 when refused.
 #[repr(C)]
-#[derive(Drop)]
+#[derive(Clone, Copy)]
 pub struct Reply {
     pub refusal: u64,
     pub value: u64,
@@ -26,7 +26,7 @@ pub struct Reply {
 // `accepted` is 1 or 0; where it is 1, how many distinct edges appeared and vanished, and how many other chunks the atom's
 // chunk then reaches.
 #[repr(C)]
-#[derive(Drop)]
+#[derive(Clone, Copy)]
 pub struct MoveReply {
     pub refusal: u64,
     pub accepted: u64,
@@ -37,7 +37,7 @@ pub struct MoveReply {
 
 // A set is four numbers, the lowest first.
 #[repr(C)]
-#[derive(Drop)]
+#[derive(Clone, Copy)]
 pub struct SetReply {
     pub refusal: u64,
     pub set0: u64,
@@ -48,7 +48,7 @@ pub struct SetReply {
 
 // `found` is 1, or 0 past the last edge.
 #[repr(C)]
-#[derive(Drop)]
+#[derive(Clone, Copy)]
 pub struct EdgeReply {
     pub refusal: u64,
     pub found: u64,
@@ -65,7 +65,7 @@ pub struct EdgeReply {
 
 // For every atom and every occupied set other than its own, how many moves would be accepted, rejected, or refused as the atom is fixed.
 #[repr(C)]
-#[derive(Drop)]
+#[derive(Clone, Copy)]
 pub struct FreedomReply {
     pub refusal: u64,
     pub accepted: u64,

@@ -4,7 +4,7 @@ ghost use Rattle.move_ledger.specs.Graph.{lent};
 ghost use Rattle.plan_freedom.specs.Told.{told, of_freedom};
 
 // What `freedom` answers. `Refused` names a row of the table of refusals.
-#[derive(Drop)]
+#[derive(Clone, Copy)]
 pub enum FreedomAnswer {
     Counts(move_freedom::Counts),
     Refused(u32),

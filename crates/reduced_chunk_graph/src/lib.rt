@@ -12,7 +12,7 @@ pub use ranking::rank;
 pub use verdict::has_cycle;
 
 // What `new` and `has_cycle` answer. `Refused` names a row of the table of refusals, here and below.
-#[derive(Drop)]
+#[derive(Clone, Copy)]
 pub enum LoadAnswer {
     Acyclic,
     Cyclic,
@@ -21,7 +21,7 @@ pub enum LoadAnswer {
 
 // What `try_move` answers. An accepted move reports how many distinct edges appeared and vanished, and how many other chunks
 // the atom's chunk then reaches.
-#[derive(Drop)]
+#[derive(Clone, Copy)]
 pub enum MoveAnswer {
     Accepted(move_try::Moved),
     Rejected,
@@ -29,21 +29,21 @@ pub enum MoveAnswer {
 }
 
 // What `atom_set` answers.
-#[derive(Drop)]
+#[derive(Clone, Copy)]
 pub enum SetAnswer {
     Set(entry_set::EntrySet),
     Refused(u32),
 }
 
 // What `atom_count`, `multiplicity`, `edge_count` and `chunk_count` answer.
-#[derive(Drop)]
+#[derive(Clone, Copy)]
 pub enum NumberAnswer {
     Number(u64),
     Refused(u32),
 }
 
 // What `rank` answers, of the first of two areas.
-#[derive(Drop)]
+#[derive(Clone, Copy)]
 pub enum RankAnswer {
     Before,
     Equal,
@@ -52,7 +52,7 @@ pub enum RankAnswer {
 }
 
 // An edge between two sets and its multiplicity.
-#[derive(Drop)]
+#[derive(Clone, Copy)]
 pub struct Edge {
     pub from: entry_set::EntrySet,
     pub to: entry_set::EntrySet,
@@ -60,7 +60,7 @@ pub struct Edge {
 }
 
 // What `edge_at` answers.
-#[derive(Drop)]
+#[derive(Clone, Copy)]
 pub enum EdgeAnswer {
     Found(Edge),
     None,
