@@ -1,4 +1,6 @@
 // The lines of replies, written into a list of bytes. Each function answers the place behind what it wrote.
+#![tactic(auto)]
+
 ghost use Rattle.std.specs.Prelude.{◌≡◌, [], ◌∷◌, ◌++◌, ◌+◌, ◌≤◌, length};
 ghost use Rattle.move_ledger.specs.Answer.{refused, acyclic, cyclic, accepted, rejected, number};
 ghost use Rattle.moves_replies.specs.Decimal.{decimal};
