@@ -11,6 +11,7 @@ use Rattle.entry_set.proofs.four_below.Goals as goal
 -- the test of a number at a limit that was worked out
 at-limit : (x : ℕ) {l k : ℕ} {r : Bool} → r ≡ ltb x (2 ^ l) → l ≡ k → ltb x (2 ^ k) ≡ r
 at-limit x e q = ap (λ (n : ℕ). ltb x (2 ^ n)) (sym q) ∙ sym e
+
 pub returns-then-not-below : goal.returns-then-not-below
 returns-then-not-below c =
     let s = c in
@@ -40,4 +41,3 @@ returns c =
     let third = at-limit _ c.below-3.ensures c.less_by-2.ensures ∙ c.if-not-below-3.false in
     let fourth = at-limit _ c.below-4.ensures c.less_by-3.ensures in
     sym (range_four s.args.d s.args.e s.ranges.a.fits s.ranges.b.fits s.ranges.c.fits first second third fourth)
-
