@@ -1,6 +1,6 @@
 -- The counter and the marks that a walk starts with. Assumes nothing.
 use Rattle.std.specs.Prelude.{◌≡◌, refl, cond, List, ℕ, ◌+◌, length, replicate}
-use Rattle.std.proofs.Common.{ap, ◌∙◌, eq-eqb, ne_eqb}
+use Rattle.std.proofs.Common.{◌∙◌, eq-eqb, ne_eqb}
 use Rattle.std.proofs.lemmas.List.{length-replicate}
 use Rattle.layout.specs.Patch.{patch, patch-all}
 use Rattle.move_area.specs.Calls.{last, next}

@@ -1,4 +1,6 @@
 // The walk counter: a small struct with the mark of the latest walk, lent by `&mut` to the start of a reachability walk.
+#![tactic(auto)]
+
 ghost use Rattle.std.specs.Prelude.{◌≡◌};
 ghost use Rattle.move_area.specs.Calls.{next};
 ghost use Rattle.move_counter.specs.Marks.{unmarked, started};
