@@ -1,4 +1,6 @@
 // The program `chain` as a function on slices: the input in, the bytes that it prints out.
+#![tactic(auto)]
+
 mod commands;
 mod number;
 
