@@ -1,5 +1,7 @@
 // The load as a view: a struct that holds the lent lists, with two thin readers. A reader takes it apart and leaves the work to
 // a function on slices.
+#![tactic(auto)]
+
 ghost use Rattle.std.specs.Prelude.{◌≡◌, ◌<◌, length};
 ghost use Rattle.move_ledger.specs.Graph.{at};
 ghost use Rattle.move_load_view.specs.View.{CanPart, dependencies_of};
