@@ -1,5 +1,7 @@
 // Questions about a move graph on an area that was checked: a set's atom count, the multiplicity between two sets, how many chunks and
 // edges there are, and the k-th edge by rising sets.
+#![tactic(auto)]
+
 ghost use Rattle.std.specs.Prelude.{◌≡◌, ℕ, ◌+◌, ◌*◌, ◌≤◌, ◌<◌, ◌^◌, length};
 ghost use Rattle.move_questions.specs.Steps.{CanFindRow, RowFound, CanFindCell, CellFound, CanPass, passed};
 ghost use Rattle.entry_set.specs.Sets.{number};
