@@ -24,7 +24,7 @@ fn main() {
     println!("cargo:rerun-if-changed={}", archive.display());
     if !archive.exists() {
         eprintln!("nidskalm: {} is missing.", archive.display());
-        eprintln!("Build it with `rt staticlib nidskalm` at the repository's root, or set NIDSKALM_LIB_DIR to the");
+        eprintln!("Build it with `tools/build.sh nidskalm` at the repository's root, or set NIDSKALM_LIB_DIR to the");
         eprintln!("directory that holds libnidskalm.a.");
         exit(1);
     }

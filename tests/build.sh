@@ -3,7 +3,7 @@
 # proved already stay as they are. It says something only where that fails.
 set -euo pipefail
 cd "$(dirname "$0")/.."
-if ! log="$({ rt check moves chain && rt staticlib nidskalm; } 2>&1)"; then
+if ! log="$(tools/build.sh 2>&1)"; then
     echo "$log"
     exit 1
 fi

@@ -1,6 +1,6 @@
 #!/usr/bin/env bash
-# Everything but the proofs, on what `rt ci` or `rt check` proved: the programs moves and chain and their models, C programs and the Rust crate over the
-# static library, and the original, the model and the library compared.
+# Everything but the proofs, on what `rt ci` or tools/build.sh proved: the programs moves and chain and their models, C programs and the Rust
+# crate over the static library, and the original, the model and the library compared.
 set -euo pipefail
 cd "$(dirname "$0")/.."
 

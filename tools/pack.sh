@@ -8,7 +8,7 @@ out="$(realpath -m "${1:-"$(dirname "$0")/../target/pack"}")"
 cd "$(dirname "$0")/.."
 library=target/staticlib/libnidskalm.a
 if ! [ -f "$library" ]; then
-    echo "pack: $library is missing; make it with: rt staticlib nidskalm" >&2
+    echo "pack: $library is missing; make it with: tools/build.sh nidskalm" >&2
     exit 1
 fi
 

@@ -1,6 +1,6 @@
 /* Plans a small split through the C interface. At the repository's root:
  *
- *     rt staticlib nidskalm
+ *     tools/build.sh nidskalm
  *     cc -Iinclude examples/c/plan.c include/nidskalm_refusal.c -Ltarget/staticlib -lnidskalm -o target/plan && target/plan
  *
  * Every call is lent all that it reads. A program that makes many calls wraps them once, as here. */

@@ -109,7 +109,7 @@ fn main() {
             env::var_os("NIDSKALM_LIB_DIR").map_or_else(|| repository.join("target/staticlib"), PathBuf::from);
         let archive = library.join("libnidskalm.a");
         println!("cargo:rerun-if-changed={}", archive.display());
-        assert!(archive.exists(), "{} is missing: build it with `rt staticlib nidskalm`", archive.display());
+        assert!(archive.exists(), "{} is missing: build it with `tools/build.sh nidskalm`", archive.display());
         println!("cargo:rustc-link-search=native={}", fs::canonicalize(&library).unwrap().display());
         println!("cargo:rustc-link-lib=static=nidskalm");
     }
