@@ -1,4 +1,6 @@
 // The checks of a move graph's load: rows 1 to 8 of the table of refusals.
+#![tactic(auto)]
+
 ghost use Rattle.std.specs.Prelude.{◌≡◌, [], false, ◌+◌, ◌*◌, ◌≤◌, ◌<◌, length};
 ghost use Rattle.move_ledger.specs.Graph.{lent};
 ghost use Rattle.move_load_rows.specs.Checks.{falling, bad_starts, not_other, bad_span, spans, span, CanSpan, CanOwn, no_host, bad_hosts, list_row, Limits, Lengths};
