@@ -1,4 +1,6 @@
 // From the node of each atom to the edge slots of the chunk graph; all over lent lists.
+#![tactic(auto)]
+
 mod fill;
 mod fronts;
 mod slots;

@@ -1,0 +1,11 @@
+-- `move_slots::fill::slot_count` meets its contract. Assumes nothing.
+use mathlib.Core.Path.{refl}
+use borrow.Author.Tests.{eq-eqb, ne_eqb}
+use borrow.Author.Rules.{rules}
+use Rattle.move_slots.proofs.fill.slot_count.Goals as goal
+
+pub returns-then-n-eq0 : goal.returns-then-n-eq0
+returns-then-n-eq0 c = rw (eq-eqb _ _ c.if-n-eq0.true) refl
+
+pub returns : goal.returns
+returns c = rw (ne_eqb _ _ c.if-n-eq0.false) refl
