@@ -1,4 +1,6 @@
 // The merge area: its limits and length, its header, its sets, and the first of rows 14, 15 and 21 that fits.
+#![tactic(auto)]
+
 pub mod merges; // merges.rt: recorded merges and their ends
 pub mod places; // places.rt: where the numbers of the area stand
 
