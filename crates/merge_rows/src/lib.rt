@@ -1,3 +1,5 @@
 // The rows of the table that can refuse a merge call.
+#![tactic(auto)]
+
 pub mod checks; // checks.rt: single tests of the rows
 pub mod rows; // rows.rt: the row that refuses a call, 0 where none does
