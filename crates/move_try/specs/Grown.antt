@@ -17,6 +17,7 @@ under_clear : {fs gs : List Field} {k : ℕ} → Under fs gs → Clear gs k → 
 under_clear {fs} {gs} {k} u c = record { of = λ f i. go u c.of f i }
   where
     go : {fs gs : List Field} → Under fs gs → ((g : Field) → In g gs → g.at ≤ k → g.at + length g.body ≤ k) → (f : Field) → In f fs → f.at ≤ k → f.at + length f.body ≤ k
+    go none c f x10 z = elim x10 [ ]
     go (next {f} {g} e h u) c _ (here) z = omega (arith, c g here (omega arith))
     go (next e h u) c f (there i) z = go u (λ g j. c g (there j)) f i z
 
