@@ -1,4 +1,6 @@
 // `ReducedChunkGraph`: trial moves of atoms between chunks, accepted exactly when no cycle arises.
+#![tactic(auto)]
+
 mod load;
 mod moves;
 mod questions;

@@ -1,0 +1,14 @@
+-- `questions::edge_count` meets its contract. Assumes nothing.
+use native.Mathlib.Omega.{arith}
+use Rattle.reduced_chunk_graph.specs.Asked.{asked-back, checks, totals_inside, edges-told}
+use borrow.Author.Rules.{rules}
+use Rattle.reduced_chunk_graph.proofs.questions.edge_count.Goals as goal
+
+pub returns-then-q-ne0 : goal.returns-then-q-ne0
+returns-then-q-ne0 c = asked-back _ _ _ _ _ c.later_row-q.ensures (omega arith) _
+
+pub edge_count-count-requires : goal.edge_count-count-requires
+edge_count-count-requires c = totals_inside _ _ _ _ _ c.later_row-q.ensures (omega arith)
+
+pub returns : goal.returns
+returns c = edges-told _ _ _ _ _ c.later_row-q.ensures (omega arith) _ (c.edge_count-count.ensures _ _ (checks _ _ _ _ _ c.later_row-q.ensures (omega arith)))
