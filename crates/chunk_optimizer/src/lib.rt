@@ -1,4 +1,6 @@
 // The merge graph's calls: the methods of ChunkOptimizationGraph and the pass that commits its merges.
+#![tactic(auto)]
+
 mod load; // load.rt: new
 
 ghost use Rattle.merge_state.specs.Table.{init_module_assignment, add_module_to_chunk, register_chunk_graph_index, to_temp_idx, calc_chunk_dependencies, would_create_circular_dependency, is_reachable, merge_chunk_dependencies, pass};

@@ -1,1 +1,2 @@
 // What the demands say, as theorems: no code.
+#![tactic(auto)]

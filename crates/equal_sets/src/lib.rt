@@ -1,4 +1,6 @@
 // Whether sets are distinct: they are laid out in lanes, n apart, and sorted; then equal ones are neighbours.
+#![tactic(auto)]
+
 ghost use Rattle.graphs.specs.Bools.{Decides};
 ghost use Rattle.set_order.specs.Order.{lane_set, Distinct};
 ghost use Rattle.set_order.specs.Steps.{CanOrder};

@@ -1,4 +1,6 @@
 // The components of a graph by two walks (Kosaraju-Sharir), and the only one with a closed walk.
+#![tactic(auto)]
+
 ghost use Rattle.std.specs.Prelude.{◌≡◌, ℕ, ◌+◌, ◌<◌, ◌≤◌, eqb, length, get_or, set};
 ghost use Rattle.graphs.specs.Count.{ind};
 ghost use Rattle.graph_neighbours.specs.Direction.{along};

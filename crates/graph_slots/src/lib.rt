@@ -1,5 +1,7 @@
 // Walks over the graph of the slots, each with lists of its own. Slot k is the edge from sources[k] to targets[k], if they differ. The slots are
 // grouped by source: `heads` has where each node's part of `list` starts.
+#![tactic(auto)]
+
 ghost use Rattle.std.specs.Prelude.{◌≡◌, ◌≤◌};
 ghost use Rattle.graphs.specs.Lists.{below};
 ghost use Rattle.graphs.specs.Slots.{slot_edge};

@@ -1,1 +1,2 @@
 // The choice of a merge target: definitions and theorems only.
+#![tactic(auto)]

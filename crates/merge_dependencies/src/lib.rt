@@ -1,4 +1,6 @@
 // What `calc_chunk_dependencies` and `merge_chunk_dependencies` write: the dependency flags, the target's side effects and, in the mode, the merge.
+#![tactic(auto)]
+
 ghost use Rattle.std.specs.Prelude.{◌≡◌, ◌+◌, ◌*◌, ◌<◌, length, get_or, set};
 ghost use Rattle.merge_area.specs.Writes.{link, linked, calc_area, union_cell, merged_rows, absorb_area, record_area, merge_area};
 ghost use Rattle.merge_laws.specs.Can.{CanLink, CanLinked, CanCalc, CanMerge, CanMergeArea};

@@ -1,4 +1,6 @@
 // The pass that commits merges: each chunk that needs creation is merged into its proposal, or created.
+#![tactic(auto)]
+
 ghost use Rattle.std.specs.Prelude.{◌≡◌};
 ghost use Rattle.merge_state.specs.Methods.{merges};
 ghost use Rattle.merge_area.specs.Read.{read};

@@ -1,4 +1,6 @@
 // The two questions about an area's graph, whether or not merged chunks stand for their target there.
+#![tactic(auto)]
+
 ghost use Rattle.std.specs.Prelude.{◌≡◌, ◌<◌};
 ghost use Rattle.merge_state.specs.Methods.{warn, reachable};
 ghost use Rattle.merge_area.specs.Layout.{cell, head};

@@ -1,4 +1,5 @@
 // The merge graph: its index types and sizes; definitions and theorems only.
+#![tactic(auto)]
 
 // C, M, L and E: how many chunks, modules and list entries there is room for, and how many entry bits.
 #[derive(Clone, Copy)]

@@ -1,6 +1,8 @@
 // The choice of the chunk that a candidate may be merged into. Of lists of lists each is lent with its starts: the modules of each chunk (mstarts,
 // modules), who imports each module statically (istarts, importers) and dynamically (dstarts, dynamics), the dynamic entries that each chunk
 // reaches (rstarts, reached).
+#![tactic(auto)]
+
 mod classes; // classes.rt: the row that refuses a bank's own classes
 mod guards; // guards.rt: what bars a target
 mod marks; // marks.rt: numbers of lists marked

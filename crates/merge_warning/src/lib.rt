@@ -1,4 +1,6 @@
 // The two questions over the dependency flags: would a merge close a cycle, and does one chunk reach another; in counted.rt the same where merged chunks stand for their target.
+#![tactic(auto)]
+
 pub mod counted; // counted.rt: where merged chunks stand for the end of their merges
 
 ghost use Rattle.std.specs.Prelude.{◌≡◌, ◌+◌, ◌*◌, ◌<◌, ◌≤◌, length};

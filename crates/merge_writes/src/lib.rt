@@ -1,4 +1,6 @@
 // What a call writes, the dependencies apart (crates/merge_dependencies).
+#![tactic(auto)]
+
 ghost use Rattle.std.specs.Prelude.{◌≡◌, ◌||◌, ◌<◌, ◌≤◌, length};
 ghost use Rattle.graphs.specs.Count.{ind};
 ghost use Rattle.entry_set.specs.Sets.{number};

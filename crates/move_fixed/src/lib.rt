@@ -1,4 +1,6 @@
 // Which atoms are fixed: the area keeps 1 or 0 for each of them, whatever its mark is.
+#![tactic(auto)]
+
 ghost use Rattle.std.specs.Prelude.{◌≡◌, not, ◌≤◌, eqb, length};
 ghost use Rattle.graphs.specs.Count.{ind};
 ghost use Rattle.move_area.specs.Fixed.{flag, flagged};

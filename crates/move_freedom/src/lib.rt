@@ -1,5 +1,7 @@
 // How free a plan is: of each atom and each occupied set other than its own, whether a move is accepted, rejected or refused as the atom is fixed.
 // Two walks decide all sets of an atom.
+#![tactic(auto)]
+
 mod aside;
 mod atoms;
 mod reach;

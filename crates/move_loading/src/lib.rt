@@ -1,4 +1,6 @@
 // Writes the area of a move graph that is loaded.
+#![tactic(auto)]
+
 ghost use Rattle.std.specs.Prelude.{◌≡◌};
 ghost use Rattle.graphs.specs.Walk.{cyclic};
 ghost use Rattle.move_ledger.specs.Graph.{edge, lent};

@@ -1,1 +1,2 @@
 // The start order for a desk: definitions and theorems only.
+#![tactic(auto)]

@@ -1,4 +1,6 @@
 // The set that gives up its place: the smallest, as a number, of those without an atom.
+#![tactic(auto)]
+
 ghost use Rattle.std.specs.Prelude.{◌≡◌};
 ghost use Rattle.set_order.specs.Order.{lane_set};
 ghost use Rattle.move_places.specs.Least.{empty, smaller, CanChoose, CanScan, Least};

@@ -1,4 +1,6 @@
 // Which of two placements of one load ranks first: by chunks, then by edges, then by the atoms' sets.
+#![tactic(auto)]
+
 ghost use Rattle.std.specs.Prelude.{◌≡◌, ℕ, ◌<◌, List, ltb};
 ghost use Rattle.entry_set.specs.Sets.{number};
 ghost use Rattle.move_ledger.specs.Graph.{Load};

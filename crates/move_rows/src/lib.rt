@@ -1,4 +1,6 @@
 // What comes before a later call of the move graph: the rows 1 to 6 and 9.
+#![tactic(auto)]
+
 ghost use Rattle.std.specs.Prelude.{◌≡◌, ◌*◌, ◌<◌, length, get_or};
 
 pub mod check;

@@ -1,5 +1,7 @@
 // Whether the graph of an area's placement has a cycle, by the book's search. It goes by the placement alone: no count, edge or flag that the area keeps
 // is read.
+#![tactic(auto)]
+
 ghost use Rattle.std.specs.Prelude.{◌≡◌, ◌≤◌};
 ghost use Rattle.move_ledger.specs.Graph.{lent};
 ghost use Rattle.move_verdict.specs.Verdict.{verdict, CanSearch, SearchRoom};

@@ -1,4 +1,6 @@
 // How free a plan is: the call, for any numbers and lists.
+#![tactic(auto)]
+
 ghost use Rattle.std.specs.Prelude.{◌≡◌};
 ghost use Rattle.move_ledger.specs.Graph.{lent};
 ghost use Rattle.plan_freedom.specs.Told.{told, of_freedom};

@@ -1,0 +1,14 @@
+-- `move_freedom::reach::reach` meets its contract. Assumes nothing.
+use mathlib.Core.Path.{refl}
+use Rattle.move_freedom.specs.Reach.{reach_group, reach_can, reach-done}
+use borrow.Author.Rules.{rules}
+use Rattle.move_freedom.proofs.reach.reach.Goals as goal
+
+pub group-requires : goal.group-requires
+group-requires c = reach_group c.requires refl refl
+
+pub reach-requires : goal.reach-requires
+reach-requires c = reach_can c.requires refl refl c.group.ensures refl
+
+pub returns : goal.returns
+returns c = reach-done c.requires refl refl c.group.ensures c.reach.ensures

@@ -1,0 +1,14 @@
+-- `move_freedom::rest::has_cycle` meets its contract. Assumes nothing.
+use mathlib.Core.Path.{refl}
+use Rattle.move_freedom.specs.Rest.{rest_group, rest_graph, rest-done}
+use borrow.Author.Rules.{rules}
+use Rattle.move_freedom.proofs.rest.has_cycle.Goals as goal
+
+pub group-requires : goal.group-requires
+group-requires c = rest_group c.requires c.blanks.ensures c.blanks.ensures.long c.blanks.ensures.target_long refl refl
+
+pub has_cycle-requires : goal.has_cycle-requires
+has_cycle-requires c = (rest_graph c.requires c.blanks.ensures refl refl c.group.ensures, c.requires.nodes)
+
+pub returns : goal.returns
+returns c = rest-done c.requires c.blanks.ensures refl refl c.group.ensures c.has_cycle.ensures

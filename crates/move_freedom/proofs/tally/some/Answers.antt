@@ -1,0 +1,10 @@
+-- `move_freedom::tally::some` meets its contract. Assumes nothing.
+use mathlib.Core.Path.{refl}
+use borrow.Author.Tests.{eq-eqb, ne_eqb}
+use Rattle.move_freedom.proofs.tally.some.Goals as goal
+
+pub returns-then-x-eq0 : goal.returns-then-x-eq0
+returns-then-x-eq0 c = rw (eq-eqb c.args.x 0 c.if-x-eq0.true) refl
+
+pub returns : goal.returns
+returns c = rw (ne_eqb c.args.x 0 c.if-x-eq0.false) refl
