@@ -1,4 +1,6 @@
 // The replies of the C interface, and what each is of the answers of both graphs and of the choice of a merge target.
+#![tactic(auto)]
+
 ghost use Rattle.std.specs.Prelude.{◌≡◌, [], ◌∷◌};
 ghost use Rattle.reduced_chunk_graph.specs.Answers.{of_load, of_move, of_set, of_number, of_rank, of_edge};
 ghost use Rattle.chunk_optimizer.specs.Answers.{done_told, temp_told, said_told};
