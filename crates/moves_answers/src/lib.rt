@@ -1,4 +1,6 @@
 // The lines that the program `moves` writes for the move graph's answers.
+#![tactic(auto)]
+
 ghost use Rattle.std.specs.Prelude.{◌≡◌, ◌+◌, ◌≤◌, length};
 ghost use Rattle.move_ledger.specs.Answer.{is_refused};
 ghost use Rattle.moves_replies.specs.Words.{reply, load_reply};
