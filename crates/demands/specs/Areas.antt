@@ -8,7 +8,7 @@ use Rattle.layout.specs.Patch.{part, part_at}
 use Rattle.move_ledger.specs.Graph.{Load, at, members, mult, rising, edges}
 use Rattle.move_ledger.specs.Ledger.{Ledger, move, try_move, call}
 use Rattle.move_ledger.specs.Loading.{refusal}
-use Rattle.move_ledger.specs.LoadLaws.{refusal-none}
+use Rattle.move_ledger.proofs.LoadLaws.{refusal-none}
 use Rattle.move_area.specs.Bodies.{lane_at}
 use Rattle.move_area.specs.BodyLaws.{read-edges, read-counts, read-occupied, read-distinct}
 use Rattle.move_area.specs.Area.{State, bodies, encode, decode, consistent}

@@ -16,12 +16,13 @@ use Rattle.graphs.specs.Walks.{join, via_walk, acyclic_walk}
 use Rattle.entry_set.specs.Joined.{joined}
 use Rattle.entry_set.specs.Sets.{value}
 use Rattle.move_ledger.specs.Graph.{none, at, owner, edge, reach}
-use Rattle.move_ledger.specs.GraphLaws.{Why, by_entry, by_facade, edge_why, why_edge, entry-lies, lies-entry, lies-set, lies_in, edge-source}
+use Rattle.move_ledger.specs.GraphLaws.{Why, by_entry, by_facade, entry-lies, lies-entry, lies-set, lies_in}
+use Rattle.move_ledger.proofs.GraphLaws.{edge_why, why_edge, edge-source}
 use Rattle.move_ledger.specs.Answer.{acyclic, is_refused, is_accepted, reported}
 use Rattle.move_ledger.specs.Ledger.{loaded, decide, move, call, ledger}
 use Rattle.move_ledger.specs.Ledger as calls
 use Rattle.move_ledger.specs.Loading.{row1, row2, row3, row4, row5, row6, first_row, lent_set, entry_sets, row7, row8, loading_row, loading}
-use Rattle.move_ledger.specs.MoveLaws.{place_after}
+use Rattle.move_ledger.proofs.MoveLaws.{place_after}
 use Rattle.move_ledger.specs.Reach.{reach-all, rising-length}
 use Rattle.move_area.specs.Calls.{new, try_move}
 use Rattle.move_area.specs.History.{call_area, area_after}

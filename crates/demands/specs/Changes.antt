@@ -12,15 +12,17 @@ use Rattle.graphs.specs.Count.{ind}
 use Rattle.graphs.specs.Lists.{any, has}
 use Rattle.entry_set.specs.Sets.{value}
 use Rattle.move_ledger.specs.Graph.{Load, mult, edge, rising, row, rows, edges, sum, gained}
-use Rattle.move_ledger.specs.GraphLaws.{edge-source, edge-target}
+use Rattle.move_ledger.proofs.GraphLaws.{edge-source, edge-target}
 use Rattle.move_ledger.specs.Answer.{Report, zeros, Answer, refused, accepted, rejected, is_accepted, reported}
 use Rattle.move_ledger.specs.Answer as answer
 use Rattle.move_ledger.specs.Ledger.{Ledger, report, decide, move}
-use Rattle.move_ledger.specs.MoveLaws.{decide_accepted, decide-late, place_after, move_keeps}
+use Rattle.move_ledger.specs.MoveLaws.{move_keeps}
+use Rattle.move_ledger.proofs.MoveLaws.{decide_accepted, decide-late, place_after}
 use Rattle.move_ledger.specs.Loading.{refusal}
 use Rattle.move_ledger.specs.Places.{has_kept}
 use Rattle.move_ledger.specs.Listing.{Rising, rising-rising, has-rising, one_rising}
-use Rattle.move_ledger.specs.Edges.{kept-rising, edges-over}
+use Rattle.move_ledger.specs.Edges.{kept-rising}
+use Rattle.move_ledger.proofs.Edges.{edges-over}
 use Rattle.move_ledger.specs.Chunks.{sum_kept}
 use Rattle.move_area.specs.Area.{decode}
 use Rattle.move_area.specs.Fixed.{checks_out}

@@ -3,7 +3,8 @@ use Rattle.std.specs.Prelude.{ℕ, ◌<◌, ◌≡◌, ◌↔◌, true}
 use Rattle.graphs.specs.Lists.{has}
 use Rattle.graph_colours.specs.declared.State.TheVariants.{White, Gray, Black}
 use Rattle.graph_colours.specs.Colours.{View, Passes, Run, Starts, Ran}
-use Rattle.graph_colours.specs.Life.{life, passed-gray, black-stays}
+use Rattle.graph_colours.specs.Life.{black-stays}
+use Rattle.graph_colours.proofs.Life.{life, passed-gray}
 
 -- what holds of node x between two steps, `now`, of a walk that began at `first`; `later` is any moment from then on. Node x has d x neighbours, the i-th is f x i
 pub record ByTheBook (n : ℕ) (d : ℕ → ℕ) (f : ℕ → ℕ → ℕ) (first now later : View) (x : ℕ) : Type 0 where

@@ -6,10 +6,10 @@ use Rattle.graphs.specs.Walk.{Walk, cyclic}
 use Rattle.graphs.specs.Walks.{acyclic_walk}
 use Rattle.entry_set.specs.Sets.{value}
 use Rattle.move_ledger.specs.Graph.{Load, mult, edge}
-use Rattle.move_ledger.specs.GraphLaws.{edge-source}
+use Rattle.move_ledger.proofs.GraphLaws.{edge-source}
 use Rattle.move_ledger.specs.Answer.{accepted, rejected, is_refused, is_accepted}
 use Rattle.move_ledger.specs.Ledger.{Ledger, Answered, gives, report, decide, move, Call}
-use Rattle.move_ledger.specs.MoveLaws.{decide_exactly, place_after}
+use Rattle.move_ledger.proofs.MoveLaws.{decide_exactly, place_after}
 use Rattle.move_ledger.specs.Loading.{refusal}
 use Rattle.move_area.specs.Area.{decode}
 use Rattle.move_area.specs.Fixed.{checks_out}

@@ -7,7 +7,7 @@ use Rattle.entry_set.specs.Sets.{value}
 use Rattle.move_ledger.specs.Graph.{Load, at, edge}
 use Rattle.move_ledger.specs.Answer.{Report, zeros, Answer, accepted, rejected, is_refused, is_accepted, plain}
 use Rattle.move_ledger.specs.Ledger.{Ledger, report, decide, move, ask, Call, try_move, asks, call, loaded, answers}
-use Rattle.move_ledger.specs.MoveLaws.{decide_accepted, decide-late, place_after}
+use Rattle.move_ledger.proofs.MoveLaws.{decide_accepted, decide-late, place_after}
 use Rattle.move_ledger.specs.Loading.{refusal, entry_sets}
 use Rattle.move_area.specs.Area.{decode}
 use Rattle.move_area.specs.Fixed.{checks_out}

@@ -7,10 +7,11 @@ use Rattle.graphs.specs.Walk.{Walk, one, more, cyclic}
 use Rattle.graphs.specs.Walks.{acyclic_walk}
 use Rattle.entry_set.specs.Sets.{value, legal}
 use Rattle.move_ledger.specs.Graph.{Load, at, owner, lies, edge}
-use Rattle.move_ledger.specs.GraphLaws.{Why, by_entry, by_facade, edge_why, why_edge, entry-lies, lies-entry, lies_atom, lies-set, lies_in, occupied-by, occupy, edge-source, outside-stays}
+use Rattle.move_ledger.specs.GraphLaws.{Why, by_entry, by_facade, entry-lies, lies-entry, lies_atom, lies-set, lies_in, occupied-by, occupy}
+use Rattle.move_ledger.proofs.GraphLaws.{edge_why, why_edge, edge-source, outside-stays}
 use Rattle.move_ledger.specs.Answer.{is_accepted}
 use Rattle.move_ledger.specs.Ledger.{step1, decide, move}
-use Rattle.move_ledger.specs.MoveLaws.{decide_accepted, decide-late}
+use Rattle.move_ledger.proofs.MoveLaws.{decide_accepted, decide-late}
 use Rattle.move_ledger.specs.Loading.{refusal}
 use Rattle.move_area.specs.Area.{decode}
 use Rattle.move_area.specs.Fixed.{checks_out}

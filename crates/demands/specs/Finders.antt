@@ -9,7 +9,7 @@ use Rattle.graphs.specs.Lists.{has}
 use Rattle.graphs.specs.Walk.{Walk, cyclic}
 use Rattle.graphs.specs.Walks.{cyclic_walk, acyclic_walk}
 use Rattle.move_ledger.specs.Graph.{Load, edge}
-use Rattle.move_ledger.specs.GraphLaws.{edge-source}
+use Rattle.move_ledger.proofs.GraphLaws.{edge-source}
 use Rattle.move_ledger.specs.Answer.{Answer, refused, acyclic, accepted, rejected, number, none, is_refused}
 use Rattle.move_ledger.specs.Answer as answer
 use Rattle.move_ledger.specs.Ledger.{has_cycle, ask}

@@ -8,7 +8,7 @@ use Rattle.move_ledger.specs.Answer.{is_refused}
 use Rattle.move_ledger.specs.Ledger.{Ledger, loaded, stays, Call, try_move, asks, call, ledger}
 use Rattle.move_ledger.specs.Loading.{entry_sets, lent_set}
 use Rattle.move_ledger.specs.LoadLaws.{entry_sets-at}
-use Rattle.move_ledger.specs.MoveLaws.{fixed_atom}
+use Rattle.move_ledger.proofs.MoveLaws.{fixed_atom}
 use Rattle.move_area.specs.Area.{State, decode}
 use Rattle.move_area.specs.Calls.{first, new}
 use Rattle.move_area.specs.History.{holding_decode, area_after, loading-holds, run}

@@ -4,7 +4,7 @@ use Rattle.move_ledger.specs.Graph.{Load}
 use Rattle.move_ledger.specs.Ledger.{Ledger, loaded, Call, ledger}
 use Rattle.move_ledger.specs.Loading.{entry_sets}
 use Rattle.move_ledger.specs.LoadLaws.{entry_sets-length}
-use Rattle.move_ledger.specs.MoveLaws.{ledger-length}
+use Rattle.move_ledger.proofs.MoveLaws.{ledger-length}
 
 -- "Its ledger is fed the load, entry sets, N and the calls' arguments, nothing else": `sets` are the entry sets as they are lent; 02: "The load gains a
 -- list of A marks", `fixed`

@@ -20,11 +20,13 @@ use Rattle.merge_state.specs.State.{None, Graph, put}
 use Rattle.merge_state.specs.Merges.{ending, end, counts, waits}
 use Rattle.merge_state.specs.Methods.{absorbed, opened, warn, merged, created_chunk, Passed, merges, candidate, passed}
 use Rattle.merge_state.specs.Warning.{fused}
-use Rattle.merge_state.specs.Counted.{counted-ends, counted-merged, fused_acyclic, mode_warning}
+use Rattle.merge_state.specs.Counted.{counted-ends, fused_acyclic}
+use Rattle.merge_state.proofs.Counted.{counted-merged, mode_warning}
 use Rattle.merge_state.specs.Ends.{stop, settled, ended, ends-after, Merges, merges-more}
 use Rattle.merge_state.specs.Table.{any_misfit, any_gone}
 use Rattle.merge_state.specs.Ordered.{Ordered, never}
-use Rattle.merge_state.specs.Kept.{Passing, Proper, proposal, unmerged, passed-kept}
+use Rattle.merge_state.specs.Kept.{Passing, Proper, proposal, unmerged}
+use Rattle.merge_state.proofs.Kept.{passed-kept}
 
 -- where merges end, of the chunks below n
 ending_in : (f : ℕ → ℕ) (n : ℕ) → ((x : ℕ) → (f x ≡ None → ⊥) → (x < n) × (f x < n)) → (k x : ℕ) → x < n → ending f k x < n

@@ -9,7 +9,8 @@ use Rattle.entry_set.specs.SetLaws.{below_256}
 use Rattle.merge_state.specs.declared.Sizes.{Sizes}
 use Rattle.merge_state.specs.State.{flag}
 use Rattle.merge_state.specs.Table.{Call, init_module_assignment, add_module_to_chunk, register_chunk_graph_index, to_temp_idx, calc_chunk_dependencies, would_create_circular_dependency, is_reachable, merge_chunk_dependencies, pass, later, acted}
-use Rattle.merge_state.specs.Kept.{none-fits, acted-kept}
+use Rattle.merge_state.specs.Kept.{none-fits}
+use Rattle.merge_state.proofs.Kept.{acted-kept}
 use Rattle.merge_state.specs.Ordered.{Ordered}
 use Rattle.merge_area.specs.Layout.{cell, head}
 use Rattle.merge_area.specs.Read.{read}

@@ -18,7 +18,8 @@ use Rattle.merge_state.specs.State.{None, Graph, chunk_of}
 use Rattle.merge_state.specs.Merges.{ending, gone, counts, waits}
 use Rattle.merge_state.specs.Methods.{appended, opened, assigned_to, registered, module_on, listed_on, calculated, warn, merged}
 use Rattle.merge_state.specs.Table.{Answer, done, refused, says, chunk, nothing, lists, Call, init_module_assignment, add_module_to_chunk, register_chunk_graph_index, to_temp_idx, calc_chunk_dependencies, would_create_circular_dependency, is_reachable, merge_chunk_dependencies, pass, unmade, any_misfit, any_gone, first_fitting, over_lists, bad_lists, later, acted, turned}
-use Rattle.merge_state.specs.Kept.{none-fits, passed-kept, acted-kept}
+use Rattle.merge_state.specs.Kept.{none-fits}
+use Rattle.merge_state.proofs.Kept.{passed-kept, acted-kept}
 use Rattle.merge_state.specs.Ordered.{Ordered}
 use Rattle.merge_area.specs.Layout.{cell, head}
 use Rattle.merge_area.specs.Read.{mode_in, sets-in, read}

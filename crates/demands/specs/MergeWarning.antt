@@ -9,7 +9,8 @@ use Rattle.graphs.specs.Walks.{join}
 use Rattle.merge_state.specs.State.{Graph}
 use Rattle.merge_state.specs.Merges.{counts}
 use Rattle.merge_state.specs.Methods.{warns, warn}
-use Rattle.merge_state.specs.Warning.{Looped, warning_exactly, fused, fuse_ends}
+use Rattle.merge_state.specs.Warning.{Looped, fused, fuse_ends}
+use Rattle.merge_state.proofs.Warning.{warning_exactly}
 use Rattle.merge_state.specs.Table.{says, would_create_circular_dependency, later, acted}
 use Rattle.merge_state.specs.Kept.{none-fits}
 use Rattle.merge_area.specs.Read.{depends_in, mode_in, read}

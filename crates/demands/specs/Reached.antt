@@ -10,7 +10,7 @@ use Rattle.entry_set.specs.Sets.{value}
 use Rattle.move_ledger.specs.Graph.{Load, rising, reach}
 use Rattle.move_ledger.specs.Answer.{zeros, is_accepted, reported}
 use Rattle.move_ledger.specs.Ledger.{Ledger, report, decide, move}
-use Rattle.move_ledger.specs.MoveLaws.{decide_accepted, place_after}
+use Rattle.move_ledger.proofs.MoveLaws.{decide_accepted, place_after}
 use Rattle.move_ledger.specs.Reach.{reach_bound}
 use Rattle.move_ledger.specs.Loading.{refusal}
 use Rattle.move_area.specs.Area.{decode}

@@ -12,7 +12,7 @@ use Rattle.graphs.specs.Lists.{any, has, has-at}
 use Rattle.graphs.specs.Walk.{Walk, one, more, cyclic}
 use Rattle.graphs.specs.Walks.{cyclic-lists}
 use Rattle.move_ledger.specs.Graph.{Load, at, edge, rising}
-use Rattle.move_ledger.specs.GraphLaws.{edge-source, edge-target}
+use Rattle.move_ledger.proofs.GraphLaws.{edge-source, edge-target}
 use Rattle.move_ledger.specs.Ledger.{index}
 use Rattle.move_ledger.specs.Listing.{has-rising}
 use Rattle.move_ledger.specs.Places.{Apart, index-has}

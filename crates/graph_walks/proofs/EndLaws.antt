@@ -15,7 +15,8 @@ use Rattle.graph_walks.specs.Closed.{flag_edge, closed}
 use Rattle.graph_walks.specs.ClosedLaws.{flag_is}
 use Rattle.graph_walks.specs.Marks.{marking}
 use Rattle.graph_walks.specs.Counted.{counted, without, counted-take}
-use Rattle.graph_walks.specs.Places.{square, reached, holds, passes, at_row, at_column, next_row, offers, offers_without}
+use Rattle.graph_walks.specs.Places.{square, reached, holds, passes, at_row, at_column, next_row, offers_without}
+use Rattle.graph_walks.proofs.Places.{offers}
 use Rattle.graph_walks.specs.Spread.{Offers, Ready, CanLook, Looked, Scanned, Done}
 use Rattle.graph_walks.specs.Ends.{end_at, end_edge, end_place, looked_at, LookedEnd, EndRows, CanScanEnds, CanScanEndRow, ScannedTo, Swept, DoneEnds, CanCloseEnds}
 use Rattle.graph_walks.proofs.Layer.{push_ready, scan_none, turn_skip, turn_more}

@@ -3,3 +3,4 @@ pub mod Moves
 pub mod Layer
 pub mod Ends
 pub mod EndLaws
+pub mod Places

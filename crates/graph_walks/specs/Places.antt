@@ -26,20 +26,6 @@ passes h f s t x k = h x k && not (eqb x s && eqb (f x k) t)
 
 module _ (d : ℕ → ℕ → Bool) (end : ℕ → ℕ) (n : ℕ) where
   module _ (within : (x : ℕ) → x < n → end x < n) where
-    column : (k : ℕ) → k < n * n → k % n < n
-    column k b = go n b
-      where
-        go : (n : ℕ) → k < n * n → k % n < n
-        go zero b = absurd (omega arith)
-        go (suc n) b = mod-lt k (omega arith)
-
-    row : (k : ℕ) → k < n * n → k / n < n
-    row k b = go n b
-      where
-        go : (n : ℕ) → k < n * n → k / n < n
-        go zero b = absurd (omega arith)
-        go (suc n) b = let p : 0 < suc n = omega arith in (div-lt_iff_lt-mul p).1 b
-
     pub next_row : (i : ℕ) → (i + 1) * n ≡ i * n + n
     next_row i = add-mul i 1 n ∙ ap (λ v. i * n + v) (once n)
       where
@@ -57,29 +43,6 @@ module _ (d : ℕ → ℕ → Bool) (end : ℕ → ℕ) (n : ℕ) where
       where
         before : i < n → i + 1 ≤ n
         before a = omega arith
-
-    pub offers : Offers (counted d end n) n (square n) (reached end n) (holds d end n)
-    unfolding holds
-    offers = record {
-      ends = λ x k a b h. within (k % n) (column k b);
-      step = λ x k a b h.
-          let p = and_left (eqb (end (k / n)) x && d (k / n) (k % n)) _ h in
-          let q : end (k / n) ≡ x = eqb-true _ _ (and_left (eqb (end (k / n)) x) _ p) in
-          let ne = eqb-false _ _ (not-true _ (and_right (eqb (end (k / n)) x && d (k / n) (k % n)) _ h)) in
-          subst (λ z. counted d end n z (end (k % n)) ≡ true) q (counted_give d end n (k / n) (k % n) (row k b) (column k b) (and_right (eqb (end (k / n)) x) _ p) (λ e. ne (sym e ∙ q)));
-      from = λ x y h. let r = counted-take d end n x y h in subst (λ z. z < n) r.from (within r.source r.source_in);
-      find = λ x y h.
-          let r = counted-take d end n x y h in
-          let i = r.source in
-          let j = r.target in
-          let c : (i * n + j) % n ≡ j = at_column i j r.target_in in
-          let w : (i * n + j) / n ≡ i = at_row i j r.target_in in (
-            i * n + j,
-            inside i j r.source_in r.target_in,
-            and_both _ _ (and_both _ _ (eq-eqb _ _ (ap end w ∙ r.from)) (ap₂ d w c ∙ r.edge)) (ap not (ne_eqb _ _ (λ e. r.differ (sym e ∙ ap end c ∙ r.to)))),
-            ap end c ∙ r.to,
-          );
-    }
 
 -- the same with one edge left out
 module _ {e : ℕ → ℕ → Bool} {n : ℕ} {c : ℕ → ℕ} {f : ℕ → ℕ → ℕ} {h : ℕ → ℕ → Bool} (o : Offers e n c f h) (s t : ℕ) where

@@ -100,11 +100,6 @@ first_in p (suc n) h = go (same? (first_below p n) None) (first_in p n) h
     go (it e) f h = rw (eq-eqb (first_below p n) None e) (last (p n) refl (λ z. h (rw (eq-eqb (first_below p n) None e) z)))
     go (other e) f h = let r = f e in rw (ne_eqb (first_below p n) None e) (omega (arith, r.0), r.1)
 
--- so is an entry that wins
-pub found_below : (roles entries istarts importers : List ℕ) (k v : ℕ) {n t : ℕ} → n ≡ bits k → t ≡ first_target (reads roles) n entries (lists istarts importers) v → (t ≡ None → ⊥) → t < k
-unfolding first_target
-found_below roles entries istarts importers k v {n} {t} e q h = omega (arith, (first_in (wins (reads roles) n entries (lists istarts importers) v) n (λ z. h (q ∙ z))).0, q, (bits_le k).1, e)
-
 -- the guards in order
 module _ (bars : ℕ → Bool) (t : ℕ) where
   pub none_found : t ≡ None → None ≡ guarded bars t
@@ -146,22 +141,6 @@ module _ (roles : List ℕ) (k : ℕ) (entries : List ℕ) (modules static dynam
 
         pub user_found : w ≡ false → t ≡ user_target (reads roles) k entries modules static dynamic reached effects candidate
         user_found q₂ = unbarred (bars n) t h (rw (sym p ∙ q, sym p₁ ∙ q₁) (sym p₂ ∙ q₂)) ∙ user_is
-
--- the same among dynamic ones
-module _ (roles : List ℕ) (k : ℕ) (entries : List ℕ) (static : Lists) (exports candidate : List ℕ) {n t : ℕ} (e : n ≡ bits k)
-    (f : t ≡ first_target (reads roles) n entries static 1) where
-  dynamic_is : guarded (polluted (reads roles) n entries exports candidate) t ≡ dynamic_target (reads roles) k entries static exports candidate
-  unfolding dynamic_target
-  dynamic_is = ap (guarded (polluted (reads roles) n entries exports candidate)) f ∙ ap (λ j. guarded (polluted (reads roles) j entries exports candidate) (first_target (reads roles) j entries static 1)) e
-
-  pub dynamic-none : t ≡ None → None ≡ dynamic_target (reads roles) k entries static exports candidate
-  dynamic-none h = none_found (polluted (reads roles) n entries exports candidate) t h ∙ dynamic_is
-
-  pub dynamic-polluted : (t ≡ None → ⊥) → {u : Bool} → u ≡ polluted (reads roles) n entries exports candidate t → u ≡ true → None ≡ dynamic_target (reads roles) k entries static exports candidate
-  dynamic-polluted h p q = barred (polluted (reads roles) n entries exports candidate) t h (sym p ∙ q) ∙ dynamic_is
-
-  pub dynamic-found : (t ≡ None → ⊥) → {u : Bool} → u ≡ polluted (reads roles) n entries exports candidate t → u ≡ false → t ≡ dynamic_target (reads roles) k entries static exports candidate
-  dynamic-found h p q = unbarred (polluted (reads roles) n entries exports candidate) t h (sym p ∙ q) ∙ dynamic_is
 
 -- an entry that a bit names: its entry module is read
 named-entry : (classes kinds : List ℕ) (set b v : ℕ) → role classes kinds set b ≡ v → (v ≡ 0 → ⊥) → (v ≡ 3 → ⊥) → (b < length kinds) × (get_or kinds b 0 ≡ 8 → ⊥)

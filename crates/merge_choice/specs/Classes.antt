@@ -15,17 +15,6 @@ use Rattle.merge_choice.specs.Find.{row23, row25, told, find_by}
 unfoldable pub user_kind : ℕ → Bool
 user_kind kind = eqb (kind % 2) 1 || eqb (kind / 4 % 2) 1
 
--- the table's rule, one test over its eight rows: so "rows 0 and 2 are dynamic"
-abbrev off : ℕ → Bool
-off kind = not (eqb (get_or built_in kind 0) (cond (user_kind kind) 1 0))
-
-none-off : some_below off 8 ≡ false
-unfolding any below user_kind
-none-off = refl
-
-pub built_in-rows : (kind : ℕ) → kind < 8 → get_or built_in kind 0 ≡ cond (user_kind kind) 1 0
-built_in-rows kind h = eqb-true _ _ (not-false _ (some_none off 8 none-off kind h))
-
 -- the built-in rows can be lent
 pub built_in-legal : row25 built_in ≡ false
 unfolding any below misfit any_misfit row25

@@ -9,7 +9,8 @@ use Rattle.merge_state.specs.declared.Sizes.{Sizes}
 use Rattle.merge_state.specs.State.{None}
 use Rattle.merge_state.specs.Merges.{waits}
 use Rattle.merge_state.specs.Methods.{Passed, passed}
-use Rattle.merge_state.specs.Kept.{Passing, proposal, passed-kept}
+use Rattle.merge_state.specs.Kept.{Passing, proposal}
+use Rattle.merge_state.proofs.Kept.{passed-kept}
 use Rattle.merge_area.specs.Layout.{cell, head}
 use Rattle.merge_area.specs.Read.{read}
 use Rattle.merge_area.specs.Writes.{candidate_area, pass_area}

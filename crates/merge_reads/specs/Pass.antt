@@ -14,7 +14,8 @@ use Rattle.merge_state.specs.Merges.{waits}
 use Rattle.merge_state.specs.Methods.{Passed, merged, created_chunk, merges, candidate, passed}
 use Rattle.merge_state.specs.Table.{any_misfit, any_gone}
 use Rattle.merge_state.specs.Ordered.{Ordered, never}
-use Rattle.merge_state.specs.Kept.{Passing, proposal, passed-kept}
+use Rattle.merge_state.specs.Kept.{Passing, proposal}
+use Rattle.merge_state.proofs.Kept.{passed-kept}
 use Rattle.merge_area.specs.Layout.{room, cell, head}
 use Rattle.merge_area.specs.Read.{needs_in, named_set, entry, read}
 use Rattle.merge_state.specs.Pairs.{pairs-length}

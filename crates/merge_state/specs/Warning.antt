@@ -53,29 +53,21 @@ module _ (d : ℕ → ℕ → Bool) (s t x y : ℕ) where
       (or_cases (d x y) _ (and_right (not (eqb x y) && (not (eqb x s) && not (eqb y s))) _ h))
 
 module _ (g : Graph) (v : Sound g) (s t : ℕ) (differ : s ≡ t → ⊥) where
-  First : ℕ → Type 0
+  unfoldable pub First : ℕ → Type 0
   First x = (g.depends s x ≡ true) ⊎ (g.depends t x ≡ true)
 
-  In : ℕ → Bool
+  unfoldable pub In : ℕ → Bool
   In = closed g.depends g.made s t
 
   no_self : {x : ℕ} → g.depends x x ≡ true → ⊥
   no_self {x} h = true≢false (sym h ∙ v.self x)
-
-  first_in : (x : ℕ) → First x → In x ≡ true
-  unfolding First In
-  first_in x h = closed-first g.depends g.made s t x (⊎_elim (v.to s x) (v.to t x) h) h
-
-  next_in : (x y : ℕ) → In x ≡ true → g.depends x y ≡ true → In y ≡ true
-  unfolding In
-  next_in = closed-next g.depends g.made s t v.from
 
   in_all : (P : ℕ → Type 0) → ((x : ℕ) → First x → P x) → ((x y : ℕ) → P x → g.depends x y ≡ true → P y) → (x : ℕ) → In x ≡ true → P x
   unfolding First In
   in_all = closed_all g.depends g.made s t
 
   -- what is to be shown
-  Bad : Type 0
+  unfoldable pub Bad : Type 0
   Bad = (g.depends s t ≡ true) ⊎ Looped g s t
 
   -- a member of the closed union, if nothing is bad: the source, or reached from the target in the fused graph
@@ -114,7 +106,7 @@ module _ (g : Graph) (v : Sound g) (s t : ℕ) (differ : s ≡ t → ⊥) where
         ]
       ]
 
-  warned : warns g.depends g.made s t ≡ true → Bad
+  pub warned : warns g.depends g.made s t ≡ true → Bad
   unfolding warns Met Bad In
   warned h = ⊎_elim at_target at-member (or_cases (In t) _ h)
     where
@@ -131,32 +123,3 @@ module _ (g : Graph) (v : Sound g) (s t : ℕ) (differ : s ≡ t → ⊥) where
           (λ k. inr (record { other = x; differs = k.1; out = k.2; back = one (fuse g.depends s t x t k.1 k.0 (λ i. differ (sym i)) (or_right (g.depends x t) _ (or_right (eqb x t && g.depends s t) _ (and_both _ _ (eq-eqb t t refl) e)))) }))
           n)
           (in_all Met met-first met_next x (and_left (In x) _ r.2))
-
-  target_in : In t ≡ true → warns g.depends g.made s t ≡ true
-  unfolding warns In
-  target_in h = or_left _ _ h
-
-  member_on : (x : ℕ) → In x ≡ true → g.depends x s ≡ true → warns g.depends g.made s t ≡ true
-  unfolding warns In
-  member_on x h e = or_right (In t) _ (some_give (λ x. In x && g.depends x s) g.made x (v.from x s e) (and_both _ _ h e))
-
-  -- a member of the closed union that isn't the target, with a walk of the fused graph to the target
-  homing : {x y : ℕ} → In x ≡ true → (x ≡ t → ⊥) → y ≡ t → Walk (fused g.depends s t) x y → warns g.depends g.made s t ≡ true
-  homing c n q (one {x} {y} h) =
-      ⊎_elim (λ a. target_in (next_in x t c (rw q at a))) (λ k. ⊎_elim (λ p. absurd (n p.0)) (λ p. member_on x c p.1) k) (fuse_cases g.depends s t x y h)
-  homing c n q (more {x} {y = z} h w) = elim (ℕ_discrete z t) [
-    | yes p ↦ ⊎_elim (λ a. target_in (next_in x t c (rw p at a))) (λ k. ⊎_elim (λ l. absurd (n l.0)) (λ l. member_on x c l.1) k) (fuse_cases g.depends s t x z h)
-    | no p ↦ homing (next_in x z c (⊎_elim (λ a. a) (λ k. ⊎_elim (λ l. absurd (n l.0)) (λ l. absurd (p l.0)) k) (fuse_cases g.depends s t x z h))) p q w
-  ]
-
-  leaving : {x y : ℕ} → x ≡ t → y ≡ t → Walk (fused g.depends s t) x y → warns g.depends g.made s t ≡ true
-  unfolding First
-  leaving p q (one {x} {y} h) = absurd ((fuse_ends g.depends s t x y h).0 (p ∙ sym q))
-  leaving p q (more {x} {y = z} h w) =
-      homing (first_in z (⊎_elim (λ a. inr (rw p at a)) (λ k. ⊎_elim (λ l. inl l.1) (λ l. absurd ((fuse_ends g.depends s t x z h).0 (p ∙ sym l.0))) k) (fuse_cases g.depends s t x z h)))
-      (λ i. (fuse_ends g.depends s t x z h).0 (p ∙ sym i)) q w
-
-  -- "the merge warning is yes exactly when the source depends directly on the target or the two fused lie on a cycle with another chunk"
-  pub warning_exactly : (warns g.depends g.made s t ≡ true) ↔ ((g.depends s t ≡ true) ⊎ Looped g s t)
-  unfolding Bad First
-  warning_exactly = (warned, λ b. ⊎_elim (λ e. target_in (first_in t (inl e))) (λ (l : Looped g s t). leaving refl refl (join l.out l.back)) b)

@@ -10,7 +10,7 @@ use Rattle.graphs.specs.Walk.{via, cyclic}
 use Rattle.entry_set.specs.Sets.{value}
 use Rattle.move_ledger.specs.Graph.{Load, at, edge}
 use Rattle.move_ledger.specs.Ledger.{Ledger, free_place, step3, tried, move, try_move, call}
-use Rattle.move_ledger.specs.Sound.{call_sound}
+use Rattle.move_ledger.proofs.Sound.{call_sound}
 use Rattle.move_area.specs.Area.{State}
 use Rattle.move_area.specs.Held.{Held}
 use Rattle.move_area.specs.Calls.{last, next, marks_for, walked, after}

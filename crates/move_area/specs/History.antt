@@ -9,7 +9,8 @@ use Rattle.move_ledger.specs.Graph.{Load}
 use Rattle.move_ledger.specs.Answer.{Answer, is_refused}
 use Rattle.move_ledger.specs.Ledger.{Ledger, Call, try_move, asks, move, ask, call, answers, ledger}
 use Rattle.move_ledger.specs.Loading.{refusal, loading_row}
-use Rattle.move_ledger.specs.LoadLaws.{Sized, refusal-none, Loadable-sets, loading_row-none, loading_row-later, loading_unrefused}
+use Rattle.move_ledger.specs.LoadLaws.{Sized, Loadable-sets, loading_unrefused}
+use Rattle.move_ledger.proofs.LoadLaws.{refusal-none, loading_row-none, loading_row-later}
 use Rattle.move_ledger.specs.MoveLaws.{refused_keeps}
 use Rattle.move_ledger.specs.Sound.{loading_sound}
 use Rattle.move_area.specs.Bodies.{atom_at}

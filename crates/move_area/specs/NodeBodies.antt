@@ -19,8 +19,10 @@ use Rattle.move_ledger.specs.Graph.{Load, at, members, mult, edge}
 use Rattle.move_ledger.specs.LoadLaws.{InOrder}
 use Rattle.move_ledger.specs.Nodes.{placed, Placing, sources, targets, node_edge}
 use Rattle.move_ledger.specs.NodeLaws.{placed_at, members-nodes}
-use Rattle.move_ledger.specs.NodeWalks.{mult-nodes, mult-outside, ends-nodes, cyclic-nodes, only-nodes, only-outside}
-use Rattle.move_ledger.specs.Totals.{busy_nodes, filled_cells, chunk_count-nodes, edge-count_cells}
+use Rattle.move_ledger.specs.NodeWalks.{mult-outside, ends-nodes, only-outside}
+use Rattle.move_ledger.proofs.NodeWalks.{mult-nodes, cyclic-nodes, only-nodes}
+use Rattle.move_ledger.specs.Totals.{busy_nodes, filled_cells, chunk_count-nodes}
+use Rattle.move_ledger.proofs.Totals.{edge-count_cells}
 use Rattle.move_area.specs.Bodies.{Bodies, write}
 use Rattle.move_area.specs.Area.{State, square, nodewise, bodies, encode}
 use Rattle.move_area.specs.ListLaws.{Distinct, index_at}

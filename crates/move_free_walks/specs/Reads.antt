@@ -3,7 +3,8 @@
 use Rattle.std.specs.Prelude.{ℕ, ◌^◌, ◌<◌, ◌≡◌, ◌↔◌, true, List, length, set}
 use Rattle.std.proofs.Common.{sym, ap, subst, ◌∙◌, get_or-set_other}
 use Rattle.move_ledger.specs.Graph.{Load, none, at, owner, lies, edge}
-use Rattle.move_ledger.specs.GraphLaws.{lies_atom, lies-set, lies_in, occupied-by, occupy, entry-lies, lies-entry, Why, by_entry, by_facade, edge_why, why_edge}
+use Rattle.move_ledger.specs.GraphLaws.{lies_atom, lies-set, lies_in, occupied-by, occupy, entry-lies, lies-entry, Why, by_entry, by_facade}
+use Rattle.move_ledger.proofs.GraphLaws.{edge_why, why_edge}
 use Rattle.move_free_walks.specs.Joins.{cut_edge, edge-cut}
 use Rattle.move_free_walks.specs.Alone.{Alone}
 use Rattle.move_free_walks.specs.Free.{without, outs, ins}

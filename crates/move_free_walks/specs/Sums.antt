@@ -15,7 +15,7 @@ use Rattle.graphs.specs.Walk.{cyclic}
 use Rattle.entry_set.specs.Sets.{value, legal, words, width}
 use Rattle.entry_set.specs.JoinedLaws.{length-parts, joined-parts}
 use Rattle.move_ledger.specs.Graph.{Load, at, edge, rising, sum}
-use Rattle.move_ledger.specs.GraphLaws.{outside-stays}
+use Rattle.move_ledger.proofs.GraphLaws.{outside-stays}
 use Rattle.move_ledger.specs.Listing.{Rising, none, next, rising-rising, has-rising}
 use Rattle.move_ledger.specs.Answer.{Report, Answer, refused, accepted, rejected, is_refused, is_accepted}
 use Rattle.move_ledger.specs.Ledger.{step1, stays, report, decide}

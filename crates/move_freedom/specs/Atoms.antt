@@ -16,7 +16,7 @@ use Rattle.move_ledger.specs.Answer.{is_accepted}
 use Rattle.move_ledger.specs.LoadLaws.{Loadable}
 use Rattle.move_ledger.specs.Nodes.{placed, Placing, node_edge, sources, targets}
 use Rattle.move_ledger.specs.NodeLaws.{placed-length, placed_at}
-use Rattle.move_ledger.specs.NodeWalks.{cyclic-nodes}
+use Rattle.move_ledger.proofs.NodeWalks.{cyclic-nodes}
 use Rattle.move_area.specs.Bodies.{lane_at, atom_at}
 use Rattle.move_area.specs.Area.{sets_in}
 use Rattle.move_area.specs.Checked.{nodes_in, Ranged, Worked, sets-length, ranged_placing}
@@ -28,7 +28,8 @@ use Rattle.move_free_walks.specs.Sums.{atom_sum, atom_fixed}
 use Rattle.move_free_walks.specs.Pairs.{atom_accepted, chunk_count}
 use Rattle.move_free_walks.specs.NodeFree.{fine, counted}
 use Rattle.move_free_walks.specs.ByMarks.{free_by}
-use Rattle.move_free_walks.specs.AtomCount.{marks-count, none-count, rest-free, aside-ends, rest-none, rest_some}
+use Rattle.move_free_walks.specs.AtomCount.{aside-ends, rest-none, rest_some}
+use Rattle.move_free_walks.proofs.AtomCount.{marks-count, none-count, rest-free}
 use Rattle.move_freedom.specs.Aside.{CanSetAside}
 use Rattle.move_freedom.specs.Rest.{CanRest}
 use Rattle.move_freedom.specs.Tally.{occupied_at, CanOccupied}

@@ -1,22 +1,19 @@
 -- For the code: the listing of edges over any rising list of sets that holds those of the placement, counted row by row. Assumes nothing.
 use Prim.Native.Nat.{ℕ, zero, suc, ◌+◌, ◌≤◌, ◌<◌}
 use native.Mathlib.Omega.{arith}
-use Rattle.std.specs.Prelude.{◌≡◌, Bool, ◌&&◌}
-use Rattle.std.proofs.Math.Path.{refl, sym, ap, ap₂}
+use Rattle.std.specs.Prelude.{◌≡◌, Bool}
+use Rattle.std.proofs.Math.Path.{refl, sym, ap}
 use Rattle.std.proofs.Common.{◌∙◌}
-use Rattle.std.proofs.Math.Bool.{true, false, cond, true≢false, and-false}
+use Rattle.std.proofs.Math.Bool.{true, false, cond}
 use mathlib.Core.List.{List, [], ◌∷◌, ◌++◌}
 use Rattle.std.proofs.Math.ListN.{length, length-append}
 use Rattle.graphs.specs.Count.{ind, count, count_none}
-use Rattle.graphs.specs.Lists.{has}
 use Rattle.graphs.specs.Total.{total}
-use Rattle.move_ledger.specs.Graph.{Load, Edge, at, mult, edge, rising, row, rows, edges}
-use Rattle.move_ledger.specs.GraphLaws.{edge-source, edge-target}
+use Rattle.move_ledger.specs.Graph.{Load, Edge, at, mult, edge, row, rows}
 use Rattle.move_ledger.specs.Answer.{Answer}
 use Rattle.move_ledger.specs.Answer as answer
 use Rattle.move_ledger.specs.Ledger.{kept, kth}
-use Rattle.move_ledger.specs.Places.{has_kept}
-use Rattle.move_ledger.specs.Listing.{Rising, none, next, rising-rising, has-rising, one_rising}
+use Rattle.move_ledger.specs.Listing.{Rising, none, next}
 
 weaker : {a b : ℕ} {l : List ℕ} → a ≤ b → Rising b l → Rising a l
 weaker h none = none
@@ -39,53 +36,6 @@ rising_of b (x ∷ l) f g = next (f 0 (omega arith)) (rising_of (suc x) l (λ i 
     up : (i : ℕ) → i < length l → suc x ≤ at l i
     up zero h = g 0 (omega arith)
     up (suc i) h = omega (arith, up i (omega arith), g (suc i) (omega arith))
-
-module _ (load : Load) (p : List ℕ) where
-  -- sets without edges may be left out
-  row_kept : (q : ℕ → Bool) (X : ℕ) → ((Y : ℕ) → edge load p X Y ≡ true → q Y ≡ true) → (Ys : List ℕ) → row load p X (kept q Ys) ≡ row load p X Ys
-  unfolding row kept
-  row_kept q X f [] = refl
-  row_kept q X f (Y ∷ Ys) = go (q Y) refl (edge load p X Y) refl (row_kept q X f Ys)
-    where
-      go : (t : Bool) → q Y ≡ t → (u : Bool) → edge load p X Y ≡ u → row load p X (kept q Ys) ≡ row load p X Ys
-          → row load p X (cond t (Y ∷ kept q Ys) (kept q Ys)) ≡ cond u (record { from = X; to = Y; multiplicity = mult load p X Y } ∷ row load p X Ys) (row load p X Ys)
-      go true a true b h = rw b (ap (λ r. record { from = X; to = Y; multiplicity = mult load p X Y } ∷ r) h)
-      go true a false b h = rw b h
-      go false a true b h = absurd (true≢false (sym (f Y b) ∙ a))
-      go false a false b h = h
-
-  row-none : (X : ℕ) → ((Y : ℕ) → edge load p X Y ≡ true → ⊥) → (Ys : List ℕ) → row load p X Ys ≡ []
-  unfolding row
-  row-none X f [] = refl
-  row-none X f (Y ∷ Ys) = go (edge load p X Y) refl (row-none X f Ys)
-    where
-      go : (t : Bool) → edge load p X Y ≡ t → row load p X Ys ≡ [] → cond t (record { from = X; to = Y; multiplicity = mult load p X Y } ∷ row load p X Ys) (row load p X Ys) ≡ []
-      go true e h = absurd (f Y e)
-      go false e h = h
-
-  rows-kept : (q : ℕ → Bool) → ((X Y : ℕ) → edge load p X Y ≡ true → q X ≡ true) → ((X Y : ℕ) → edge load p X Y ≡ true → q Y ≡ true)
-      → (Xs Ys : List ℕ) → rows load p (kept q Xs) (kept q Ys) ≡ rows load p Xs Ys
-  unfolding rows kept
-  rows-kept q f g [] Ys = refl
-  rows-kept q f g (X ∷ Xs) Ys = go (q X) refl (rows-kept q f g Xs Ys)
-    where
-      go : (t : Bool) → q X ≡ t → rows load p (kept q Xs) (kept q Ys) ≡ rows load p Xs Ys → rows load p (cond t (X ∷ kept q Xs) (kept q Xs)) (kept q Ys) ≡ row load p X Ys ++ rows load p Xs Ys
-      go true e h = ap₂ ◌++◌ (row_kept q X (g X) Ys) h
-      go false e h = h ∙ ap (λ r. r ++ rows load p Xs Ys) (sym (row-none X (λ Y b. true≢false (sym (f X Y b) ∙ e)) Ys))
-
-  -- so any rising list that holds the placement's sets lists the edges
-  pub edges-over : length p ≡ load.A → {Xs : List ℕ} → Rising 0 Xs → ((X : ℕ) → has X p ≡ true → has X Xs ≡ true) → rows load p Xs Xs ≡ edges load p
-  unfolding edges
-  edges-over n {Xs} r f =
-      sym (rows-kept (λ X. has X p) (edge-source load p n) (edge-target load p n) Xs Xs)
-      ∙ ap (λ l. rows load p l l) (one_rising (kept-rising (λ X. has X p) r) (rising-rising p) same)
-    where
-      same : (z : ℕ) → has z (kept (λ X. has X p) Xs) ≡ has z (rising p)
-      same z = has_kept (λ X. has X p) z Xs ∙ go (has z p) refl ∙ sym (has-rising z p)
-        where
-          go : (t : Bool) → has z p ≡ t → (has z Xs && t) ≡ t
-          go true q = rw (f z q) refl
-          go false q = and-false (has z Xs)
 
 -- counting and adding from the first
 count-first : (q : ℕ → Bool) (k : ℕ) → count q (suc k) ≡ ind (q 0) + count (λ j. q (suc j)) k

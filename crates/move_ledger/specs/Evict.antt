@@ -3,7 +3,7 @@ use Prim.Native.Nat.{ℕ, zero, suc, ◌+◌, ◌≤◌, ◌<◌}
 use native.Mathlib.Omega.{arith}
 use Rattle.std.specs.Prelude.{◌≡◌, Bool, cond, ◌&&◌, List}
 use Rattle.std.proofs.Math.Path.{refl}
-use Rattle.std.proofs.Common.{sym, ap, subst, ◌∙◌, ⊎_elim, true≢false}
+use Rattle.std.proofs.Common.{sym, ap, ◌∙◌, ⊎_elim, true≢false}
 use Rattle.std.proofs.Math.Bool.{true, false, not}
 use Rattle.std.proofs.Math.Dec.{ltb, eqb}
 use Rattle.std.proofs.Math.ListN.{length}
@@ -15,7 +15,7 @@ use Rattle.graphs.specs.Lists.{any, has, has-at, some_below, some_take, some_non
 use Rattle.move_ledger.specs.Graph.{Load, at, members, occupied, rising}
 use Rattle.move_ledger.specs.Ledger.{kept, index, put, smallest_empty, free_place, register}
 use Rattle.move_ledger.specs.Listing.{Rising, none, next, rising-rising, has-rising, has_bound}
-use Rattle.move_ledger.specs.Places.{has_kept, index-has, Apart, put_grows, put_most, put-there, put_same}
+use Rattle.move_ledger.specs.Places.{has_kept, index-has, Apart}
 
 -- sums of two, of ones and of noughts
 pub total_add : (f g : ℕ → ℕ) (n : ℕ) → total (λ i. f i + g i) n ≡ total f n + total g n
@@ -127,21 +127,3 @@ pub record Registered (N T : ℕ) (seen seen' : List ℕ) : Type 0 where
   pub has_target : has T seen' ≡ true
   pub grows : length seen ≤ length seen'
   pub few : length seen' ≤ N
-
-pub registered : (load : Load) (N : ℕ) (place seen : List ℕ) → Apart seen → length seen ≤ N → load.A < N
-    → (T : ℕ) → Registered N T seen (register load N place T seen)
-registered load N place seen d few more T = go (has T seen) refl
-  where
-    r : ℕ
-    r = free_place load N place seen
-
-    go : (t : Bool) → has T seen ≡ t → Registered N T seen (register load N place T seen)
-    go true q = rw (register-old load N place T seen q) (record { has_target = q; grows = omega arith; few = few })
-    go false q =
-        let f = place-free load N place seen d few more in
-        rw (register-new load N place T seen q)
-        (record {
-          has_target = subst (λ X. has X (put r T seen) ≡ true) (put_same r T seen f.within) (has-at (put r T seen) r (put-there r T seen f.within));
-          grows = put_grows r T seen f.within;
-          few = put_most r T seen f.within N few f.room;
-        })

@@ -19,6 +19,5 @@ pub mod NodeMoves
 pub mod Edges
 pub mod NodeListing
 pub mod Chunks
-pub mod Gained
 pub mod Totals
 pub mod Reach

@@ -1,9 +1,9 @@
 -- What the rows 1 to 8 leave where none of them fits. Assumes nothing.
 use Prim.Native.Nat.{ℕ, zero, suc, ◌+◌, ◌*◌, ◌^◌, ◌≤◌, ◌<◌}
 use native.Mathlib.Omega.{arith}
-use Rattle.std.proofs.Common.{add-one, sym, subst, ◌∙◌, true≢false}
+use Rattle.std.proofs.Common.{add-one, sym, ◌∙◌, true≢false}
 use Rattle.std.proofs.Math.Decide.{ℕ_discrete, dec_lt}
-use Rattle.std.specs.Prelude.{◌≡◌, ◌↔◌, not, ◌&&◌, ◌||◌, List, ltb, length}
+use Rattle.std.specs.Prelude.{◌≡◌, ◌↔◌, not, ◌&&◌, List, ltb, length}
 use Rattle.std.proofs.Math.Path.{refl, ap}
 use Rattle.std.proofs.Math.Bool.{Bool, true, false, cond}
 use Rattle.std.proofs.Math.Dec.{leb, eqb}
@@ -16,7 +16,7 @@ use Rattle.graphs.specs.Walk.{cyclic}
 use Rattle.move_ledger.specs.Graph.{Load, none, at, owner, edge}
 use Rattle.move_ledger.specs.Answer.{refused, acyclic, is_refused}
 use Rattle.move_ledger.specs.Answer as answer
-use Rattle.move_ledger.specs.Loading.{row1, row2, row3, row4, row5, row6, first_row, marks_fit, refusal, sets_fit, lent_set, entry_sets, row7, row8, loading_row, loading}
+use Rattle.move_ledger.specs.Loading.{row1, row2, row3, row4, row5, row6, marks_fit, sets_fit, lent_set, entry_sets, row7, row8, loading_row, loading}
 
 -- how many pass, of a test that holds up to somewhere and fails from there on
 module _ (p : ℕ → Bool) where
@@ -167,42 +167,11 @@ sized load N size r1 r2 r3 =
       area = ltb-false _ _ r3;
     }
 
--- where a choice gives 0, and each row has its number, no row fits
-none-fits : (b : Bool) (n q : ℕ) → 0 < n → cond b n q ≡ 0 → (b ≡ false) × (q ≡ 0)
-none-fits true n q l h = absurd (omega arith)
-none-fits false n q l h = (refl, h)
-
 -- what no refusal among the rows 1 to 6 leaves
 pub record Loadable (load : Load) (N : ℕ) (lists : Bool) (size : ℕ) : Type 0 where
   pub sizes : Sized load N size
   pub lengths : lists ≡ true
   pub order : InOrder load
-
-pub first_row-none : (load : Load) (N : ℕ) (lists : Bool) (size : ℕ) → first_row load N lists size ≡ 0 → Loadable load N lists size
-unfolding first_row
-first_row-none load N lists size h =
-    let p₁ = none-fits (row1 load N) 1 _ (omega arith) h in
-    let p₂ = none-fits (row2 load || not lists) 2 _ (omega arith) p₁.1 in
-    let p₃ = none-fits (row3 load N size) 3 _ (omega arith) p₂.1 in
-    let p₄ = none-fits (row4 load) 4 _ (omega arith) p₃.1 in
-    let p₅ = none-fits (row5 load) 5 _ (omega arith) p₄.1 in
-    let p₆ = none-fits (row6 load) 6 _ (omega arith) p₅.1 in
-    record {
-      sizes = sized load N size p₁.0 (or_false_left (row2 load) _ p₂.0) p₃.0;
-      lengths = not-false _ (or_false_right (row2 load) _ p₂.0);
-      order = in_order load p₄.0 p₅.0 p₆.0;
-    }
-
--- of a later call: the marks are as many as atoms
-module _ (load : Load) (fixed : List ℕ) (N size : ℕ) (h : refusal load fixed N size ≡ 0) where
-  pub refusal-marks : length fixed ≡ load.A
-  refusal-marks = eqb-true _ _ (first_row-none load N (marks_fit load fixed) size h).lengths
-
-  pub refusal-first : first_row load N true size ≡ 0
-  refusal-first = subst (λ t. first_row load N t size ≡ 0) (first_row-none load N (marks_fit load fixed) size h).lengths h
-
-  pub refusal-none : Loadable load N true size
-  refusal-none = first_row-none load N true size refusal-first
 
 -- the same with the rows 7 and 8
 pub record Loadable-sets (load : Load) (N : ℕ) (sets : List ℕ) (size : ℕ) : Type 0 where
@@ -211,39 +180,8 @@ pub record Loadable-sets (load : Load) (N : ℕ) (sets : List ℕ) (size : ℕ) 
   pub eight : row8 load sets ≡ false
 
 module _ (load : Load) (fixed : List ℕ) (N : ℕ) (sets : List ℕ) (size : ℕ) where
-  abbrev lists : Bool
+  abbrev pub lists : Bool
   lists = marks_fit load fixed && sets_fit load sets
-
-  abbrev late : ℕ
-  late = cond (row7 load sets) 7 (cond (row8 load sets) 8 0)
-
-  -- the rows 1 to 6 don't fit, nor do the rows 7 and 8
-  both-none : loading_row load fixed N sets size ≡ 0 → (first_row load N lists size ≡ 0) × (late ≡ 0)
-  unfolding loading_row
-  both-none h = go (eqb (first_row load N lists size) 0) refl h
-    where
-      go : (t : Bool) → eqb (first_row load N lists size) 0 ≡ t → cond t late (first_row load N lists size) ≡ 0 → (first_row load N lists size ≡ 0) × (late ≡ 0)
-      go true e f = (eqb-true _ _ e, f)
-      go false e f = absurd (eqb-false _ _ e f)
-
-  pub loading_row-none : loading_row load fixed N sets size ≡ 0 → Loadable-sets load N sets size
-  loading_row-none h =
-      let b = both-none h in
-      let l = first_row-none load N lists size b.0 in
-      let p₇ = none-fits (row7 load sets) 7 _ (omega arith) b.1 in
-      let p₈ = none-fits (row8 load sets) 8 _ (omega arith) p₇.1 in
-      record {
-        loadable = record { sizes = l.sizes; lengths = and_right (marks_fit load fixed) _ l.lengths; order = l.order };
-        seven = p₇.0;
-        eight = p₈.0;
-      }
-
-  -- and a later call's rows 1 to 6 don't
-  pub loading_row-later : loading_row load fixed N sets size ≡ 0 → refusal load fixed N size ≡ 0
-  loading_row-later h =
-      let q = (both-none h).0 in
-      let l = (first_row-none load N lists size q).lengths in
-      subst (λ t. first_row load N t size ≡ 0) (l ∙ sym (and_left (marks_fit load fixed) _ l)) q
 
   -- a loading is refused exactly where a row fits
   pub loading_unrefused : is_refused (loading load fixed N sets size) ≡ false → loading_row load fixed N sets size ≡ 0

@@ -1,18 +1,13 @@
 -- For the code: a move in node numbers. Assumes nothing.
-use Rattle.std.specs.Prelude.{ℕ, ◌≤◌, ◌<◌, ◌≡◌, false, not, ◌&&◌, List, length, set}
+use Rattle.std.specs.Prelude.{ℕ, ◌≤◌, ◌<◌, ◌≡◌, List, length, set}
 use Rattle.std.proofs.Common.{arith, sym, ap, ap₂, subst, ◌∙◌, length-set, ext_get_or, get_or-set_same, get_or-set_other}
 use Rattle.std.proofs.Math.Decide.{ℕ_discrete, dec_lt}
-use Rattle.graphs.specs.Lists.{below}
 use Rattle.graphs.specs.Tab.{tab, tab-length, tab-at}
-use Rattle.graphs.specs.Walk.{via, cyclic, only}
-use Rattle.move_ledger.specs.Graph.{Load, at, edge}
-use Rattle.move_ledger.specs.GraphLaws.{target_decides}
-use Rattle.move_ledger.specs.Ledger.{step1}
+use Rattle.move_ledger.specs.Graph.{Load, at}
 use Rattle.move_ledger.specs.LoadLaws.{InOrder, Loadable-sets, row8_apart, entry_sets-length, entry_sets-at}
 use Rattle.move_ledger.specs.Loading.{lent_set, entry_sets}
-use Rattle.move_ledger.specs.Nodes.{placed, Placing, node_edge}
+use Rattle.move_ledger.specs.Nodes.{placed, Placing}
 use Rattle.move_ledger.specs.NodeLaws.{placed-length, placed_at, placed-set}
-use Rattle.move_ledger.specs.NodeWalks.{cyclic-nodes, via-nodes, only-nodes}
 
 -- after a loading atom i is in node i
 pub placed_first : (sets : List ℕ) (n : ℕ) → length sets ≡ n → placed (tab (λ i. i) n) sets ≡ sets
@@ -58,24 +53,3 @@ module _ {load : Load} {nodes sets : List ℕ} (o : InOrder load) (p : Placing l
 
   pub placed-moved : placed (set nodes a y) sets ≡ set place a T
   placed-moved = placed-set nodes sets a y ∙ ap₂ (λ l X. set l a X) is e
-
-  -- step 3's test
-  pub moved-cyclic : cyclic (edge load (set place a T)) (set place a T) ≡ cyclic (node_edge load (set nodes a y) sets) (below n)
-  moved-cyclic = ap (λ q. cyclic (edge load q) q) (sym placed-moved) ∙ sym (cyclic-nodes o placing_moved n wide)
-
-  -- what the walk from the target's node marks
-  pub moved_reaches : (x : ℕ) → x < length sets → via (edge load (set place a T)) (set place a T) T (at sets x) ≡ via (node_edge load (set nodes a y) sets) (below n) y x
-  moved_reaches x c = ap₂ (λ q X. via (edge load q) q X (at sets x)) (sym placed-moved) (sym e) ∙ sym (via-nodes o placing_moved n wide y x b c)
-
-  -- from an acyclic graph, whether it marks that node itself
-  pub moved_decides : a < load.A → cyclic (edge load place) place ≡ false → cyclic (edge load (set place a T)) (set place a T) ≡ via (node_edge load (set nodes a y) sets) (below n) y y
-  moved_decides l h =
-      target_decides load place a T (sym (ap length is) ∙ placed-length nodes sets ∙ p.atoms) l h
-      ∙ ap (λ X. via (edge load (set place a T)) (set place a T) T X) (sym e) ∙ moved_reaches y b
-
--- step 1's test
-pub step1-nodes : {load : Load} {nodes sets : List ℕ} → InOrder load → Placing load nodes sets → (a n : ℕ) → a < load.A → length sets ≤ n
-    → step1 load (placed nodes sets) a ≡ (cyclic (node_edge load nodes sets) (below n) && not (only (node_edge load nodes sets) (below n) (at nodes a)))
-step1-nodes {load} {nodes} {sets} o p a n l wide =
-    ap₂ (λ c t. c && not t) (sym (cyclic-nodes o p n wide))
-    (ap (λ X. only (edge load (placed nodes sets)) (placed nodes sets) X) (placed_at nodes sets a (omega (arith, p.atoms))) ∙ sym (only-nodes o p n wide (at nodes a) (p.inside a l)))

@@ -1,5 +1,5 @@
 -- For the code: a set registered at a node without an atom changes no placement and no slot. Assumes nothing.
-use Rattle.std.specs.Prelude.{ℕ, ◌+◌, ◌-◌, ◌^◌, ◌≤◌, ◌<◌, ◌≡◌, Bool, true, false, List, ltb, eqb}
+use Rattle.std.specs.Prelude.{ℕ, ◌+◌, ◌-◌, ◌^◌, ◌≤◌, ◌<◌, ◌≡◌, false, List, ltb, eqb}
 use Rattle.std.proofs.Common.{arith, subst, ◌∙◌, true≢false, ext_get_or, ne_eqb}
 use Rattle.std.proofs.Math.Decide.{ℕ_discrete, dec_lt}
 use Rattle.std.proofs.Math.Path.{refl, sym, ap}
@@ -10,9 +10,9 @@ use Rattle.graphs.specs.Lists.{has}
 use Rattle.graphs.specs.Tab.{tab_alike}
 use Rattle.move_ledger.specs.Graph.{Load, none, at, owner, members, occupied}
 use Rattle.move_ledger.specs.GraphLaws.{occupy}
-use Rattle.move_ledger.specs.Ledger.{put, free_place, register}
+use Rattle.move_ledger.specs.Ledger.{put}
 use Rattle.move_ledger.specs.Places.{Apart, put_grows, put-inside, put_behind, put_other, put_apart}
-use Rattle.move_ledger.specs.Evict.{Free, place-free, Registered, registered, register-old, register-new}
+use Rattle.move_ledger.specs.Evict.{Free}
 use Rattle.move_ledger.specs.Nodes.{placed, Placing, highest, fronts, front, face_source, face_target, source, target, sources, targets}
 use Rattle.move_ledger.specs.NodeLaws.{placed-length, placed_at, members-nodes, highest-more, highest_ext}
 
@@ -100,27 +100,3 @@ pub record Kept (load : Load) (N : ℕ) (nodes sets sets' : List ℕ) : Type 0 w
   pub placed : placed nodes sets' ≡ placed nodes sets
   pub sources : sources load nodes sets' ≡ sources load nodes sets
   pub targets : targets load nodes sets' ≡ targets load nodes sets
-
-pub register-kept : {load : Load} {N : ℕ} {nodes sets : List ℕ} → Placing load nodes sets → length sets ≤ N → load.A < N → N ≤ none → (T : ℕ)
-    → Kept load N nodes sets (register load N (placed nodes sets) T sets)
-register-kept {load} {N} {nodes} {sets} p few more small T = go (has T sets) refl
-  where
-    r : ℕ
-    r = free_place load N (placed nodes sets) sets
-
-    w : Registered N T sets (register load N (placed nodes sets) T sets)
-    w = registered load N (placed nodes sets) sets (placing_apart p) few more T
-
-    go : (t : Bool) → has T sets ≡ t → Kept load N nodes sets (register load N (placed nodes sets) T sets)
-    go true q = rw (register-old load N (placed nodes sets) T sets q) (record { placing = p; placed = refl; sources = refl; targets = refl })
-    go false q =
-        let f = place-free load N (placed nodes sets) sets (placing_apart p) few more in
-        let e = free_node p N r f in
-        let z = register-new load N (placed nodes sets) T sets q in
-        rw z
-        (record {
-          placing = placing_put p r T f.within e q (omega (arith, w.few, ap length z));
-          placed = placed-put p r T f.within e;
-          sources = sources-put p r T f.within e;
-          targets = targets-put p r T f.within e;
-        })

@@ -9,18 +9,14 @@ use Rattle.std.proofs.Math.ListN.{length}
 use borrow.Author.Tests.{eq-eqb, ne_eqb, lt-ltb, le-ltb}
 use Rattle.graphs.specs.Count.{ind, count, count_ext, count-all_no, count_pos, count_add}
 use Rattle.graphs.specs.Total.{total, total-same, total_change, count-total}
-use Rattle.graphs.specs.Lists.{has, has-place}
 use Rattle.graphs.specs.Tab.{tab, tab-at}
 use Rattle.graphs.specs.Slots.{flat, slot_edge}
 use Rattle.graphs.specs.SlotLaws.{flat-mult}
-use Rattle.move_ledger.specs.Graph.{Load, at, members, occupied, mult, edge, rising, edges, sum}
-use Rattle.move_ledger.specs.GraphLaws.{occupy, edge-source, edge-target}
+use Rattle.move_ledger.specs.Graph.{Load, at, members, occupied, rising, sum}
 use Rattle.move_ledger.specs.LoadLaws.{InOrder}
-use Rattle.move_ledger.specs.Nodes.{placed, Placing, sources, targets, node_mult, node_edge}
-use Rattle.move_ledger.specs.NodeLaws.{placed-length, members-nodes}
-use Rattle.move_ledger.specs.NodeWalks.{mult-nodes, mult-outside, ends-nodes}
-use Rattle.move_ledger.specs.Edges.{row-length, rows-length}
-use Rattle.move_ledger.specs.Chunks.{sum-total, chunk_sum, rows-total, pair_sum}
+use Rattle.move_ledger.specs.Nodes.{placed, Placing, sources, targets, node_edge}
+use Rattle.move_ledger.specs.NodeWalks.{ends-nodes}
+use Rattle.move_ledger.specs.Chunks.{chunk_sum, rows-total}
 
 -- how many of n nodes have an atom
 unfoldable pub busy_nodes : Load → List ℕ → ℕ → ℕ
@@ -39,66 +35,16 @@ one_or_none : (t : Bool) → cond t 1 0 ≡ ind t
 one_or_none true = refl
 one_or_none false = refl
 
-nothing : (t : Bool) → ◌≡◌ {A = ℕ} (cond t 0 0) 0
-nothing true = refl
-nothing false = refl
-
 -- "the number of occupied sets" is that of the nodes that have an atom
 pub chunk_count-nodes : {load : Load} {nodes sets : List ℕ} → Placing load nodes sets → (n : ℕ) → length sets ≤ n → length (rising (placed nodes sets)) ≡ busy_nodes load nodes n
 unfolding busy_nodes
 chunk_count-nodes {load} {nodes} {sets} p n few =
     sym (sum_ones (rising (placed nodes sets))) ∙ chunk_sum p (λ X. 1) n few ∙ total-same _ _ n (λ x b. one_or_none (occupied load nodes x)) ∙ sym (count-total (occupied load nodes) n)
 
--- a row's length and the number of edges, added up over the sets
-edges-sum : (load : Load) (place : List ℕ) → length (edges load place) ≡ sum (λ X. sum (λ Y. ind (edge load place X Y)) (rising place)) (rising place)
-unfolding edges
-edges-sum load place =
-    rows-length load place (rising place) (rising place)
-    ∙ total-same _ _ (length (rising place)) (λ i b.
-    row-length load place (at (rising place) i) (rising place) ∙ count-total _ (length (rising place)) ∙ sym (sum-total (λ Y. ind (edge load place (at (rising place) i) Y)) (rising place)))
-    ∙ sym (sum-total (λ X. sum (λ Y. ind (edge load place X Y)) (rising place)) (rising place))
-
 -- the number "of distinct edges" is that of the cells that aren't 0
 module _ {load : Load} {nodes sets : List ℕ} (o : InOrder load) (p : Placing load nodes sets) (n : ℕ) (few : length sets ≤ n) where
-  abbrev place : List ℕ
-  place = placed nodes sets
-
-  abbrev m : ℕ
+  abbrev pub m : ℕ
   m = load.D + load.E
-
-  busy : (z : ℕ) → z < length sets → has (at sets z) place ≡ true → occupied load nodes z ≡ true
-  busy z c h =
-      let r = has-place (at sets z) place h in
-      ap (ltb 0) (members-nodes p z c) ∙ occupy load place (at sets z) r.0 (omega (arith, r.1, placed-length nodes sets, p.atoms)) r.2
-
-  free : (x : ℕ) → (x < length sets → ⊥) → occupied load nodes x ≡ false
-  unfolding members
-  free x h = ap (ltb 0) (count-all_no (λ i. eqb (at nodes i) x) load.A (λ i c. ne_eqb (at nodes i) x (λ e. h (subst (λ k. k < length sets) e (p.inside i c)))))
-
-  one : (x y : ℕ) → cond (occupied load nodes x) (cond (occupied load nodes y) (ind (edge load place (at sets x) (at sets y))) 0) 0 ≡ ind (ltb 0 (node_mult load nodes sets x y))
-  unfolding edge
-  one x y = go (dec_lt x (length sets)) (dec_lt y (length sets))
-    where
-      go : Dec (x < length sets) → Dec (y < length sets)
-          → cond (occupied load nodes x) (cond (occupied load nodes y) (ind (edge load place (at sets x) (at sets y))) 0) 0 ≡ ind (ltb 0 (node_mult load nodes sets x y))
-      go (yes a) (yes b) = rw (mult-nodes o p x y a b) (by (ltb 0 (mult load place (at sets x) (at sets y))) refl)
-        where
-          long : length place ≡ load.A
-          long = placed-length nodes sets ∙ p.atoms
-
-          by : (t : Bool) → ltb 0 (mult load place (at sets x) (at sets y)) ≡ t → cond (occupied load nodes x) (cond (occupied load nodes y) (ind t) 0) 0 ≡ ind t
-          by true e = rw (busy x a (edge-source load place long (at sets x) (at sets y) e), busy y b (edge-target load place long (at sets x) (at sets y) e)) refl
-          by false e = ap (λ k. cond (occupied load nodes x) k 0) (nothing (occupied load nodes y)) ∙ nothing (occupied load nodes x)
-      go (yes a) (no b) = rw (free y b, mult-outside o p x y (λ c d. b d)) (nothing (occupied load nodes x))
-      go (no a) b = rw (free x a, mult-outside o p x y (λ c d. a c)) refl
-
-  pub edge-count_cells : length (edges load place) ≡ filled_cells (sources load nodes sets) (targets load nodes sets) n m
-  unfolding filled_cells
-  edge-count_cells =
-      edges-sum load place
-      ∙ pair_sum p (λ X Y. ind (edge load place X Y)) (λ i. ind (ltb 0 (flat (sources load nodes sets) (targets load nodes sets) n m i))) n few
-      (λ x y hx hy. one x y ∙ ap (λ k. ind (ltb 0 k)) (sym (flat-mult _ _ n m x y (ends-nodes o p n few (omega arith)) hy)))
-      ∙ sym (count-total (λ i. ltb 0 (flat (sources load nodes sets) (targets load nodes sets) n m i)) (n * n))
 
   -- and the sum of how many nodes each node has an edge to
   pub degrees_cells : (f : ℕ → ℕ) → ((x : ℕ) → x < n → f x ≡ count (node_edge load nodes sets x) n) → total f n ≡ filled_cells (sources load nodes sets) (targets load nodes sets) n m

@@ -14,7 +14,7 @@ use Rattle.set_order.specs.Order.{Distinct}
 use Rattle.equal_sets.specs.Laid.{nth_set, repeats}
 use Rattle.move_ledger.specs.Graph.{Load, lent}
 use Rattle.move_ledger.specs.Loading.{row1, row7, row8, first_row, loading_row}
-use Rattle.move_ledger.specs.LoadLaws.{first_row-none}
+use Rattle.move_ledger.proofs.LoadLaws.{first_row-none}
 use Rattle.move_load_rows.specs.EntrySets.{too_high, met, alike_sets, set_row, CanSet, CanSets}
 use Rattle.move_load_rows.proofs.Rows.{limits}
 

@@ -20,7 +20,7 @@ use Rattle.move_ledger.specs.Loading.{entry_sets}
 use Rattle.move_ledger.specs.LoadLaws.{Loadable-sets, entry_sets-length}
 use Rattle.move_ledger.specs.Nodes.{sources, targets, node_edge}
 use Rattle.move_ledger.specs.NodeMoves.{placed_first, placing_first}
-use Rattle.move_ledger.specs.NodeWalks.{cyclic-nodes}
+use Rattle.move_ledger.proofs.NodeWalks.{cyclic-nodes}
 use Rattle.move_ledger.specs.Totals.{filled_cells, busy-first}
 use Rattle.move_area.specs.Bodies.{lane_at, Header, Bodies, write, Sized}
 use Rattle.move_area.specs.BodyLaws.{set_header, renew_edges, renew_counts, renew_component, renew_header}

@@ -7,7 +7,7 @@ use Rattle.graphs.specs.Lists.{has, any_give, any-take}
 use Rattle.graphs.specs.Walk.{Walk, one, more, via}
 use Rattle.graphs.specs.Walks.{join, via_walk}
 use Rattle.move_ledger.specs.Graph.{Load, edge, insert, rising}
-use Rattle.move_ledger.specs.GraphLaws.{edge-source, edge-target}
+use Rattle.move_ledger.proofs.GraphLaws.{edge-source, edge-target}
 use Rattle.move_order.specs.Order.{holds, wanted}
 
 -- a rising list of sets is no longer than the list

@@ -16,8 +16,10 @@ use Rattle.move_ledger.specs.Graph.{Load, at, members, mult, rising, edges}
 use Rattle.move_ledger.specs.LoadLaws.{InOrder}
 use Rattle.move_ledger.specs.Nodes.{placed, Placing, node_edge, node_mult}
 use Rattle.move_ledger.specs.NodeLaws.{members-nodes}
-use Rattle.move_ledger.specs.NodeWalks.{ends-nodes, mult-nodes, members_unseen, mult_unseen}
-use Rattle.move_ledger.specs.Totals.{chunk_count-nodes, edge-count_cells, above_none}
+use Rattle.move_ledger.specs.NodeWalks.{ends-nodes, members_unseen}
+use Rattle.move_ledger.proofs.NodeWalks.{mult-nodes, mult_unseen}
+use Rattle.move_ledger.specs.Totals.{chunk_count-nodes, above_none}
+use Rattle.move_ledger.proofs.Totals.{edge-count_cells}
 use Rattle.move_area.specs.Area.{sets_in, decode}
 use Rattle.move_area.specs.Bodies.{lane_at}
 use Rattle.move_area.specs.Checked.{nodes_in, sets-length, sets-at, ranged_placing}

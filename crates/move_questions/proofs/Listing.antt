@@ -16,7 +16,8 @@ use Rattle.move_ledger.specs.Graph.{Load, Edge, at, edges}
 use Rattle.move_ledger.specs.Answer as answer
 use Rattle.move_ledger.specs.Ledger.{kth}
 use Rattle.move_ledger.specs.Nodes.{node_edge, node_mult}
-use Rattle.move_ledger.specs.NodeListing.{Sorted, in_row, in_rows, edge-at-nodes, edge_past_nodes}
+use Rattle.move_ledger.specs.NodeListing.{Sorted, in_row, in_rows}
+use Rattle.move_ledger.proofs.NodeListing.{edge-at-nodes, edge_past_nodes}
 use Rattle.move_area.specs.Area.{sets_in, decode}
 use Rattle.move_area.specs.Checked.{nodes_in}
 use Rattle.set_order.specs.Order.{lane_set, Ordered, order_inside}

@@ -4,7 +4,7 @@ use Rattle.std.proofs.Common.{arith, sym, subst, ◌∙◌}
 use Rattle.graphs.specs.Bools.{and_both}
 use Rattle.move_ledger.specs.Graph.{Load}
 use Rattle.move_ledger.specs.Loading.{refusal}
-use Rattle.move_ledger.specs.LoadLaws.{refusal-none, refusal-marks}
+use Rattle.move_ledger.proofs.LoadLaws.{refusal-none, refusal-marks}
 use Rattle.move_area.specs.Area.{consistent}
 use Rattle.move_area.specs.Fixed.{flagged}
 use Rattle.move_fixed.specs.Flags.{atoms, CanKeep, flagged-atoms}

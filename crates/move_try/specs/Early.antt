@@ -12,11 +12,12 @@ use Rattle.entry_set.specs.Lanes.{lanes}
 use Rattle.move_ledger.specs.Graph.{Load, at, members, occupied}
 use Rattle.move_ledger.specs.Ledger.{index, smallest_empty, free_place, register, step1}
 use Rattle.move_ledger.specs.Places.{Apart, index-has, put-there, put_same}
-use Rattle.move_ledger.specs.Evict.{Smallest, smallest, some_empty, place-free, register-old, register-new, registered}
+use Rattle.move_ledger.specs.Evict.{Smallest, smallest, some_empty, place-free, register-old, register-new}
+use Rattle.move_ledger.proofs.Evict.{registered}
 use Rattle.move_ledger.specs.Nodes.{placed, node_edge}
 use Rattle.move_ledger.specs.NodeLaws.{members-nodes}
 use Rattle.move_ledger.specs.NodePlaces.{placing_apart}
-use Rattle.move_ledger.specs.NodeMoves.{step1-nodes}
+use Rattle.move_ledger.proofs.NodeMoves.{step1-nodes}
 use Rattle.set_order.specs.Order.{lane_set, First}
 use Rattle.move_places.specs.Least.{empty, Least}
 use Rattle.move_area.specs.Bodies.{lane_at, atom_at}

@@ -19,14 +19,19 @@ use Rattle.move_ledger.specs.Answer.{Report, accepted, rejected, is_refused, is_
 use Rattle.move_ledger.specs.Ledger.{Ledger, put, free_place, register, step1, step2, step3, stays, report, decide, move}
 use Rattle.move_ledger.specs.Evict.{place-free, register-old, register-new}
 use Rattle.move_ledger.specs.Evict as evict
-use Rattle.move_ledger.specs.MoveLaws.{Passed, decide-late, decide_unrefused, tried-after}
+use Rattle.move_ledger.proofs.Evict as evict_laws
+use Rattle.move_ledger.specs.MoveLaws.{Passed, tried-after}
+use Rattle.move_ledger.proofs.MoveLaws.{decide-late, decide_unrefused}
 use Rattle.move_ledger.specs.LoadLaws.{InOrder}
-use Rattle.move_ledger.specs.Gained.{gained_cells}
-use Rattle.move_ledger.specs.Reach.{reach-nodes}
+use Rattle.move_ledger.proofs.Gained.{gained_cells}
+use Rattle.move_ledger.proofs.Reach.{reach-nodes}
 use Rattle.move_ledger.specs.Nodes.{placed, Placing, sources, targets, node_edge}
-use Rattle.move_ledger.specs.NodeWalks.{cyclic-nodes, edge-inside}
-use Rattle.move_ledger.specs.NodePlaces.{placing_apart, free_node, Kept, register-kept}
-use Rattle.move_ledger.specs.NodeMoves.{placing_set, placed-moved, moved-cyclic, moved_reaches}
+use Rattle.move_ledger.specs.NodeWalks.{edge-inside}
+use Rattle.move_ledger.proofs.NodeWalks.{cyclic-nodes}
+use Rattle.move_ledger.specs.NodePlaces.{placing_apart, free_node, Kept}
+use Rattle.move_ledger.proofs.NodePlaces.{register-kept}
+use Rattle.move_ledger.specs.NodeMoves.{placing_set, placed-moved}
+use Rattle.move_ledger.proofs.NodeMoves.{moved-cyclic, moved_reaches}
 use Rattle.move_edges.specs.Steps.{fresh}
 use Rattle.move_area.specs.Area.{State}
 use Rattle.move_area.specs.Calls.{last, next, marks_for, walked, after}
@@ -120,7 +125,7 @@ module _ {load : Load} {N : ℕ} {s : Nodes} {a T y : ℕ} (v : Trial load N s a
   kept = register-kept v.placing v.few v.more (omega (arith, v.small)) T
 
   wide : length sets' ≤ N
-  wide = (evict.registered load N place s.sets (placing_apart v.placing) v.few v.more T).few
+  wide = (evict_laws.registered load N place s.sets (placing_apart v.placing) v.few v.more T).few
 
   reached : (x : ℕ) → (ltb x (length sets') && via (edge load (set place a T)) (set place a T) T (at sets' x)) ≡ via E (below N) y x
   reached x = go (dec_lt x (length sets'))

@@ -19,10 +19,12 @@ use Rattle.move_ledger.specs.Graph.{Load, at, members, occupied}
 use Rattle.move_ledger.specs.Answer.{Answer, accepted, rejected, is_accepted}
 use Rattle.move_ledger.specs.LoadLaws.{Loadable}
 use Rattle.move_ledger.specs.Nodes.{Placing, sources, targets, node_edge}
-use Rattle.move_ledger.specs.NodeMoves.{placing_set, moved-cyclic, moved_decides}
+use Rattle.move_ledger.specs.NodeMoves.{placing_set}
+use Rattle.move_ledger.proofs.NodeMoves.{moved-cyclic, moved_decides}
 use Rattle.move_slots.specs.SlotLaws.{Slotted, slotted_edge, slotted_ends, slotted_flat}
 use Rattle.move_ledger.specs.Totals.{busy_nodes, filled_cells, busy-moved}
-use Rattle.move_ledger.specs.NodeWalks.{cyclic-nodes, ends-nodes}
+use Rattle.move_ledger.specs.NodeWalks.{ends-nodes}
+use Rattle.move_ledger.proofs.NodeWalks.{cyclic-nodes}
 use Rattle.move_area.specs.Bodies.{lane_at, atom_at}
 use Rattle.move_area.specs.Area.{sets_in}
 use Rattle.move_area.specs.Checked.{nodes_in, nodes_state}

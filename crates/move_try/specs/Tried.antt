@@ -16,7 +16,8 @@ use Rattle.move_ledger.specs.Places.{put-inside, put_behind}
 use Rattle.move_ledger.specs.Evict.{Free, place-free}
 use Rattle.move_ledger.specs.LoadLaws.{Loadable}
 use Rattle.move_ledger.specs.Nodes.{placed, node_edge}
-use Rattle.move_ledger.specs.NodePlaces.{placing_apart, Kept, register-kept}
+use Rattle.move_ledger.specs.NodePlaces.{placing_apart, Kept}
+use Rattle.move_ledger.proofs.NodePlaces.{register-kept}
 use Rattle.set_order.specs.Order.{lane_set, First}
 use Rattle.set_order.specs.Steps.{CanFind}
 use Rattle.move_area.specs.Bodies.{lane_at, atom_at, write}

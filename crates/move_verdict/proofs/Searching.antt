@@ -13,7 +13,7 @@ use Rattle.graph_neighbours.specs.Steps.{CanGroup, Grouped}
 use Rattle.graph_slots.specs.Asked.{Slots, ListRoom, SlotLists}
 use Rattle.graph_slots.specs.Listing.{group_can, slot-lists}
 use Rattle.move_ledger.specs.Graph.{Load}
-use Rattle.move_ledger.specs.NodeWalks.{cyclic-nodes}
+use Rattle.move_ledger.proofs.NodeWalks.{cyclic-nodes}
 use Rattle.move_area.specs.Area.{sets_in, decode}
 use Rattle.move_area.specs.Checked.{nodes_in, sets-length, ranged_placing}
 use Rattle.move_slots.specs.Counted.{slot_count, Counted, counted-ends, counted_le, counted-cyclic}

@@ -5,7 +5,8 @@ use Rattle.std.proofs.Math.Path.{sym, ap, subst}
 use Rattle.std.proofs.Math.Bool.{cond}
 use Rattle.move_ledger.specs.Graph.{Load, at, rising}
 use Rattle.move_ledger.specs.Answer.{is_accepted}
-use Rattle.move_ledger.specs.LoadLaws.{Loadable, refusal-none, refusal-marks}
+use Rattle.move_ledger.specs.LoadLaws.{Loadable}
+use Rattle.move_ledger.proofs.LoadLaws.{refusal-none, refusal-marks}
 use Rattle.move_ledger.specs.NodeLaws.{placed-length, placed_at}
 use Rattle.move_area.specs.Area.{sets_in, decode}
 use Rattle.move_area.specs.Bodies.{atom_at}

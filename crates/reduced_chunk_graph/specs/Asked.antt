@@ -16,7 +16,8 @@ use Rattle.move_ledger.specs.Graph.{Load, at, members, mult, rising, edge, edges
 use Rattle.move_ledger.specs.Answer.{Answer, refused}
 use Rattle.move_ledger.specs.Answer as answer
 use Rattle.move_ledger.specs.Ledger.{Question, atom_set, atom_count, multiplicity, edge_count, chunk_count, edge_at, has_cycle, kth, ask}
-use Rattle.move_ledger.specs.LoadLaws.{Loadable, refusal-none}
+use Rattle.move_ledger.specs.LoadLaws.{Loadable}
+use Rattle.move_ledger.proofs.LoadLaws.{refusal-none}
 use Rattle.move_ledger.specs.NodeLaws.{placed_at}
 use Rattle.move_area.specs.Area.{sets_in, decode}
 use Rattle.move_area.specs.Bodies.{lane_at, atom_at}

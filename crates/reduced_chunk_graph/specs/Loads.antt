@@ -5,7 +5,7 @@ use Rattle.std.proofs.Common.{◌∙◌, arith}
 use Rattle.std.proofs.Math.ListN.{length}
 use Rattle.move_ledger.specs.Graph.{Load}
 use Rattle.move_ledger.specs.Loading.{loading_row}
-use Rattle.move_ledger.specs.LoadLaws.{refusal-marks, loading_row-none, loading_row-later}
+use Rattle.move_ledger.proofs.LoadLaws.{refusal-marks, loading_row-none, loading_row-later}
 use Rattle.move_area.specs.BodyLaws.{write_long}
 use Rattle.move_area.specs.Area.{bodies, encode}
 use Rattle.move_area.specs.Fixed.{flag}

@@ -12,7 +12,7 @@ use Rattle.entry_set.specs.Lanes.{lanes}
 use Rattle.move_ledger.specs.Graph.{Load, at}
 use Rattle.move_ledger.specs.Answer.{Answer, refused, is_refused}
 use Rattle.move_ledger.specs.Ledger.{decide, move}
-use Rattle.move_ledger.specs.LoadLaws.{refusal-none, refusal-marks}
+use Rattle.move_ledger.proofs.LoadLaws.{refusal-none, refusal-marks}
 use Rattle.move_ledger.specs.NodeLaws.{placed_at}
 use Rattle.move_area.specs.Bodies.{lane_at, atom_at}
 use Rattle.move_area.specs.Area.{State, encode, decode, sets_in}

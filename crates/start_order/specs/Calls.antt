@@ -14,7 +14,7 @@ use Rattle.layout.specs.Patch.{patch}
 use Rattle.move_ledger.specs.Graph.{Load, at, edge}
 use Rattle.move_ledger.specs.Answer.{Answer, refused, is_refused}
 use Rattle.move_ledger.specs.Answer as answer
-use Rattle.move_ledger.specs.NodeWalks.{cyclic-nodes}
+use Rattle.move_ledger.proofs.NodeWalks.{cyclic-nodes}
 use Rattle.move_area.specs.Area.{sets_in, decode}
 use Rattle.move_questions.specs.Answers.{place_in, Checked, Listable}
 use Rattle.move_rows.specs.Later.{turned-back, goes_on}

@@ -9,7 +9,7 @@ use Rattle.graph_neighbours.specs.Lists.{deg, nb, edge, Graph, listed}
 use Rattle.graph_walks.specs.Spread.{met, stk, every, Spread, HandsOn, Done}
 use Rattle.move_ledger.specs.Graph.{Load, at}
 use Rattle.move_ledger.specs.Graph as graph
-use Rattle.move_ledger.specs.GraphLaws.{edge-target}
+use Rattle.move_ledger.proofs.GraphLaws.{edge-target}
 use Rattle.move_ledger.specs.Nodes.{node_edge}
 use Rattle.move_area.specs.Area.{sets_in}
 use Rattle.move_area.specs.Checked.{nodes_in}

@@ -11,12 +11,13 @@ use Rattle.graphs.specs.Square.{index_lt}
 use Rattle.entry_set.specs.Lanes.{lanes}
 use Rattle.set_order.specs.Order.{lane_set, order_inside, order_place}
 use Rattle.move_ledger.specs.Graph.{Load, at, edge, rising}
-use Rattle.move_ledger.specs.GraphLaws.{edge-target}
+use Rattle.move_ledger.proofs.GraphLaws.{edge-target}
 use Rattle.move_ledger.specs.Listing.{rising-rising, has-rising}
 use Rattle.move_ledger.specs.LoadLaws.{InOrder}
 use Rattle.move_ledger.specs.Nodes.{Placing, node_edge}
 use Rattle.move_ledger.specs.NodeLaws.{placed-length, placed_at}
-use Rattle.move_ledger.specs.NodeWalks.{ends-nodes, mult-nodes, edge-inside}
+use Rattle.move_ledger.specs.NodeWalks.{ends-nodes, edge-inside}
+use Rattle.move_ledger.proofs.NodeWalks.{mult-nodes}
 use Rattle.move_area.specs.Area.{sets_in, decode}
 use Rattle.move_area.specs.Bodies.{lane_at}
 use Rattle.move_area.specs.Checked.{nodes_in, sets-length, sets-at, ranged_placing}

@@ -1,4 +1,6 @@
 // The start order for a desk: the chunks to fetch for one entry bit, each behind all that it depends on.
+#![tactic(auto)]
+
 mod atoms;
 mod fetch;
 mod turns;

@@ -1,8 +1,5 @@
 use native.Mathlib.Omega.{arith}
-use Prim.Native.Nat.{◌-◌}
-use mathlib.Core.Path.{◌≡◌}
-use Rattle.merge_area.specs.Layout.{cell, head}
-use Rattle.merge_pass.specs.Going.{Going, going_none, going_can, going_more, going_length, going_kinds, going_numbers, going_done}
+use Rattle.merge_pass.specs.Going.{going_none, going_can, going_more, going_length, going_kinds, going_numbers, going_done}
 use Rattle.merge_pass.proofs.commit.Goals as goal
 
 pub header-made-requires : goal.header-made-requires

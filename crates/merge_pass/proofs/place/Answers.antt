@@ -2,7 +2,6 @@ use native.Mathlib.Omega.{arith}
 use mathlib.Core.Path.{refl, sym, ◌∙◌}
 use Rattle.merge_reads.specs.Pass.{proposed, place-merge}
 use Rattle.merge_pass.specs.Placing.{placed-merged, placed_created}
-use borrow.Author.Rules.{rules}
 use Rattle.merge_pass.proofs.place.Goals as goal
 
 pub merge-requires : goal.merge-requires

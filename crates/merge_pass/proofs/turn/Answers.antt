@@ -1,9 +1,7 @@
 -- `merge_pass::turn` meets its contract. Assumes nothing.
 use Rattle.merge_pass.specs.Placing.{can_answer, turn-none, turn-place, turn-done}
-use borrow.Author.Tests.{not-true, not-false}
 use mathlib.Core.Path.{sym, ◌∙◌}
 use native.Mathlib.Omega.{arith}
-use borrow.Author.Rules.{rules}
 use Rattle.merge_pass.proofs.turn.Goals as goal
 
 pub returns-then-not-is_waiting : goal.returns-then-not-is_waiting

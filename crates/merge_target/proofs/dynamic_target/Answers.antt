@@ -1,5 +1,6 @@
 -- `merge_target::dynamic_target` meets its contract. Assumes nothing.
-use Rattle.merge_choice.specs.Chosen.{can_first, can_pollute, found_below, dynamic-none, dynamic-polluted, dynamic-found}
+use Rattle.merge_choice.specs.Chosen.{can_first, can_pollute}
+use Rattle.merge_choice.proofs.Chosen.{found_below, dynamic-none, dynamic-polluted, dynamic-found}
 use borrow.Author.Rules.{rules}
 use Rattle.merge_target.proofs.dynamic_target.Goals as goal
 

@@ -1,5 +1,6 @@
 -- `merge_target::user_target` meets its contract. Assumes nothing.
-use Rattle.merge_choice.specs.Chosen.{can_first, can_reach, can_leak, can_stray, found_below, user_none, user_unreached, user_leaks, user_strays, user_found}
+use Rattle.merge_choice.specs.Chosen.{can_first, can_reach, can_leak, can_stray, user_none, user_unreached, user_leaks, user_strays, user_found}
+use Rattle.merge_choice.proofs.Chosen.{found_below}
 use native.Mathlib.Omega.{arith}
 use borrow.Author.Rules.{rules}
 use Rattle.merge_target.proofs.user_target.Goals as goal

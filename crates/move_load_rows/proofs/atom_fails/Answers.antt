@@ -1,6 +1,5 @@
 -- `move_load_rows::atom_fails` meets its contract. Assumes nothing.
 use native.Mathlib.Omega.{arith}
-use borrow.Author.Rules.{rules}
 use Rattle.move_load_rows.proofs.atom_fails.Goals as goal
 
 pub span_fails-requires : goal.span_fails-requires

@@ -1,12 +1,11 @@
 -- `move_load_rows::bad_dependencies` meets its contract. Assumes nothing.
 use mathlib.Core.Bool.{false}
 use Prim.Native.Nat.{◌-◌, ◌≤◌}
-use native.Mathlib.Omega.{arith}
-use mathlib.Core.Path.{◌≡◌, sym, ◌∙◌}
+use mathlib.Core.Path.{◌≡◌}
 use lib.ListN.{get_or}
 use Rattle.graphs.specs.Lists.{some_below}
 use Rattle.move_load_rows.specs.Checks.{spans}
-use Rattle.move_load_rows.proofs.Spans.{wrong, span-first, span_hit, span_more, span-done, span_can}
+use Rattle.move_load_rows.proofs.Spans.{wrong}
 use Rattle.move_load_rows.proofs.bad_dependencies.Given as goal
 
 abbrev pub invariant-loop-atom : goal.invariant-loop-atom

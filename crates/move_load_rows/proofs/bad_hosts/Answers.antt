@@ -1,12 +1,8 @@
 -- `move_load_rows::bad_hosts` meets its contract. Assumes nothing.
-use mathlib.Core.Bool.{false}
-use Prim.Native.Nat.{◌-◌, ◌≤◌}
 use native.Mathlib.Omega.{arith}
-use mathlib.Core.Path.{◌≡◌, sym, ◌∙◌}
-use lib.ListN.{length, get_or}
-use borrow.Author.Rules.{rules}
-use Rattle.graphs.specs.Lists.{some_below, some_zero, none_more, none_left, some_found}
-use Rattle.move_load_rows.specs.Checks.{no_host, bad_hosts}
+use mathlib.Core.Path.{sym, ◌∙◌}
+use Rattle.graphs.specs.Lists.{some_zero, none_more, none_left, some_found}
+use Rattle.move_load_rows.specs.Checks.{bad_hosts}
 use Rattle.move_load_rows.proofs.bad_hosts.Goals as goal
 
 pub loop-k-init : goal.loop-k-init

@@ -1,12 +1,10 @@
 -- `move_load_rows::bad_hosts` meets its contract. Assumes nothing.
 use mathlib.Core.Bool.{false}
 use Prim.Native.Nat.{◌-◌, ◌≤◌}
-use native.Mathlib.Omega.{arith}
-use mathlib.Core.Path.{◌≡◌, sym, ◌∙◌}
+use mathlib.Core.Path.{◌≡◌}
 use lib.ListN.{length, get_or}
-use borrow.Author.Rules.{rules}
-use Rattle.graphs.specs.Lists.{some_below, some_zero, none_more, none_left, some_found}
-use Rattle.move_load_rows.specs.Checks.{no_host, bad_hosts}
+use Rattle.graphs.specs.Lists.{some_below}
+use Rattle.move_load_rows.specs.Checks.{no_host}
 use Rattle.move_load_rows.proofs.bad_hosts.Given as goal
 
 abbrev pub invariant-loop-k : goal.invariant-loop-k

@@ -4,7 +4,6 @@ use mathlib.Core.Path.{refl, sym, ◌∙◌}
 use lib.ListN.{get_or}
 use borrow.Author.Tests.{eq-eqb, ne_eqb}
 use Rattle.move_load_rows.specs.Checks.{bad_starts}
-use borrow.Author.Rules.{rules}
 use Rattle.move_load_rows.proofs.bad_starts.Goals as goal
 
 pub returns-then-starts-ne0 : goal.returns-then-starts-ne0

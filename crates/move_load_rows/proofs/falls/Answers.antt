@@ -1,12 +1,9 @@
 -- `move_load_rows::falls` meets its contract. Assumes nothing.
-use mathlib.Core.Bool.{false}
-use mathlib.Core.Path.{◌≡◌}
 use borrow.Author.Tests.{lt-ltb, le-ltb}
-use Prim.Native.Nat.{◌-◌, ◌≤◌}
 use native.Mathlib.Omega.{arith}
 use native.Mathlib.Numerals.{add-one}
-use Rattle.graphs.specs.Lists.{some_below, some_zero, none_more, none_left, some_found}
-use Rattle.move_load_rows.specs.Checks.{drops, falling}
+use Rattle.graphs.specs.Lists.{some_zero, none_more, none_left, some_found}
+use Rattle.move_load_rows.specs.Checks.{falling}
 use Rattle.move_load_rows.proofs.falls.Goals as goal
 
 pub loop-k-init : goal.loop-k-init

@@ -1,7 +1,6 @@
 -- `move_load_rows::list_refusal` meets its contract. Assumes nothing.
 use mathlib.Core.Path.{refl, sym, ◌∙◌}
 use Rattle.move_load_rows.proofs.Rows.{list_is, can_own}
-use borrow.Author.Rules.{rules}
 use Rattle.move_load_rows.proofs.list_refusal.Goals as goal
 
 pub returns-then-bad_starts : goal.returns-then-bad_starts

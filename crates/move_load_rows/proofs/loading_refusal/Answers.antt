@@ -1,7 +1,6 @@
 -- `move_load_rows::loading_refusal` meets its contract. Assumes nothing.
 use native.Mathlib.Omega.{arith}
 use Rattle.move_load_rows.proofs.SetLaws.{loading-early, loading-late, loading_can}
-use borrow.Author.Rules.{rules}
 use Rattle.move_load_rows.proofs.loading_refusal.Goals as goal
 
 pub returns-then-row-ne0 : goal.returns-then-row-ne0

@@ -2,7 +2,6 @@
 use native.Mathlib.Omega.{arith}
 use mathlib.Core.Path.{refl}
 use borrow.Author.Tests.{le-leb, lt-leb}
-use borrow.Author.Rules.{rules}
 use Rattle.move_load_rows.proofs.not_another.Goals as goal
 
 pub returns-then-a-other : goal.returns-then-a-other

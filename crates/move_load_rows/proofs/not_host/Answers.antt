@@ -1,7 +1,6 @@
 -- `move_load_rows::not_host` meets its contract. Assumes nothing.
 use mathlib.Core.Path.{refl}
 use borrow.Author.Tests.{eq-eqb, ne_eqb}
-use borrow.Author.Rules.{rules}
 use Rattle.move_load_rows.proofs.not_host.Goals as goal
 
 pub returns-then-x-eq4294967295 : goal.returns-then-x-eq4294967295

@@ -1,8 +1,6 @@
 -- `move_load_rows::refusal` meets its contract. Assumes nothing.
 use mathlib.Core.Path.{refl, sym, ◌∙◌}
-use borrow.Author.Tests.{not-true, not-false}
 use Rattle.move_load_rows.proofs.Rows.{limits, lengths, first_is}
-use borrow.Author.Rules.{rules}
 use Rattle.move_load_rows.proofs.refusal.Goals as goal
 
 pub returns-then-over_limits : goal.returns-then-over_limits

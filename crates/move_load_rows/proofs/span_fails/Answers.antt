@@ -1,14 +1,9 @@
 -- `move_load_rows::span_fails` meets its contract. Assumes nothing.
-use Prim.Native.Nat.{◌-◌, ◌≤◌}
 use native.Mathlib.Omega.{arith}
-use mathlib.Core.Path.{◌≡◌, refl, sym, ◌∙◌}
-use mathlib.Core.Bool.{false, ◌&&◌}
-use lib.ListN.{get_or}
-use lib.Dec.{leb}
-use borrow.Author.Rules.{rules}
+use mathlib.Core.Path.{refl, sym, ◌∙◌}
 use borrow.Author.Tests.{le-leb, lt-leb}
-use Rattle.graphs.specs.Lists.{some_below, none_more, none_left, some_found, none_below}
-use Rattle.move_load_rows.specs.Checks.{not_other, bad_span}
+use Rattle.graphs.specs.Lists.{none_more, none_left, some_found, none_below}
+use Rattle.move_load_rows.specs.Checks.{bad_span}
 use Rattle.move_load_rows.proofs.span_fails.Goals as goal
 
 pub loop-k-init : goal.loop-k-init

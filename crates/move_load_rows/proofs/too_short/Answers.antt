@@ -1,7 +1,6 @@
 -- `move_load_rows::too_short` meets its contract. Assumes nothing.
 use native.Mathlib.Omega.{arith}
 use Rattle.move_load_rows.proofs.Rows.{square}
-use borrow.Author.Rules.{rules}
 use Rattle.move_load_rows.proofs.too_short.Goals as goal
 
 pub overflow_mul-result : goal.overflow_mul-result

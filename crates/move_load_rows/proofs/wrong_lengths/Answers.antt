@@ -4,7 +4,6 @@ use native.Mathlib.Omega.{arith}
 use mathlib.Core.Path.{refl}
 use lib.ListN.{length}
 use borrow.Author.Tests.{eq-eqb, ne_eqb}
-use borrow.Author.Rules.{rules}
 use Rattle.move_load_rows.proofs.wrong_lengths.Goals as goal
 
 pub returns-then-starts-a : goal.returns-then-starts-a

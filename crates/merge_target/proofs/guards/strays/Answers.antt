@@ -1,6 +1,6 @@
 -- `merge_target::guards::strays` meets its contract. Assumes nothing.
 use Rattle.graphs.specs.Tab.{zeros}
-use Rattle.merge_choice.specs.Guards.{strayed_is}
+use Rattle.merge_choice.proofs.Guards.{strayed_is}
 use native.Mathlib.Omega.{arith}
 use borrow.Author.Rules.{rules}
 use Rattle.merge_target.proofs.guards.strays.Goals as goal

@@ -1,5 +1,6 @@
 -- `merge_target::target::wins` meets its contract. Assumes nothing.
-use Rattle.merge_choice.specs.Search.{lost, won, can_mark, can_miss}
+use Rattle.merge_choice.specs.Search.{lost, can_mark, can_miss}
+use Rattle.merge_choice.proofs.Search.{won}
 use native.Mathlib.Omega.{arith}
 use borrow.Author.Rules.{rules}
 use Rattle.merge_target.proofs.target.wins.Goals as goal

@@ -1,11 +1,7 @@
 -- `move_load_rows::sets::any_too_high` meets its contract. Assumes nothing.
-use mathlib.Core.Bool.{false}
-use Prim.Native.Nat.{◌-◌, ◌^◌, ◌≤◌}
 use native.Mathlib.Omega.{arith}
-use mathlib.Core.Path.{◌≡◌, sym, ◌∙◌}
-use lib.Dec.{leb}
-use Rattle.graphs.specs.Lists.{some_below, some_zero, none_more, none_left, some_found}
-use Rattle.equal_sets.specs.Laid.{nth_set}
+use mathlib.Core.Path.{sym, ◌∙◌}
+use Rattle.graphs.specs.Lists.{some_zero, none_more, none_left, some_found}
 use Rattle.move_load_rows.specs.EntrySets.{too_high}
 use Rattle.move_load_rows.proofs.SetLaws.{can_set}
 use Rattle.move_load_rows.proofs.sets.any_too_high.Goals as goal

@@ -1,13 +1,10 @@
 -- `move_load_rows::sets::any_too_high` meets its contract. Assumes nothing.
 use mathlib.Core.Bool.{false}
 use Prim.Native.Nat.{◌-◌, ◌^◌, ◌≤◌}
-use native.Mathlib.Omega.{arith}
-use mathlib.Core.Path.{◌≡◌, sym, ◌∙◌}
+use mathlib.Core.Path.{◌≡◌}
 use lib.Dec.{leb}
-use Rattle.graphs.specs.Lists.{some_below, some_zero, none_more, none_left, some_found}
+use Rattle.graphs.specs.Lists.{some_below}
 use Rattle.equal_sets.specs.Laid.{nth_set}
-use Rattle.move_load_rows.specs.EntrySets.{too_high}
-use Rattle.move_load_rows.proofs.SetLaws.{can_set}
 use Rattle.move_load_rows.proofs.sets.any_too_high.Given as goal
 
 abbrev pub invariant-loop-i : goal.invariant-loop-i

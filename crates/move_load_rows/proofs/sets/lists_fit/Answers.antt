@@ -2,7 +2,6 @@
 use mathlib.Core.Path.{refl}
 use lib.ListN.{length}
 use borrow.Author.Tests.{eq-eqb, ne_eqb}
-use borrow.Author.Rules.{rules}
 use Rattle.move_load_rows.proofs.sets.lists_fit.Goals as goal
 
 pub returns-then-fixed-a : goal.returns-then-fixed-a

@@ -6,7 +6,6 @@ use mathlib.Core.Bool.{not}
 use lib.Dec.{ltb}
 use Rattle.equal_sets.specs.Laid.{nth_set}
 use Rattle.move_load_rows.proofs.SetLaws.{not_ltb}
-use borrow.Author.Rules.{rules}
 use Rattle.move_load_rows.proofs.sets.reaches.Goals as goal
 
 pub returns : goal.returns

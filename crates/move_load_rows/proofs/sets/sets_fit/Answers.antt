@@ -5,7 +5,6 @@ use native.Mathlib.Nat.{mul-le-mul}
 use mathlib.Core.Path.{ap}
 use lib.ListN.{length}
 use lib.Dec.{eqb}
-use borrow.Author.Rules.{rules}
 use Rattle.move_load_rows.proofs.sets.sets_fit.Goals as goal
 
 pub returns-then-a-gt512 : goal.returns-then-a-gt512

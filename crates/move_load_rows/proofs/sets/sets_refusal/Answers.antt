@@ -1,7 +1,6 @@
 -- `move_load_rows::sets::sets_refusal` meets its contract. Assumes nothing.
 use mathlib.Core.Path.{refl, sym, ◌∙◌}
 use Rattle.move_load_rows.proofs.SetLaws.{set_is, can_sets}
-use borrow.Author.Rules.{rules}
 use Rattle.move_load_rows.proofs.sets.sets_refusal.Goals as goal
 
 pub any_too_high-requires : goal.any_too_high-requires

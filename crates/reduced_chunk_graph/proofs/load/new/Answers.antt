@@ -2,7 +2,7 @@
 use mathlib.Core.Bool.{true, false}
 use mathlib.Core.Path.{sym, ◌∙◌}
 use lib.ListN.{length}
-use Rattle.move_ledger.specs.LoadLaws.{loading_row-none}
+use Rattle.move_ledger.proofs.LoadLaws.{loading_row-none}
 use Rattle.move_ledger.specs.Graph.{lent}
 use Rattle.move_loading.specs.New.{new_refused, new-answer, new_area}
 use Rattle.reduced_chunk_graph.specs.Loads.{can_flag, flagged_area}

@@ -1,0 +1,2 @@
+-- What holds of the definitions. Assumes nothing.
+pub mod Life

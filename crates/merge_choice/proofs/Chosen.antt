@@ -1,0 +1,36 @@
+-- Theorems on the definitions of specs/Chosen: they stand here, so that the crate can be read with a definition changed. Assumes nothing.
+use Rattle.std.specs.Prelude.{ℕ, zero, suc, ◌/◌, ◌%◌, ◌^◌, ◌<◌, ◌≤◌, ◌≡◌, refl, Bool, true, false, cond, ◌&&◌, ◌||◌, List, get_or, length, ltb, eqb}
+use Rattle.std.proofs.Common.{arith, ◌∙◌, eq-eqb, ne_eqb, ltb-true}
+use Rattle.std.proofs.Math.Path.{sym, ap}
+use Rattle.graphs.specs.Bools.{and_left, Same, it, other, same?}
+use Rattle.merge_state.specs.State.{None}
+use Rattle.merge_state.specs.Table.{Answer, refused, chunk, nothing}
+use Rattle.merge_choice.specs.Choice.{Lists, Lent, lists, bits, role, first_below, some_role, wins, first_target, unreached, leaks, strayed, polluted, guarded, user_target, dynamic_target, chosen, choice, built_in}
+use Rattle.merge_choice.specs.Find.{row23, told, find}
+use Rattle.merge_choice.specs.Spans.{Spans}
+use Rattle.merge_choice.specs.Named.{reads, Named, CanSetRoles, named-all, bits_le}
+use Rattle.merge_choice.specs.Search.{CanFirst}
+use Rattle.merge_choice.specs.Guards.{CanReach, CanLeakFrom, CanStray, CanPollute}
+use Rattle.merge_choice.specs.Rows.{Legal}
+use Rattle.merge_choice.specs.Chosen.{first_in, none_found, barred, unbarred}
+
+-- so is an entry that wins
+pub found_below : (roles entries istarts importers : List ℕ) (k v : ℕ) {n t : ℕ} → n ≡ bits k → t ≡ first_target (reads roles) n entries (lists istarts importers) v → (t ≡ None → ⊥) → t < k
+unfolding first_target
+found_below roles entries istarts importers k v {n} {t} e q h = omega (arith, (first_in (wins (reads roles) n entries (lists istarts importers) v) n (λ z. h (q ∙ z))).0, q, (bits_le k).1, e)
+
+-- the same among dynamic ones
+module _ (roles : List ℕ) (k : ℕ) (entries : List ℕ) (static : Lists) (exports candidate : List ℕ) {n t : ℕ} (e : n ≡ bits k)
+    (f : t ≡ first_target (reads roles) n entries static 1) where
+  dynamic_is : guarded (polluted (reads roles) n entries exports candidate) t ≡ dynamic_target (reads roles) k entries static exports candidate
+  unfolding dynamic_target
+  dynamic_is = ap (guarded (polluted (reads roles) n entries exports candidate)) f ∙ ap (λ j. guarded (polluted (reads roles) j entries exports candidate) (first_target (reads roles) j entries static 1)) e
+
+  pub dynamic-none : t ≡ None → None ≡ dynamic_target (reads roles) k entries static exports candidate
+  dynamic-none h = none_found (polluted (reads roles) n entries exports candidate) t h ∙ dynamic_is
+
+  pub dynamic-polluted : (t ≡ None → ⊥) → {u : Bool} → u ≡ polluted (reads roles) n entries exports candidate t → u ≡ true → None ≡ dynamic_target (reads roles) k entries static exports candidate
+  dynamic-polluted h p q = barred (polluted (reads roles) n entries exports candidate) t h (sym p ∙ q) ∙ dynamic_is
+
+  pub dynamic-found : (t ≡ None → ⊥) → {u : Bool} → u ≡ polluted (reads roles) n entries exports candidate t → u ≡ false → t ≡ dynamic_target (reads roles) k entries static exports candidate
+  dynamic-found h p q = unbarred (polluted (reads roles) n entries exports candidate) t h (sym p ∙ q) ∙ dynamic_is
