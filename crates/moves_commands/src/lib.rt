@@ -1,5 +1,7 @@
 // The command interpreter of the program `moves`: bytes of commands in, bytes of replies out. The caller lends the lists: 48 sets, 128 sources,
 // 128 dependencies, 49 starts, 16 hosts (4294967295 for none) and the move graph's work area.
+#![tactic(auto)]
+
 mod calls;
 mod commands;
 mod edge_lines;
