@@ -1,4 +1,6 @@
 // A move on a consistent area, after the checks up to row 12: steps 1 to 3.
+#![tactic(auto)]
+
 ghost use Rattle.move_ledger.specs.Graph.{lent};
 ghost use Rattle.entry_set.specs.Sets.{number};
 ghost use Rattle.move_try.specs.Settle.{answer_of};
