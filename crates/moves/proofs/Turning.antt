@@ -1,6 +1,5 @@
 -- How the turns of the program's loop are told by what the interpreter and the turns before did. Assumes nothing.
-use Rattle.std.proofs.Common.{◌≡◌, ℕ, ◌+◌, ◌-◌, ◌%◌, ◌^◌, ◌<◌, ◌≤◌, Bool, true, false, List, length, take, drop, ℤ, pos, negsuc, sym, refl, ap, ◌∙◌, subst, true≢false, arith, length-drop, length-take-le, le-leb}
-use Rattle.io.specs.Counts.{clamp_len}
+use Rattle.std.proofs.Common.{◌≡◌, ℕ, ◌+◌, ◌-◌, ◌%◌, ◌^◌, ◌<◌, ◌≤◌, Bool, true, false, List, length, take, drop, sym, refl, ap, ◌∙◌, subst, true≢false, arith, length-drop, length-take-le, le-leb}
 use Rattle.moves_replies.specs.Room.{Put, put_as}
 use Rattle.moves_load_commands.specs.declared.Machine.{Machine}
 use Rattle.moves_commands.specs.Program.{areas, State, finish, fresh}
@@ -65,11 +64,6 @@ module _ {st st' : State (List ℕ)} {input : List ℕ} {at : ℕ} (t : Took st 
   pub ends : length input ≤ at → TookAll st input st' at true
   ends h = record { took = t; some = λ k. omega arith; all = λ e. omega (arith, t.inside, h) }
 
--- a read gives as many bytes as its list has room for, at most
-clamped_le : (got : ℤ) (most : ℕ) → clamp_len got most ≤ most
-clamped_le (pos k) most = omega arith
-clamped_le (negsuc k) most = omega arith
-
 -- a state that is stopped because the program doesn't go on has stopped
 going_on : (st : State (List ℕ)) (going : Bool) → (stopping going st).reading.machine.stopped ≡ false → going ≡ true
 going_on st true h = refl
@@ -93,12 +87,12 @@ module _ {st st' : State (List ℕ)} {bytes turns : ℕ} (w : Reading st st' byt
   reading-out h = record { reads = w.reads; going = true; ran = w.ran; most = λ _. omega (arith, w.turned, h) }
 
   -- one read more: it gave n bytes
-  module _ {st'' : State (List ℕ)} {n used bytes' : ℕ} {going : Bool} {out : List ℕ} (got : ℤ) (input : List ℕ) (t : TookRead st' (take n input) st'' used going out)
-      (e : n ≡ clamp_len got (length input)) (b : bytes' ≡ (bytes + n) % 2 ^ 64) where
+  module _ {st'' : State (List ℕ)} {n used bytes' : ℕ} {going : Bool} {out : List ℕ} (input : List ℕ) (t : TookRead st' (take n input) st'' used going out)
+      (e : n ≤ length input) (b : bytes' ≡ (bytes + n) % 2 ^ 64) where
     then_ran : Ran st (w.reads + 1) bytes' st'' going
     then_ran =
         subst (λ (m : ℕ). Ran st (w.reads + 1) m st'' going)
-        (sym (b ∙ ap (λ (m : ℕ). (bytes + m) % 2 ^ 64) (sym (length-take-le n input (omega (arith, e, clamped_le got (length input)))))))
+        (sym (b ∙ ap (λ (m : ℕ). (bytes + m) % 2 ^ 64) (sym (length-take-le n input e))))
         (further w.ran t)
 
     pub reading-ends : st''.reading.machine.stopped ≡ true → RanOut st st'' bytes'

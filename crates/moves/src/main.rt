@@ -1,7 +1,8 @@
 // The program `moves`: reads commands from standard input to its end, and writes the replies to standard output. Which bytes the system's `read` and `write`
 // move no contract can say: that they are called with the right lists is to be read in `read_block`, `feed_once` and `end`.
-ghost use Rattle.std.specs.Prelude.{◌≡◌, ◌<◌, ◌≤◌, length, take};
-ghost use Rattle.io.specs.Counts.{clamp_len};
+#![tactic(auto)]
+
+ghost use Rattle.std.specs.Prelude.{◌≡◌, ◌<◌, ◌≤◌, length, take, IfOk, IfErr};
 ghost use Rattle.moves_load_commands.specs.Machine.{new_machine};
 ghost use Rattle.moves_commands.specs.Program.{finish, fresh};
 ghost use Rattle.moves_commands.specs.Fits.{Ready};
@@ -9,8 +10,9 @@ ghost use Rattle.moves_commands.specs.Feed.{reserve};
 ghost use Rattle.moves_commands.specs.Steps.{held};
 ghost use Rattle.moves.specs.Turns.{Answered, TookAll, TookRead, RanOut, StartsWith};
 
-use libc::{STDIN_FILENO, STDOUT_FILENO};
 use moves_load_commands::Machine;
+use std::io;
+use std::io::Read as _;
 
 // The machine after the bytes that were used, and how many bytes of replies were written; where the program doesn't go on, the machine has stopped.
 #[derive(Clone, Copy)]
@@ -30,9 +32,9 @@ struct Block {
 }
 
 // The same of a read: what the system answered to it, and how many bytes these are.
-#[derive(Clone, Copy)]
+#[derive(Drop)]
 struct Read {
-    got: isize,
+    got: io::Result<usize>,
     read: usize,
     machine: Machine,
     used: usize,
@@ -48,6 +50,7 @@ struct Ended {
 
 // Feeds as much as there is room for the replies to, and writes them. The program goes on where they can be written.
 fn feed_once(
+    rt: HostRuntime,
     m: Machine,
     sets: &mut [u64],
     sources: &mut [u32],
@@ -76,7 +79,7 @@ fn feed_once(
     let n = f.written;
     let used = f.used;
     let machine = f.machine;
-    if !io::write_all(STDOUT_FILENO, &out[..n]) {
+    if rt.write_all(&out[..n]).is_err() {
         return Step {
             machine: moves_load_commands::halt(machine),
             used,
@@ -94,6 +97,7 @@ fn feed_once(
 
 // Feeds a block of the input, all of it where the replies can be written.
 fn feed_block(
+    rt: HostRuntime,
     m: Machine,
     sets: &mut [u64],
     sources: &mut [u32],
@@ -112,6 +116,7 @@ fn feed_block(
     let mut at = 0;
     while at < input.len() {
         let s = feed_once(
+            rt,
             machine,
             sets,
             sources,
@@ -140,17 +145,18 @@ fn feed_block(
 }
 
 // At the end of the input: writes the last reply, and answers how many bytes it has.
-fn end(m: Machine, out: &mut [u8]) -> usize
+fn end(rt: HostRuntime, m: Machine, out: &mut [u8]) -> usize
     requires { 64 ≤ length out.old }
     ensures { (result ≡ length (finish m)) × StartsWith (finish m) out.new }
 {
     let n = moves_commands::finish(m, out);
-    io::write_all(STDOUT_FILENO, &out[..n]);
+    rt.write_all(&out[..n]).is_ok();
     n
 }
 
 // Feeds the n bytes that a read gave. Where it gave none the program ends.
 fn feed_read(
+    rt: HostRuntime,
     m: Machine,
     sets: &mut [u64],
     sources: &mut [u32],
@@ -167,7 +173,7 @@ fn feed_read(
     ensures { TookRead (held m sets.old sources.old dependencies.old hosts.old starts.old area.old) (take n input.now) (held result.machine sets.new sources.new dependencies.new hosts.new starts.new area.new) result.used result.going out.new }
 {
     if n == 0 {
-        end(m, out);
+        end(rt, m, out);
         return Block {
             machine: moves_load_commands::halt(m),
             used: 0,
@@ -175,6 +181,7 @@ fn feed_read(
         };
     }
     feed_block(
+        rt,
         m,
         sets,
         sources,
@@ -189,6 +196,7 @@ fn feed_read(
 
 // Reads a block and feeds it, all that the read gave. A read that fails is the end of the input.
 fn read_block(
+    rt: HostRuntime,
     m: Machine,
     sets: &mut [u64],
     sources: &mut [u32],
@@ -202,11 +210,17 @@ fn read_block(
     requires ready { Ready (held m sets.old sources.old dependencies.old hosts.old starts.old area.old) }
     requires reserve_in_bounds { reserve ≤ length out.old }
     ensures took_read { TookRead (held m sets.old sources.old dependencies.old hosts.old starts.old area.old) (take result.read input.new) (held result.machine sets.new sources.new dependencies.new hosts.new starts.new area.new) result.used result.going out.new }
-    ensures read_value { result.read ≡ clamp_len result.got (length input.new) }
+    ensures got { IfOk result.got (λ n. result.read ≡ n) }
+    ensures failed { IfErr result.got (λ _. result.read ≡ 0) }
+    ensures in_bounds { result.read ≤ length input.new }
 {
-    let got = libc::read(STDIN_FILENO, input);
-    let n = io::count(got, input);
+    let got = rt.stdin().read(input);
+    let n = match &got {
+        Ok(n) => *n,
+        Err(_) => 0,
+    };
     let b = feed_read(
+        rt,
         m,
         sets,
         sources,
@@ -231,6 +245,7 @@ fn read_block(
 // Reads until the machine has stopped. A proved loop has to end, and nothing says that the input does: the turns are counted down from a number that no
 // run uses up.
 fn run(
+    rt: HostRuntime,
     sets: &mut [u64],
     sources: &mut [u32],
     dependencies: &mut [u32],
@@ -249,6 +264,7 @@ fn run(
     let mut turns: u64 = 9223372036854775808;
     while turns > 0 {
         let s = read_block(
+            rt,
             machine,
             sets,
             sources,
@@ -260,7 +276,7 @@ fn run(
             out,
         );
         machine = s.machine;
-        bytes = std::num::wrapping_add_u64(bytes, s.read as u64);
+        bytes = bytes.wrapping_add(s.read as u64);
         if machine.stopped {
             return Ended { machine, bytes };
         }
@@ -269,7 +285,7 @@ fn run(
     Ended { machine, bytes }
 }
 
-fn main() {
+fn main(rt: HostRuntime) {
     let mut sets = [0u64; 48];
     let mut sources = [0u32; 128];
     let mut dependencies = [0u32; 128];
@@ -279,6 +295,7 @@ fn main() {
     let mut input = [0u8; 65536];
     let mut out = [0u8; 65536];
     run(
+        rt,
         &mut sets,
         &mut sources,
         &mut dependencies,

@@ -1,0 +1,8 @@
+-- `moves::end` meets its contract. Assumes nothing.
+use native.Mathlib.Omega.{arith}
+use Rattle.moves.specs.Turns.{put_starts}
+use Rattle.moves.proofs.Turning.{finished-put}
+use Rattle.moves.proofs.end.Goals as goal
+
+pub returns : goal.returns
+returns c = let p = finished-put _ c.requires c.finish-n.ensures in (omega (arith, p.end), put_starts p)
