@@ -1,8 +1,10 @@
 // Runs inputs of the program `moves` through the interpreter, each from the start. Standard input holds them one after the other, each behind its
 // length, two bytes, low byte first.
-ghost use Rattle.std.specs.Prelude.{◌≡◌, ◌+◌, ◌*◌};
+#![tactic(auto)]
 
-use libc::{STDIN_FILENO, STDOUT_FILENO};
+ghost use Rattle.std.specs.Prelude.{◌≡◌, ◌+◌, ◌*◌, ◌≤◌, length};
+
+use std::io::Read as _;
 
 // Two bytes as a number.
 fn both(low: u8, high: u8) -> usize
@@ -11,7 +13,25 @@ fn both(low: u8, high: u8) -> usize
     (low as usize) + 256 * (high as usize)
 }
 
-fn run_case(input: &[u8]) {
+// Reads until the list is full, the input ends or a read fails, and answers how many bytes it put at the start of the list.
+fn read_full(rt: HostRuntime, input: &mut [u8]) -> usize
+    ensures { result ≤ length input.new }
+{
+    let mut done = 0;
+    while done < input.len() {
+        let n = match rt.stdin().read(&mut input[done..]) {
+            Ok(n) => n,
+            Err(_) => 0,
+        };
+        if n == 0 {
+            break;
+        }
+        done += n;
+    }
+    done
+}
+
+fn run_case(rt: HostRuntime, input: &[u8]) {
     let mut sets = [0u64; 48];
     let mut sources = [0u32; 128];
     let mut dependencies = [0u32; 128];
@@ -32,19 +52,17 @@ fn run_case(input: &[u8]) {
     );
     let n = f.written;
     let machine = f.machine;
-    io::write_all(STDOUT_FILENO, &out[..n]);
+    rt.write_all(&out[..n]).is_ok();
     let mut last = [0u8; 64];
     let k = moves_commands::finish(machine, &mut last);
-    io::write_all(STDOUT_FILENO, &last[..k]);
+    rt.write_all(&last[..k]).is_ok();
 }
 
-fn name_case(case: u64) {
-    io::write_all(STDOUT_FILENO, b"case ");
-    io::print_decimal(STDOUT_FILENO, case);
-    io::write_all(STDOUT_FILENO, b"\n");
+fn name_case(rt: HostRuntime, case: u64) {
+    println!(rt; "case {case}").is_ok();
 }
 
-fn run_cases(input: &[u8]) {
+fn run_cases(rt: HostRuntime, input: &[u8]) {
     let mut at = 0;
     let mut case: u64 = 0;
     while at < input.len() {
@@ -59,14 +77,14 @@ fn run_cases(input: &[u8]) {
         }
         let end = from + size;
         case += 1;
-        name_case(case);
-        run_case(&input[from..end]);
+        name_case(rt, case);
+        run_case(rt, &input[from..end]);
         at = end;
     }
 }
 
-fn main() {
-    let mut input = io::large_buffer();
-    let n = io::read_full(STDIN_FILENO, &mut input);
-    run_cases(&input[..n]);
+fn main(rt: HostRuntime) {
+    let mut input = [0u8; 65536];
+    let n = read_full(rt, &mut input);
+    run_cases(rt, &input[..n]);
 }
