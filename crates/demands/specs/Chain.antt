@@ -9,26 +9,19 @@ use Rattle.std.proofs.Math.Bool.{true, false}
 use Rattle.std.proofs.lemmas.List.{get_or-replicate, length-replicate}
 use borrow.Author.Tests.{lt-leb, eq-eqb, ne_eqb, le-ltb, lt-ltb}
 use Rattle.graphs.specs.Bools.{or_false, and_both}
-use Rattle.graphs.specs.Lists.{has, has-at, has-place, none_below}
+use Rattle.graphs.specs.Lists.{has, has-place, none_below}
 use Rattle.graphs.specs.Tab.{tab-length, is_tab}
 use Rattle.graphs.specs.Walk.{Walk, one, more, via, cyclic}
 use Rattle.graphs.specs.Walks.{join, via_walk, acyclic_walk}
 use Rattle.entry_set.specs.Joined.{joined}
 use Rattle.entry_set.specs.Sets.{value}
-use Rattle.move_ledger.specs.Graph.{none, at, owner, edge, reach}
+use Rattle.move_ledger.specs.Graph.{none, at, owner, edge}
 use Rattle.move_ledger.specs.GraphLaws.{Why, by_entry, by_facade, entry-lies, lies-entry, lies-set, lies_in}
 use Rattle.move_ledger.proofs.GraphLaws.{edge_why, why_edge, edge-source}
-use Rattle.move_ledger.specs.Answer.{acyclic, is_refused, is_accepted, reported}
-use Rattle.move_ledger.specs.Ledger.{loaded, decide, move, call, ledger}
-use Rattle.move_ledger.specs.Ledger as calls
+use Rattle.move_ledger.specs.Answer.{acyclic, is_accepted}
+use Rattle.move_ledger.specs.Ledger.{loaded, decide, move}
 use Rattle.move_ledger.specs.Loading.{row1, row2, row3, row4, row5, row6, first_row, lent_set, entry_sets, row7, row8, loading_row, loading}
-use Rattle.move_ledger.proofs.MoveLaws.{place_after}
-use Rattle.move_ledger.specs.Reach.{reach-all, rising-length}
-use Rattle.move_area.specs.Calls.{new, try_move}
-use Rattle.move_area.specs.History.{call_area, area_after}
 use Rattle.chain_commands.specs.Chain.{chain, sets, set_at, next-at, owner_at, starts}
-use Rattle.demands.specs.Demand3.{next-answer}
-use Rattle.demands.specs.Reached.{move-reached}
 
 module _ (n : ℕ) where
   -- an edge goes from an atom's set to the next one's
@@ -94,10 +87,10 @@ abbrev pub moved : ℕ → List ℕ
 moved n = set (sets n) 0 (n + 1)
 
 module _ (n : ℕ) (some : 0 < n) where
-  moved_long : length (moved n) ≡ n
+  pub moved_long : length (moved n) ≡ n
   moved_long = length-set (sets n) 0 (n + 1) ∙ tab-length suc n
 
-  moved-first : at (moved n) 0 ≡ n + 1
+  pub moved-first : at (moved n) 0 ≡ n + 1
   moved-first = get_or-set_same (sets n) 0 (n + 1) 0 (omega (arith, tab-length suc n))
 
   moved_other : (i : ℕ) → suc i < n → at (moved n) (suc i) ≡ suc (suc i)
@@ -152,7 +145,7 @@ module _ (n : ℕ) where
       let e : i * 1 ≡ i = omega arith in
       ap (λ k. value (take 1 (drop k (sets n)))) e ∙ one_lent (sets n) i (omega (arith, tab-length suc n)) ∙ set_at n i h
 
-  entry_sets_are : entry_sets (chain n) (sets n) ≡ sets n
+  pub entry_sets_are : entry_sets (chain n) (sets n) ≡ sets n
   unfolding entry_sets
   entry_sets_are = sym (is_tab (sets n) n _ (tab-length suc n) (λ k h. set_at n k h ∙ sym (lent_at k h)))
 
@@ -202,7 +195,7 @@ module _ (n : ℕ) (some : 0 < n) (few : n ≤ 512) (size : ℕ) (enough : row3 
   unfolding loading
   chain-loads = rw (row-none, entry_sets_are n, loaded_acyclic n) refl
 
-  value_one : value ((n + 1) ∷ []) ≡ n + 1
+  pub value_one : value ((n + 1) ∷ []) ≡ n + 1
   unfolding joined
   value_one = omega arith
 
@@ -220,39 +213,3 @@ module _ (n : ℕ) (some : 0 < n) (few : n ≤ 512) (size : ℕ) (enough : row3 
         loaded_acyclic n,
         moved_acyclic n some,
       ) refl
-
-  -- "and attains it": at most n - 1 are reached, since as many other sets are occupied
-  pub moved-reach : (reported (move (chain n) (unmarked n) (n + 1) (loaded (entry_sets (chain n) (sets n))) 0 ((n + 1) ∷ [])).answer).reached ≡ n - 1
-  unfolding move
-  moved-reach = move-reached (chain n) (unmarked n) (n + 1) (loaded (entry_sets (chain n) (sets n))) 0 ((n + 1) ∷ []) ∙ rw (there, yes, value_one) all
-    where
-      yes : is_accepted (decide (chain n) (unmarked n) (entry_sets (chain n) (sets n)) 0 ((n + 1) ∷ [])) ≡ true
-      yes = chain-moves
-
-      there : (move (chain n) (unmarked n) (n + 1) (loaded (entry_sets (chain n) (sets n))) 0 ((n + 1) ∷ [])).after.place ≡ moved n
-      there =
-          let e : cond (is_accepted (decide (chain n) (unmarked n) (entry_sets (chain n) (sets n)) 0 ((n + 1) ∷ []))) (set (entry_sets (chain n) (sets n)) 0 (value ((n + 1) ∷ []))) (entry_sets (chain n) (sets n)) ≡ moved n = rw (yes, entry_sets_are n, value_one) refl in
-          place_after (chain n) (unmarked n) (n + 1) (loaded (entry_sets (chain n) (sets n))) 0 ((n + 1) ∷ []) ∙ e
-
-      long : length (moved n) ≡ n
-      long = moved_long n some
-
-      all : reach (chain n) (moved n) (n + 1) ≡ n - 1
-      all =
-          omega (
-            arith,
-            reach-all (chain n) (moved n) (n + 1) (subst (λ X. has X (moved n) ≡ true) (moved-first n some) (has-at (moved n) 0 (omega (arith, long)))) (moved_reaches n some),
-            rising-length (moved n) (λ i j a b. moved_apart n some i j a (omega (arith, long))),
-            long,
-          )
-
--- and so answer the calls, on every work area that is long enough
-pub chain_on_areas : (n : ℕ) → 0 < n → n ≤ 512 → (area : List ℕ) → row3 (chain n) (n + 1) (length area) ≡ false
-    → ((new (chain n) (unmarked n) (n + 1) (sets n) area).answer ≡ acyclic)
-    × (is_accepted (try_move (chain n) (unmarked n) (n + 1) (new (chain n) (unmarked n) (n + 1) (sets n) area).area 0 ((n + 1) ∷ [])).answer ≡ true)
-    × ((reported (try_move (chain n) (unmarked n) (n + 1) (new (chain n) (unmarked n) (n + 1) (sets n) area).area 0 ((n + 1) ∷ [])).answer).reached ≡ n - 1)
-unfolding call call_area area_after ledger new
-chain_on_areas n some few area enough =
-    let l : (new (chain n) (unmarked n) (n + 1) (sets n) area).answer ≡ acyclic = chain-loads n some few (length area) enough in
-    let a = next-answer (chain n) (unmarked n) (n + 1) (sets n) area [] (calls.try_move 0 ((n + 1) ∷ [])) (ap is_refused l) in
-    (l, ap is_accepted a ∙ chain-moves n some few (length area) enough, ap (λ x. (reported x).reached) a ∙ moved-reach n some few (length area) enough)

@@ -3,7 +3,7 @@ use Prim.Native.Nat.{ℕ, ◌+◌}
 use native.Mathlib.Omega.{arith}
 use Rattle.std.specs.Prelude.{◌≡◌, Bool, cond, ◌&&◌, ◌||◌, eqb, set}
 use Rattle.std.proofs.Math.Path.{refl, ap₂}
-use Rattle.std.proofs.Common.{sym, ap, ◌∙◌, length-set}
+use Rattle.std.proofs.Common.{sym, ap, ◌∙◌}
 use Rattle.std.proofs.Math.Bool.{true, false, not, true≢false, and-false}
 use mathlib.Core.List.{List, [], ◌∷◌, ◌++◌}
 use Rattle.std.proofs.Math.ListN.{length, length-append}
@@ -16,7 +16,6 @@ use Rattle.move_ledger.proofs.GraphLaws.{edge-source, edge-target}
 use Rattle.move_ledger.specs.Answer.{Report, zeros, Answer, refused, accepted, rejected, is_accepted, reported}
 use Rattle.move_ledger.specs.Answer as answer
 use Rattle.move_ledger.specs.Ledger.{Ledger, report, decide, move}
-use Rattle.move_ledger.specs.MoveLaws.{move_keeps}
 use Rattle.move_ledger.proofs.MoveLaws.{decide_accepted, decide-late, place_after}
 use Rattle.move_ledger.specs.Loading.{refusal}
 use Rattle.move_ledger.specs.Places.{has_kept}
@@ -195,15 +194,6 @@ move-reports load fixed N l a s = rw (reports load fixed N l a s) (go (is_accept
     go false h =
         let stays : (move load fixed N l a s).after.place ≡ l.place = place_after load fixed N l a s ∙ rw h refl in
         rw stays (record { appeared = sym (gained-same load l.place); vanished = sym (gained-same load l.place) })
-
--- distinct edges after the move + vanished = distinct edges before it + appeared
-pub move_changes : (load : Load) (fixed : List ℕ) (N : ℕ) (l : Ledger) (a : ℕ) (s : List ℕ) → length l.place ≡ load.A
-    → let called = move load fixed N l a s in
-    length (edges load called.after.place) + (reported called.answer).vanished ≡ length (edges load l.place) + (reported called.answer).appeared
-move_changes load fixed N l a s n =
-    rw ((move-reports load fixed N l a s).appeared, (move-reports load fixed N l a s).vanished)
-    (edges_change load l.place (move load fixed N l a s).after.place n
-    (move_keeps load fixed N l a s (λ m. length m.place ≡ load.A) n (λ u. n) (λ u. rw length-set n)))
 
 -- and so on the areas that the calls are lent
 pub changes_on_areas : (load : Load) (fixed : List ℕ) (N : ℕ) (area : List ℕ) (a : ℕ) (s : List ℕ) → refusal load fixed N (length area) ≡ 0 → checks_out load fixed N area ≡ true

@@ -1,12 +1,12 @@
 -- Demand 3 of the move graph: answers of lists of calls, fresh counts and edges, the same placement, either order. Assumes nothing.
-use Rattle.std.specs.Prelude.{ℕ, ◌<◌, ◌≡◌, refl, Bool, true, false, cond, List, eqb, length, set}
-use Rattle.std.proofs.Common.{arith, sym, ap, subst, ◌∙◌, ext_get_or, get_or-set_other}
+use Rattle.std.specs.Prelude.{ℕ, ◌≡◌, refl, Bool, true, false, cond, List, eqb, length, set}
+use Rattle.std.proofs.Common.{sym, ap, subst, ◌∙◌, get_or-set_other}
 use Rattle.std.proofs.lemmas.List.{set_comm}
 use Rattle.graphs.specs.Walk.{cyclic}
 use Rattle.entry_set.specs.Sets.{value}
 use Rattle.move_ledger.specs.Graph.{Load, at, edge}
 use Rattle.move_ledger.specs.Answer.{Report, zeros, Answer, accepted, rejected, is_refused, is_accepted, plain}
-use Rattle.move_ledger.specs.Ledger.{Ledger, report, decide, move, ask, Call, try_move, asks, call, loaded, answers}
+use Rattle.move_ledger.specs.Ledger.{Ledger, report, decide, move, Call, call, loaded, answers}
 use Rattle.move_ledger.proofs.MoveLaws.{decide_accepted, decide-late, place_after}
 use Rattle.move_ledger.specs.Loading.{refusal, entry_sets}
 use Rattle.move_area.specs.Area.{decode}
@@ -14,33 +14,12 @@ use Rattle.move_area.specs.Fixed.{checks_out}
 use Rattle.move_area.specs.Calls.{first, new}
 use Rattle.move_area.specs.Calls as on-area
 use Rattle.move_area.specs.History.{Holding, call_area, area_answers, area_after, call_step, loading-holds, run}
-use Rattle.demands.specs.History.{history, history-length}
+use Rattle.demands.specs.History.{history}
 use Rattle.demands.specs.Areas.{holding, Fresh, holding_fresh, step-answer, after-step}
 
 -- what a call answers
 abbrev pub reply : Load → List ℕ → ℕ → Ledger → Call → Answer
 reply load fixed N l c = (call load fixed N l c).answer
-
--- the answer to a call is a matter of the placement
-same_place : (load : Load) (fixed : List ℕ) (N N' : ℕ) (l l' : Ledger) (c : Call) → l.place ≡ l'.place → reply load fixed N l c ≡ reply load fixed N' l' c
-unfolding call move
-same_place load fixed N N' l l' (try_move a s) e = ap (λ p. decide load fixed p a s) e
-same_place load fixed N N' l l' (asks q) e = ap (λ p. ask load p q) e
-
--- "For every two such lists from one load, whatever the entry sets at loading, whose ledgers end with each atom in the same entry set, the next
--- move or question gets the same answer", and 02: "The reservation about 13 disappears where histories are compared",
--- "Comparing two histories supposes the same marks in both"; N may differ too
-pub same_placement_same-answer : (load : Load) (fixed : List ℕ) (N N' : ℕ) (sets sets' : List ℕ) (calls calls' : List Call) (next : Call)
-    → let l = history load fixed N sets calls in
-    let l' = history load fixed N' sets' calls' in
-    ((atom : ℕ) → atom < load.A → at l.place atom ≡ at l'.place atom)
-    → reply load fixed N l next ≡ reply load fixed N' l' next
-same_placement_same-answer load fixed N N' sets sets' calls calls' next h =
-    let l = history load fixed N sets calls in
-    let l' = history load fixed N' sets' calls' in
-    let k = history-length load fixed N sets calls in
-    let k' = history-length load fixed N' sets' calls' in
-    same_place load fixed N N' l l' next (ext_get_or 0 l.place l'.place (k ∙ sym k') (λ i b. h i (omega arith)))
 
 -- the numbers left out
 left_out : (t : Bool) (r : Report) → plain (cond t rejected (accepted r)) ≡ cond t rejected (accepted zeros)
@@ -114,14 +93,3 @@ either_order_on_areas load fixed N area a b s t q c d g h =
 
     second : (a b : ℕ) (s t : List ℕ) → (on-area.try_move load fixed N (on-area.try_move load fixed N area a s).area b t).answer ≡ (move load fixed N (move load fixed N (decode load N area).ledger a s).after b t).answer
     second a b s t = after-step load fixed N area a s b t w
-
--- "For every two such lists from one load": the answer to the next call
-pub same_placement_on_areas : (load : Load) (fixed : List ℕ) (N N' : ℕ) (sets sets' area area' : List ℕ) (calls calls' : List Call) (next : Call)
-    → is_refused (new load fixed N sets area).answer ≡ false → is_refused (new load fixed N' sets' area').answer ≡ false
-    → let x = (call_area load fixed N (area_after load fixed N (new load fixed N sets area).area calls) next).answer in
-    let y = (call_area load fixed N' (area_after load fixed N' (new load fixed N' sets' area').area calls') next).answer in
-    ((atom : ℕ) → atom < load.A → at (history load fixed N sets calls).place atom ≡ at (history load fixed N' sets' calls').place atom)
-    → x ≡ y
-same_placement_on_areas load fixed N N' sets sets' area area' calls calls' next u v h =
-    next-answer load fixed N sets area calls next u ∙ same_placement_same-answer load fixed N N' sets sets' calls calls' next h
-    ∙ sym (next-answer load fixed N' sets' area' calls' next v)

@@ -1,13 +1,11 @@
 -- (xiii) of document 02, "A pass that never closes a loop", on areas whose merged chunks stand for their target. Assumes nothing.
-use Prim.Native.Nat.{ℕ, zero, suc, ◌+◌, ◌<◌, ◌≤◌}
-use Rattle.std.proofs.Common.{arith, sym, subst, ◌∙◌, true≢false, eqb-true, eq-eqb, ltb-false, leb-false}
+use Prim.Native.Nat.{ℕ, zero, suc, ◌+◌, ◌≤◌}
+use Rattle.std.proofs.Common.{arith, sym, subst, ◌∙◌, ltb-false}
 use Rattle.std.proofs.Math.Decide.{ℕ_discrete}
-use Rattle.std.specs.Prelude.{◌≡◌, Bool, not, cond, ◌&&◌, ◌||◌, eqb, ltb}
+use Rattle.std.specs.Prelude.{◌≡◌, Bool, not, cond, ◌&&◌, eqb, ltb}
 use Rattle.std.proofs.Math.Path.{refl, ap}
 use Rattle.std.proofs.Math.Bool.{true, false}
 use mathlib.Core.List.{List, [], ◌∷◌}
-use Rattle.std.proofs.lemmas.Bool.{eqb-false, not-true, not-false}
-use Rattle.graphs.specs.Bools.{alike, and_left, and_right, or_false_left, or_false_right}
 use Rattle.graphs.specs.Count.{count}
 use Rattle.graphs.specs.Lists.{any, below}
 use Rattle.graphs.specs.Walk.{via, cyclic}
@@ -15,22 +13,22 @@ use Rattle.entry_set.specs.Sets.{value}
 use Rattle.graph_walks.specs.Counted.{counted}
 use Rattle.merge_state.specs.declared.Sizes.{Sizes}
 use Rattle.merge_state.specs.State.{None, Graph, chunk_of}
-use Rattle.merge_state.specs.Merges.{ending, gone, counts, waits}
-use Rattle.merge_state.specs.Methods.{appended, opened, assigned_to, registered, module_on, listed_on, calculated, warn, merged}
-use Rattle.merge_state.specs.Table.{Answer, done, refused, says, chunk, nothing, lists, Call, init_module_assignment, add_module_to_chunk, register_chunk_graph_index, to_temp_idx, calc_chunk_dependencies, would_create_circular_dependency, is_reachable, merge_chunk_dependencies, pass, unmade, any_misfit, any_gone, first_fitting, over_lists, bad_lists, later, acted, turned}
+use Rattle.merge_state.specs.Merges.{ending, counts, waits}
+use Rattle.merge_state.specs.Methods.{appended, opened, assigned_to, registered, module_on, listed_on, calculated, merged}
+use Rattle.merge_state.specs.Table.{Answer, done, refused, says, chunk, nothing, lists, Call, init_module_assignment, add_module_to_chunk, register_chunk_graph_index, to_temp_idx, calc_chunk_dependencies, would_create_circular_dependency, is_reachable, merge_chunk_dependencies, pass, any_misfit, any_gone, later, acted, turned}
 use Rattle.merge_state.specs.Kept.{none-fits}
-use Rattle.merge_state.proofs.Kept.{passed-kept, acted-kept}
+use Rattle.merge_state.proofs.Kept.{passed-kept}
 use Rattle.merge_state.specs.Ordered.{Ordered}
 use Rattle.merge_area.specs.Layout.{cell, head}
 use Rattle.merge_area.specs.Read.{mode_in, sets-in, read}
 use Rattle.merge_area.specs.Writes.{pass_area, write}
-use Rattle.merge_area.specs.Calls.{refusal, step, ends}
+use Rattle.merge_area.specs.Calls.{refusal, step}
 use Rattle.merge_laws.specs.Rows.{turned-free, turned_refused, Stood, free}
 use Rattle.merge_laws.specs.Ordering.{ordered}
 use Rattle.merge_reads.specs.Pass.{pass_holds}
 use Rattle.demands.specs.MergeRefused.{free_step, stuck_step}
 use Rattle.demands.specs.MergeKept.{write-holds}
-use Rattle.demands.specs.MergeCounted.{Loopless, loopless, opened_loopless, merge_loopless, merge-closes, passed_loopless}
+use Rattle.demands.specs.MergeCounted.{Loopless, loopless, passed_loopless}
 
 -- the dependencies that count close a loop
 unfoldable pub counted_loop : Sizes → List ℕ → Bool
@@ -55,22 +53,22 @@ module _ (z : Sizes) (a : List ℕ) (o : Ordered z (read z a)) where
   unfolding counted_loop
   free_give h = (loopless o).1 h
 
-  free-take : counted_loop z a ≡ false → Loopless (read z a)
+  pub free-take : counted_loop z a ≡ false → Loopless (read z a)
   unfolding counted_loop
   free-take h = (loopless o).0 h
 
 -- the area holds graph g, in order and loopless
-held-free : (z : Sizes) (a : List ℕ) (g : Graph) → read z a ≡ g → Ordered z g → Loopless g → counted_loop z a ≡ false
+pub held-free : (z : Sizes) (a : List ℕ) (g : Graph) → read z a ≡ g → Ordered z g → Loopless g → counted_loop z a ≡ false
 held-free z a g e o h = free_give z a (subst (Ordered z) (sym e) o) (subst Loopless (sym e) h)
 
 -- a pass that no row refuses
-record Passable (z : Sizes) (a props : List ℕ) : Type 0 where
+pub record Passable (z : Sizes) (a props : List ℕ) : Type 0 where
   pub stood : Stood z a
   pub room : cell a (head z 0) + cell a (head z 2) + count (waits (read z a)) (cell a (head z 1)) ≤ z.chunks
   pub fits : any_misfit (cell a (head z 0)) true props ≡ false
   pub unmerged : any_gone (read z a) props ≡ false
 
-passable : (z : Sizes) (a props bars kinds numbers : List ℕ) → refusal z a (pass props bars kinds numbers) ≡ 0 → Passable z a props
+pub passable : (z : Sizes) (a props bars kinds numbers : List ℕ) → refusal z a (pass props bars kinds numbers) ≡ 0 → Passable z a props
 unfolding later
 passable z a props bars kinds numbers q =
     let f = free z a (pass props bars kinds numbers) refl q in
@@ -120,115 +118,6 @@ unfoldable pub all_heeding : Sizes → List ℕ → List Call → Bool
 all_heeding z a [] = true
 all_heeding z a (c ∷ l) = heeding z a c && all_heeding z (step z a c).1 l
 
-or_swap : (a b : Bool) → (a || b) ≡ (b || a)
-or_swap true true = refl
-or_swap true false = refl
-or_swap false true = refl
-or_swap false false = refl
-
-eqb_swap : (x y : ℕ) → eqb x y ≡ eqb y x
-eqb_swap x y = alike _ _ (λ h. eq-eqb y x (sym (eqb-true x y h))) (λ h. eq-eqb x y (sym (eqb-true y x h)))
-
--- a merge of an unrefused call, and the question about it
-module _ (z : Sizes) (a : List ℕ) (t s : ℕ) where
-  -- both are refused by the same rows
-  same_rows : refusal z a (would_create_circular_dependency s t) ≡ refusal z a (merge_chunk_dependencies t s)
-  unfolding refusal over_lists bad_lists later
-  same_rows = rw (or_swap (unmade (read z a) s) (unmade (read z a) t), eqb_swap s t, or_swap (gone (read z a) s) (gone (read z a) t)) refl
-
-  -- so its answer is the warning
-  question : refusal z a (merge_chunk_dependencies t s) ≡ 0 → warned (step z a (would_create_circular_dependency s t)).0 ≡ warn (read z a) s t
-  unfolding warned acted
-  question h = ap (λ (r : Answer × List ℕ). warned r.0) (free_step z a (would_create_circular_dependency s t) (same_rows ∙ h))
-
--- an unrefused merge, of an area whose merged chunks stand for their target
-record Mergeable (z : Sizes) (g : Graph) (t s : ℕ) : Type 0 where
-  pub target : t < g.made
-  pub source : s < g.made
-  pub apart : s ≡ t → ⊥
-  pub free_target : g.into t ≡ None
-  pub free_source : g.into s ≡ None
-
-mergeable : (z : Sizes) (g : Graph) (t s : ℕ) → first_fitting (later z g (merge_chunk_dependencies t s)) ≡ 0 → Mergeable z g t s
-unfolding later
-mergeable z g t s h =
-    let h₁ = none-fits _ 16 _ (omega arith) h in
-    let h₂ = none-fits _ 20 _ (omega arith) h₁.1 in
-    let h₃ = none-fits _ 28 _ (omega arith) h₂.1 in
-    record {
-      target = leb-false _ _ (or_false_left (unmade g t) _ h₁.0);
-      source = leb-false _ _ (or_false_right (unmade g t) _ h₁.0);
-      apart = λ e. eqb-false t s h₂.0 (sym e);
-      free_target = eqb-true _ None (not-false _ (or_false_left (gone g t) _ h₃.0));
-      free_source = eqb-true _ None (not-false _ (or_false_right (gone g t) _ h₃.0));
-    }
-
-module _ (z : Sizes) (a : List ℕ) (m : mode_in z a ≡ true) where
-  -- an unrefused call's graph
-  graph_stays : (c : Call) → refusal z a c ≡ 0 → heeding z a c ≡ true → Loopless (read z a) → Loopless (acted z (read z a) c).1
-  unfolding acted heeding assigned_to appended registered
-  graph_stays (init_module_assignment k set effs) q h none = go (eqb (chunk_of (value set) (sets-in z a)) None)
-    where
-      o : Ordered z (read z a)
-      o = ordered z a (free z a (init_module_assignment k set effs) refl q).stood
-
-      go : (b : Bool) → Loopless (cond b (appended effs (opened (read z a) (value set)) (cell a (head z 1)) k) (appended effs (read z a) (chunk_of (value set) (sets-in z a)) k))
-      go true = opened_loopless o (value set) none
-      go false = none
-  graph_stays (add_module_to_chunk k x effs) q h none = none
-  graph_stays (register_chunk_graph_index k x) q h none = none
-  graph_stays (to_temp_idx k) q h none = none
-  graph_stays (calc_chunk_dependencies starts deps) q h none = absurd (true≢false (sym h))
-  graph_stays (would_create_circular_dependency s t) q h none = none
-  graph_stays (is_reachable x y) q h none = none
-  graph_stays (merge_chunk_dependencies t s) q h none =
-      let f = free z a (merge_chunk_dependencies t s) refl q in
-      let c = mergeable z (read z a) t s f.later in
-      merge_loopless (ordered z a f.stood) t s m c.target c.source c.apart c.free_target c.free_source (sym (question z a t s q) ∙ not-true _ h) none
-  graph_stays (pass props bars kinds numbers) q h none =
-      let c = passable z a props bars kinds numbers q in
-      passed_loopless (ordered z a c.stood) m c.room props bars c.fits c.unmerged none (cell a (head z 1)) (omega arith)
-
-  -- a call, refused or not
-  pub call-stays_acyclic : (c : Call) → heeding z a c ≡ true → counted_loop z a ≡ false → counted_loop z (step z a c).1 ≡ false
-  call-stays_acyclic c h n = elim (ℕ_discrete (refusal z a c) 0) [
-    | no q ↦ ap (counted_loop z) (stuck_step z a c q) ∙ n
-    | yes q ↦
-        let f = free z a c refl q in
-        let o = ordered z a f.stood in
-        ap (λ (r : Answer × List ℕ). counted_loop z r.1) (free_step z a c q)
-        ∙ held-free z _ _ (write-holds z a c q).graph (acted-kept z (read z a) c o f.later) (graph_stays c q h (free-take z a o n))
-  ]
-
-  -- of an acyclic area, a merge that the warning speaks against closes a loop, and no other does
-  pub merge-closes_exactly : (t s : ℕ) → refusal z a (merge_chunk_dependencies t s) ≡ 0 → counted_loop z a ≡ false
-      → counted_loop z (step z a (merge_chunk_dependencies t s)).1 ≡ warned (step z a (would_create_circular_dependency s t)).0
-  unfolding acted heeding
-  merge-closes_exactly t s q n = go (warned (step z a (would_create_circular_dependency s t)).0) refl (counted_loop z (step z a (merge_chunk_dependencies t s)).1) refl
-    where
-      after : List ℕ
-      after = (step z a (merge_chunk_dependencies t s)).1
-
-      stood : Stood z a
-      stood = (free z a (merge_chunk_dependencies t s) refl q).stood
-
-      held : read z after ≡ merged (read z a) t s
-      held = ap (λ (r : Answer × List ℕ). read z r.1) (free_step z a (merge_chunk_dependencies t s) q) ∙ (write-holds z a (merge_chunk_dependencies t s) q).graph
-
-      kept : Ordered z (read z after)
-      kept = subst (Ordered z) (sym held) (acted-kept z (read z a) (merge_chunk_dependencies t s) (ordered z a stood) (free z a (merge_chunk_dependencies t s) refl q).later)
-
-      c : Mergeable z (read z a) t s
-      c = mergeable z (read z a) t s (free z a (merge_chunk_dependencies t s) refl q).later
-
-      go : (w : Bool) → warned (step z a (would_create_circular_dependency s t)).0 ≡ w → (b : Bool) → counted_loop z after ≡ b → b ≡ w
-      go true e true k = refl
-      go false e false k = refl
-      go false e true k = absurd (true≢false (sym k ∙ call-stays_acyclic (merge_chunk_dependencies t s) (ap not e) n))
-      go true e false k =
-          absurd (subst Loopless held (free-take z after kept k) t
-          (merge-closes (ordered z a stood) t s m c.target c.source c.apart c.free_target c.free_source (sym (question z a t s q) ∙ e)))
-
 -- no call changes the mode
 module _ (z : Sizes) (a : List ℕ) where
   graph_mode : (c : Call) → refusal z a c ≡ 0 → (acted z (read z a) c).1.mode ≡ mode_in z a
@@ -254,13 +143,6 @@ module _ (z : Sizes) (a : List ℕ) where
     | no q ↦ ap (mode_in z) (stuck_step z a c q)
     | yes q ↦ ap (λ (r : Answer × List ℕ). mode_in z r.1) (free_step z a c q) ∙ ap (λ (g : Graph). g.mode) (write-holds z a c q).graph ∙ graph_mode c q
   ]
-
--- over whole lists of calls, refused ones included: passes, unwarned merges, questions, registering, modules and chunks added
-pub calls_stay_acyclic : (z : Sizes) (a : List ℕ) (calls : List Call) → mode_in z a ≡ true → all_heeding z a calls ≡ true → counted_loop z a ≡ false → counted_loop z (ends z a calls) ≡ false
-unfolding ends all_heeding
-calls_stay_acyclic z a [] m h n = n
-calls_stay_acyclic z a (c ∷ l) m h n =
-    calls_stay_acyclic z (step z a c).1 l (step_mode z a c ∙ m) (and_right (heeding z a c) _ h) (call-stays_acyclic z a m c (and_left (heeding z a c) _ h) n)
 
 -- `calc_chunk_dependencies` isn't among them: two modules that depend on each other, each in a chunk of its own
 abbrev two_modules : Graph

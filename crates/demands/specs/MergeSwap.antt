@@ -7,11 +7,10 @@ use Rattle.std.proofs.Math.Path.{refl, ap}
 use Rattle.std.proofs.Math.Bool.{true, false, cond}
 use Rattle.merge_state.specs.declared.Sizes.{Sizes}
 use Rattle.merge_state.specs.State.{put, put_other}
-use Rattle.merge_state.specs.Merges.{counts}
 use Rattle.merge_state.specs.Methods.{merged}
 use Rattle.merge_state.specs.Table.{Answer, done, Call, merge_chunk_dependencies, later, acted, turned}
 use Rattle.merge_area.specs.Layout.{head}
-use Rattle.merge_area.specs.Read.{read, mode_in, into_in}
+use Rattle.merge_area.specs.Read.{mode_in, into_in}
 use Rattle.merge_area.specs.Writes.{merge_area, write}
 use Rattle.merge_area.specs.Consistent.{short, inconsistent}
 use Rattle.merge_area.specs.Calls.{refusal, step, ends, answers}
@@ -141,9 +140,3 @@ swapped_merges z a before after t s u v apart free alone =
           ∙ ap₂ (λ r q. answers z a before ++ ((step z b (merge u v)).0 ∷ r ∷ answers z q after)) (same_answer z b u v t s (λ k. alone (sym k)) apart) (sym e);
       area = ends_append z a before (merge t s ∷ merge u v ∷ after) ∙ ap (λ r. ends z r after) e ∙ sym (ends_append z a before (merge u v ∷ merge t s ∷ after));
     }
-
--- (vii) of document 02: "Swapping two merges is promised here under the same condition, for the counted dependencies": they are those of equal areas
-pub swapped_counted : (z : Sizes) (a : List ℕ) (before after : List Call) (target source target' source' : ℕ) → (source ≡ source' → ⊥) → (source ≡ target' → ⊥) → (source' ≡ target → ⊥)
-    → counts (read z (ends z a (before ++ (merge_chunk_dependencies target source ∷ merge_chunk_dependencies target' source' ∷ after))))
-    ≡ counts (read z (ends z a (before ++ (merge_chunk_dependencies target' source' ∷ merge_chunk_dependencies target source ∷ after))))
-swapped_counted z a before after t s u v apart free alone = ap (λ r. counts (read z r)) (swapped_merges z a before after t s u v apart free alone).area

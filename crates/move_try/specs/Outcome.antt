@@ -1,43 +1,30 @@
 -- A move in node numbers is the ledger's, and leaves the state that `after` says. Assumes nothing.
-use Rattle.std.specs.Prelude.{◌≡◌, Bool, ◌&&◌, List, ℕ, ◌+◌, ◌^◌, ◌≤◌, ◌<◌, eqb, ltb, leb, length, get_or, set, replicate}
-use Rattle.std.proofs.Math.Path.{refl, ap, ap₂}
-use Rattle.std.proofs.Common.{sym, ◌∙◌, arith}
+use Rattle.std.specs.Prelude.{◌≡◌, Bool, List, ℕ, ◌+◌, ◌^◌, ◌≤◌, ◌<◌, eqb, leb, length, set}
+use Rattle.std.proofs.Math.Path.{refl, ap}
+use Rattle.std.proofs.Common.{◌∙◌}
 use Rattle.std.proofs.Math.Bool.{true, false, not, cond}
-use Rattle.std.proofs.Math.Decide.{dec_lt}
-use Rattle.std.proofs.lemmas.List.{length-replicate, get_or-replicate}
-use borrow.Author.Tests.{lt-ltb, le-ltb, lt-leb}
-use Rattle.graphs.specs.Bools.{fails}
+use borrow.Author.Tests.{lt-leb}
 use Rattle.graphs.specs.Count.{count}
 use Rattle.graphs.specs.Lists.{has, below}
-use Rattle.graphs.specs.Tab.{tab, tab_alike}
-use Rattle.graphs.specs.Walk.{via, cyclic}
-use Rattle.graphs.specs.Walks.{sound, walk_to}
-use Rattle.graph_walks.specs.Marks.{marking, marked}
+use Rattle.graphs.specs.Walk.{via}
+use Rattle.graph_walks.specs.Marks.{marked}
 use Rattle.entry_set.specs.Sets.{value, legal}
-use Rattle.move_ledger.specs.Graph.{Load, at, edge, gained, reach}
-use Rattle.move_ledger.specs.Answer.{Report, accepted, rejected, is_refused, is_accepted}
-use Rattle.move_ledger.specs.Ledger.{Ledger, put, free_place, register, step1, step2, step3, stays, report, decide, move}
+use Rattle.move_ledger.specs.Graph.{Load, at}
+use Rattle.move_ledger.specs.Answer.{Report, rejected}
+use Rattle.move_ledger.specs.Ledger.{Ledger, put, free_place, register, step1, stays, move}
 use Rattle.move_ledger.specs.Evict.{place-free, register-old, register-new}
-use Rattle.move_ledger.specs.Evict as evict
 use Rattle.move_ledger.proofs.Evict as evict_laws
-use Rattle.move_ledger.specs.MoveLaws.{Passed, tried-after}
+use Rattle.move_ledger.specs.MoveLaws.{Passed}
 use Rattle.move_ledger.proofs.MoveLaws.{decide-late, decide_unrefused}
 use Rattle.move_ledger.specs.LoadLaws.{InOrder}
-use Rattle.move_ledger.proofs.Gained.{gained_cells}
-use Rattle.move_ledger.proofs.Reach.{reach-nodes}
 use Rattle.move_ledger.specs.Nodes.{placed, Placing, sources, targets, node_edge}
-use Rattle.move_ledger.specs.NodeWalks.{edge-inside}
-use Rattle.move_ledger.proofs.NodeWalks.{cyclic-nodes}
-use Rattle.move_ledger.specs.NodePlaces.{placing_apart, free_node, Kept}
-use Rattle.move_ledger.proofs.NodePlaces.{register-kept}
-use Rattle.move_ledger.specs.NodeMoves.{placing_set, placed-moved}
-use Rattle.move_ledger.proofs.NodeMoves.{moved-cyclic, moved_reaches}
+use Rattle.move_ledger.specs.NodePlaces.{placing_apart, free_node}
 use Rattle.move_edges.specs.Steps.{fresh}
 use Rattle.move_area.specs.Area.{State}
-use Rattle.move_area.specs.Calls.{last, next, marks_for, walked, after}
+use Rattle.move_area.specs.Calls.{next, marks_for, after}
 use Rattle.move_area.specs.NodeBodies.{Nodes, state_of}
 use Rattle.move_try.specs.Stands.{Stands}
-use Rattle.move_try.specs.Changes.{with_node, with_raised}
+use Rattle.move_try.specs.Changes.{with_raised}
 use Rattle.move_try.specs.Registering.{stands-registered}
 use Rattle.move_try.specs.Areas.{registered}
 
@@ -109,113 +96,18 @@ pub record Trial (load : Load) (N : ℕ) (s : Nodes) (a T y : ℕ) : Type 0 wher
   pub set : at (with_target_sets load N s T) y ≡ T
 
 module _ {load : Load} {N : ℕ} {s : Nodes} {a T y : ℕ} (v : Trial load N s a T y) where
-  abbrev place : List ℕ
+  abbrev pub place : List ℕ
   place = placed s.nodes s.sets
 
-  abbrev sets' : List ℕ
+  abbrev pub sets' : List ℕ
   sets' = with_target_sets load N s T
 
-  abbrev m : List ℕ
-  m = marks_for load N (ledger_of s) T s.marks
-
-  abbrev E : ℕ → ℕ → Bool
-  E = node_edge load (set s.nodes a y) sets'
-
-  kept : Kept load N s.nodes s.sets sets'
-  kept = register-kept v.placing v.few v.more (omega (arith, v.small)) T
-
-  wide : length sets' ≤ N
+  pub wide : length sets' ≤ N
   wide = (evict_laws.registered load N place s.sets (placing_apart v.placing) v.few v.more T).few
 
-  reached : (x : ℕ) → (ltb x (length sets') && via (edge load (set place a T)) (set place a T) T (at sets' x)) ≡ via E (below N) y x
-  reached x = go (dec_lt x (length sets'))
-    where
-      go : Dec (x < length sets') → (ltb x (length sets') && via (edge load (set place a T)) (set place a T) T (at sets' x)) ≡ via E (below N) y x
-      go (yes h) = rw (lt-ltb x (length sets') h) (moved_reaches v.order kept.placing kept.placed a T y v.node v.set N wide x h)
-      go (no h) =
-          rw (le-ltb x (length sets') (omega arith))
-          (sym (fails _ (λ q. h (walk_to (λ i j k. (edge-inside v.order (placing_set kept.placing a y v.node) i j k).1) (sound E (below N) y x q)))))
-
-  -- the marks by nodes are those by sets
-  walked-nodes : walked load (step3 load N (ledger_of s) a T) T s.counter m ≡ walk_marks load N (with_target load N s T) a y
-  unfolding walked marking
-  walked-nodes = go (last s.counter)
-    where
-      go : (t : Bool) → tab (λ x. cond (ltb x (length sets') && via (edge load (set place a T)) (set place a T) T (at sets' x)) (next s.counter) (cond t 0 (at m x))) (length m)
-          ≡ tab (λ x. cond (via E (below N) y x) (next s.counter) (get_or (cond t (replicate (length m) 0) m) x 0)) (length (cond t (replicate (length m) 0) m))
-      go true =
-          rw (length-replicate {A = ℕ} (length m) 0)
-          (tab_alike _ _ (length m) (λ x h. ap₂ (λ c k. cond c (next s.counter) k) (reached x) (sym (get_or-replicate {A = ℕ} (length m) x 0 0 h))))
-      go false = tab_alike _ _ (length m) (λ x h. ap (λ c. cond c (next s.counter) (at m x)) (reached x))
-
-  -- the graph before
-  before : cyclic (node_edge load s.nodes s.sets) (below N) ≡ cyclic (edge load place) place
-  before = cyclic-nodes v.order v.placing N v.few
-
-  -- step 3's test
-  test-cyclic : cyclic (edge load (set place a T)) (set place a T) ≡ cyclic E (below N)
-  test-cyclic = moved-cyclic v.order kept.placing kept.placed a T y v.node v.set N wide
-
-  moved : placed (set s.nodes a y) sets' ≡ set place a T
-  moved = placed-moved v.order kept.placing kept.placed a T y v.node v.set N wide
-
-  -- the numbers by slots are those by sets, where the moved graph has no cycle
-  told : cyclic E (below N) ≡ false → slot_report load N s.nodes sets' a y ≡ report load place (set place a T) T
-  told acyclic =
-      rw (
-        sym (gained_cells v.order kept.placing there N wide some) ∙ ap₂ (gained load) kept.placed moved,
-        sym (gained_cells v.order there kept.placing N wide some) ∙ ap₂ (gained load) moved kept.placed,
-        sym (reach-nodes v.order there N wide y v.node (sym (cyclic-nodes v.order there N wide) ∙ acyclic)) ∙ ap₂ (reach load) moved v.set,
-      ) refl
-    where
-      there : Placing load (set s.nodes a y) sets'
-      there = placing_set kept.placing a y v.node
-
-      some : 0 < N
-      some = omega (arith, v.more)
-
-  abbrev R : Report
-  R = slot_report load N s.nodes sets' a y
-
   module _ (fixed w : List ℕ) (is : value w ≡ T) (r24 : stays fixed a ≡ false) (r11 : legal load.E w ≡ true) (r12 : eqb T (at place a) ≡ false) (s1 : step1 load place a ≡ false) where
-    passed : Passed (leb load.A a) (stays fixed a) (not (legal load.E w)) (eqb (value w) (at place a))
+    pub passed : Passed (leb load.A a) (stays fixed a) (not (legal load.E w)) (eqb (value w) (at place a))
     passed = record { at10 = lt-leb load.A a v.atom; at24 = r24; at11 = ap not r11; at12 = rw is r12 }
-
-    decided : decide load fixed place a w ≡ cond (cyclic E (below N)) rejected (accepted R)
-    decided = decide-late load fixed place a w passed ∙ rw (s1, is, test-cyclic) (go (cyclic E (below N)) refl)
-      where
-        go : (t : Bool) → cyclic E (below N) ≡ t → cond t rejected (accepted (report load place (set place a T) T)) ≡ cond t rejected (accepted R)
-        go true h = refl
-        go false h = ap accepted (sym (told h))
-
-    unrefused : is_refused (decide load fixed place a w) ≡ false
-    unrefused = decide_unrefused load fixed place a w passed
-
-    late : (move load fixed N (ledger_of s) a w).after ≡ cond (is_accepted (cond (cyclic E (below N)) rejected (accepted R))) (step3 load N (ledger_of s) a T) (step2 load N (ledger_of s) T)
-    late =
-        tried-after load fixed N (ledger_of s) a w unrefused s1
-        ∙ ap₂ (λ x X. cond (is_accepted x) (step3 load N (ledger_of s) a X) (step2 load N (ledger_of s) X)) decided is
-
-    by-sets : after load fixed N (state_of s) a w
-        ≡ record {
-          ledger = (move load fixed N (ledger_of s) a w).after;
-          counter = cond (cyclic (node_edge load s.nodes s.sets) (below N)) s.counter (next s.counter);
-          marks = cond (cyclic (node_edge load s.nodes s.sets) (below N)) m (walk_marks load N (with_target load N s T) a y);
-        }
-    unfolding after
-    by-sets = rw (unrefused, s1, is, before, walked-nodes) refl
-
-    -- rejected: the target is registered
-    pub trial_rejected : cyclic E (below N) ≡ true
-        → ((move load fixed N (ledger_of s) a w).answer ≡ rejected) × (after load fixed N (state_of s) a w ≡ state_of (with_test load N (with_target load N s T) a y (cyclic (node_edge load s.nodes s.sets) (below N))))
-    unfolding move
-    trial_rejected q = (decided ∙ rw q refl, by-sets ∙ rw (late, q, kept.placed) refl)
-
-    -- accepted: and the atom moved
-    pub trial_accepted : cyclic E (below N) ≡ false
-        → ((move load fixed N (ledger_of s) a w).answer ≡ accepted R) × (after load fixed N (state_of s) a w ≡ state_of (with_node (with_test load N (with_target load N s T) a y (cyclic (node_edge load s.nodes s.sets) (below N))) a y))
-    unfolding move
-    trial_accepted q = (decided ∙ rw q refl, by-sets ∙ rw (late, q, moved) refl)
 
 -- a move that step 1 rejects writes nothing
 module _ (load : Load) (fixed : List ℕ) (N : ℕ) (st : State) (a : ℕ) (w : List ℕ) (r10 : a < load.A) (r24 : stays fixed a ≡ false) (r11 : legal load.E w ≡ true) (r12 : eqb (value w) (at st.ledger.place a) ≡ false) where

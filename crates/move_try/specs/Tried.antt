@@ -1,23 +1,21 @@
 -- The answers of a move on a checked area, and that they are the ledger's. Assumes nothing.
-use Rattle.std.specs.Prelude.{◌≡◌, true, false, not, cond, ◌&&◌, List, eqb, length, get_or, set}
+use Rattle.std.specs.Prelude.{◌≡◌, true, false, not, cond, ◌&&◌, List, eqb, length, get_or}
 use Rattle.std.proofs.Math.Path.{refl, sym, ap}
 use Rattle.std.proofs.Common.{subst, ◌∙◌, arith, eqb-true, eq-eqb, ne_eqb}
 use Rattle.std.proofs.Math.Bool.{Bool}
 use Prim.Native.Nat.{ℕ, ◌+◌, ◌*◌, ◌^◌, ◌≤◌, ◌<◌}
 use Rattle.std.proofs.Math.Decide.{dec_lt}
-use Rattle.graphs.specs.Lists.{has, below}
-use Rattle.graphs.specs.Walk.{cyclic}
+use Rattle.graphs.specs.Lists.{has}
 use Rattle.entry_set.specs.Sets.{value, legal}
 use Rattle.entry_set.specs.SetLaws.{below_256}
 use Rattle.move_ledger.specs.Graph.{Load, at}
-use Rattle.move_ledger.specs.Answer.{Report, Answer, accepted, rejected, is_accepted}
+use Rattle.move_ledger.specs.Answer.{Answer, rejected}
 use Rattle.move_ledger.specs.Ledger.{put, step1, stays, move}
 use Rattle.move_ledger.specs.Places.{put-inside, put_behind}
 use Rattle.move_ledger.specs.Evict.{Free, place-free}
 use Rattle.move_ledger.specs.LoadLaws.{Loadable}
-use Rattle.move_ledger.specs.Nodes.{placed, node_edge}
-use Rattle.move_ledger.specs.NodePlaces.{placing_apart, Kept}
-use Rattle.move_ledger.proofs.NodePlaces.{register-kept}
+use Rattle.move_ledger.specs.Nodes.{placed}
+use Rattle.move_ledger.specs.NodePlaces.{placing_apart}
 use Rattle.set_order.specs.Order.{lane_set, First}
 use Rattle.set_order.specs.Steps.{CanFind}
 use Rattle.move_area.specs.Bodies.{lane_at, atom_at, write}
@@ -27,13 +25,12 @@ use Rattle.move_area.specs.Held.{consistent-whole}
 use Rattle.move_area.specs.Checked.{nodes_in, nodes_state}
 use Rattle.move_area.specs.NodeBodies.{Nodes, node_bodies}
 use Rattle.move_area.specs.Calls.{after}
-use Rattle.move_try.specs.Stands.{Stands, stands-sized, stands_long, registered-at, counter_at, sets-in, node_at, marks-part, nodes-part, stands-encode, consistent-stands}
+use Rattle.move_try.specs.Stands.{Stands, stands-sized, stands_long, registered-at, counter_at, sets-in, node_at, marks-part, nodes-part, consistent-stands}
 use Rattle.move_try.specs.Areas.{registered, sets_with, CanRegister}
-use Rattle.move_try.specs.Changes.{with_node}
 use Rattle.move_try.specs.Grown.{write-over}
-use Rattle.move_try.specs.Outcome.{slot_report, Trial, next_place, with_target_sets, with_target, target_area, with_test, stands-target, trial_rejected, trial_accepted, early_rejected}
+use Rattle.move_try.specs.Outcome.{next_place, with_target_sets, with_target, target_area, stands-target, early_rejected}
 use Rattle.move_try.specs.Early.{CanPlace, Place, outside-step1, target-new, place_is, target_node, place-below}
-use Rattle.move_try.specs.Settle.{CanSettle, Settled}
+use Rattle.move_try.specs.Settle.{CanSettle}
 
 -- the rows 1 to 6 and 9 to 12 don't fit
 pub record CanTry (load : Load) (n : ℕ) (area : List ℕ) (atom T : ℕ) : Type 0 where
@@ -87,7 +84,7 @@ module _ {load : Load} {N : ℕ} {s : Nodes} {l₀ l : List ℕ} (v : Stands loa
       }
 
 module _ {load : Load} {n : ℕ} {area : List ℕ} {atom T : ℕ} (can : CanTry load n area atom T) where
-  abbrev st : Nodes
+  abbrev pub st : Nodes
   st = nodes_state load n area
 
   pub try_stands : Stands load n st area area
@@ -137,10 +134,10 @@ module _ {load : Load} {n : ℕ} {area : List ℕ} {atom T : ℕ} (can : CanTry 
       first : First (lane_set area (n * n + 24) n) (length (sets_in n area)) T x
       first = subst (λ k. First (lane_set area (n * n + 24) n) k T x) registered_many f
 
-      more : load.A < n
+      pub more : load.A < n
       more = can.loadable.sizes.wide
 
-      node : (y < length (with_target_sets load n st T)) × (at (with_target_sets load n st T) y ≡ T)
+      pub node : (y < length (with_target_sets load n st T)) × (at (with_target_sets load n st T) y ≡ T)
       node = target_node try_stands T x first more y p
 
       pub try_register : CanRegister n m y area
@@ -175,28 +172,12 @@ module _ {load : Load} {n : ℕ} {area : List ℕ} {atom T : ℕ} (can : CanTry 
                 let e : y ≡ next_place load n st = place_is try_stands T x first more y p (eqb-true x (length (sets_in n area)) (target-new try_stands T x first ∙ ap not q)) in
                 rw (e, counted (next_place load n st) free.within) refl
 
-        target : Stands load n (with_target load n st T) area l₁
+        pub target : Stands load n (with_target load n st T) area l₁
         target =
             subst (Stands load n (with_target load n st T) area) (sym written)
             (stands-target try_stands more T (below_256 can.loadable.sizes.bits can.range))
 
-        kept : Kept load n (nodes_in load n area) (sets_in n area) (with_target_sets load n st T)
-        kept = register-kept try_stands.placing try_stands.few more (omega (arith, try_stands.small)) T
-
-        trial : Trial load n st atom T y
-        trial =
-            record {
-              order = try_stands.order;
-              placing = try_stands.placing;
-              small = try_stands.small;
-              few = try_stands.few;
-              more = more;
-              atom = can.there;
-              node = node.0;
-              set = node.1;
-            }
-
-        named : nodes_state load n l₁ ≡ with_target load n st T
+        pub named : nodes_state load n l₁ ≡ with_target load n st T
         named = stands-named target
 
         pub try_settle : CanSettle load n l₁ atom y
@@ -207,43 +188,3 @@ module _ {load : Load} {n : ℕ} {area : List ℕ} {atom T : ℕ} (can : CanTry 
               there = can.there;
               node = subst (λ z. y < length z.sets) (sym named) node.0;
             }
-
-        -- the graph before is the same with the target registered
-        present : cyclic (node_edge load (nodes_in load n area) (with_target_sets load n st T)) (below n) ≡ cyclic (node_edge load (nodes_in load n area) (sets_in n area)) (below n)
-        present = rw (kept.sources, kept.targets) refl
-
-        abbrev tested : Nodes → Nodes
-        tested z = with_test load n z atom y (cyclic (node_edge load z.nodes z.sets) (below n))
-
-        module _ {l₂ : List ℕ} where
-          pub try_settled : {x : Answer} → Settled load n l₁ atom y x l₂ → Answers load n area atom T x l₂
-          unfolding decode
-          try_settled {x} z = go (cyclic M (below n)) refl says
-            where
-              M : ℕ → ℕ → Bool
-              M = node_edge load (set (nodes_in load n area) atom y) (with_target_sets load n st T)
-
-              R : Report
-              R = slot_report load n (nodes_in load n area) (with_target_sets load n st T) atom y
-
-              says : x ≡ cond (cyclic M (below n)) rejected (accepted R)
-              says = subst (λ z. x ≡ cond (cyclic (node_edge load (set z.nodes atom y) z.sets) (below n)) rejected (accepted (slot_report load n z.nodes z.sets atom y))) named z.says
-
-              held : Stands load n (cond (is_accepted x) (with_node (tested (with_target load n st T)) atom y) (tested (with_target load n st T))) area l₂
-              held = stands-over target (subst (λ z. Stands load n (cond (is_accepted x) (with_node (tested z) atom y) (tested z)) l₁ l₂) named z.stands) (go' (is_accepted x))
-                where
-                  go' : (t : Bool) → length (with_target load n st T).sets ≤ length (cond t (with_node (tested (with_target load n st T)) atom y) (tested (with_target load n st T))).sets
-                  go' true = omega arith
-                  go' false = omega arith
-
-              go : (t : Bool) → cyclic M (below n) ≡ t → x ≡ cond t rejected (accepted R) → Answers load n area atom T x l₂
-              go true q e = record {
-                of = λ fixed w free v legal.
-                    let k = trial_rejected trial fixed w v free legal can.other (sym s1 ∙ left) q in
-                    (e ∙ sym k.0, stands-encode (rw e at held) ∙ ap (λ u. encode load n u area) (rw present (sym k.1)));
-              }
-              go false q e = record {
-                of = λ fixed w free v legal.
-                    let k = trial_accepted trial fixed w v free legal can.other (sym s1 ∙ left) q in
-                    (e ∙ sym k.0, stands-encode (rw e at held) ∙ ap (λ u. encode load n u area) (rw present (sym k.1)));
-              }

@@ -3,9 +3,9 @@ use Prim.Native.Nat.{◌+◌, ◌*◌}
 use mathlib.Core.Path.{refl}
 use native.Mathlib.Omega.{arith}
 use lib.ListN.{get_or}
-use borrow.Author.Rules.{rules}
 use Rattle.move_area.specs.Bodies.{atom_at}
-use Rattle.move_try.specs.Tried.{try_room, try_from, try_outside, try_rejected, try_find, try_register, try_settle, try_settled}
+use Rattle.move_try.specs.Tried.{try_room, try_from, try_outside, try_rejected, try_find, try_register, try_settle}
+use Rattle.move_try.proofs.TriedLaws.{try_settled}
 use Rattle.move_try.proofs.try_checked.Goals as goal
 
 pub overflow_cast-from : goal.overflow_cast-from

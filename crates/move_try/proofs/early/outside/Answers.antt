@@ -1,6 +1,5 @@
 -- `outside` meets its contract. Assumes nothing.
 use borrow.Author.Tests.{eq-eqb, ne_eqb}
-use borrow.Author.Rules.{rules}
 use Rattle.move_try.proofs.early.outside.Goals as goal
 
 pub returns-then-area-square-ne0 : goal.returns-then-area-square-ne0

@@ -1,7 +1,6 @@
 -- `place` meets its contract. Assumes nothing.
 use mathlib.Core.Path.{refl}
 use native.Mathlib.Omega.{arith}
-use borrow.Author.Rules.{rules}
 use Rattle.move_try.proofs.early.place.Goals as goal
 
 pub returns-then-node-n : goal.returns-then-node-n

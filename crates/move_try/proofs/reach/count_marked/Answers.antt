@@ -1,12 +1,11 @@
 -- `move_try::reach::count_marked` meets its contract. Assumes nothing.
-use Prim.Native.Nat.{◌-◌, ◌≤◌, ◌+◌}
+use Prim.Native.Nat.{◌+◌}
 use native.Mathlib.Omega.{arith}
 use mathlib.Core.Path.{◌≡◌, sym, ap, ◌∙◌}
 use lib.Dec.{eqb}
 use lib.ListN.{get_or}
 use Rattle.graphs.specs.Count.{count, count_none}
 use Rattle.move_try.specs.Reached.{counted}
-use borrow.Author.Rules.{rules}
 use Rattle.move_try.proofs.reach.count_marked.Goals as goal
 
 pub loop-x-init : goal.loop-x-init

@@ -1,12 +1,9 @@
 -- `move_try::reach::count_marked` meets its contract. Assumes nothing.
 use Prim.Native.Nat.{◌-◌, ◌≤◌, ◌+◌}
-use native.Mathlib.Omega.{arith}
-use mathlib.Core.Path.{◌≡◌, sym, ap, ◌∙◌}
+use mathlib.Core.Path.{◌≡◌}
 use lib.Dec.{eqb}
 use lib.ListN.{get_or}
-use Rattle.graphs.specs.Count.{count, count_none}
-use Rattle.move_try.specs.Reached.{counted}
-use borrow.Author.Rules.{rules}
+use Rattle.graphs.specs.Count.{count}
 use Rattle.move_try.proofs.reach.count_marked.Given as goal
 
 abbrev pub invariant-loop-x : goal.invariant-loop-x

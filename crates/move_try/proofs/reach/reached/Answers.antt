@@ -1,7 +1,6 @@
 -- `move_try::reach::reached` meets its contract. Assumes nothing.
 use mathlib.Core.Path.{◌∙◌}
 use Rattle.graphs.specs.Count.{count_ext}
-use borrow.Author.Rules.{rules}
 use Rattle.move_try.proofs.reach.reached.Goals as goal
 
 pub returns : goal.returns

@@ -2,7 +2,6 @@
 use mathlib.Core.Path.{◌∙◌}
 use Rattle.graph_neighbours.specs.Lists.{edge}
 use Rattle.move_try.specs.Reached.{own_can, own_count}
-use borrow.Author.Rules.{rules}
 use Rattle.move_try.proofs.reach.walk.Goals as goal
 
 pub reach-requires : goal.reach-requires

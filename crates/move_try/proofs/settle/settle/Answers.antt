@@ -1,5 +1,4 @@
 -- `move_try::settle::settle` meets its contract. Assumes nothing.
-use borrow.Author.Rules.{rules}
 use Rattle.move_try.proofs.settle.settle.Goals as goal
 
 pub settle_small-requires : goal.settle_small-requires

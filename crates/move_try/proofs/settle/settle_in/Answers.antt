@@ -2,7 +2,6 @@
 use native.Mathlib.Omega.{arith}
 use mathlib.Core.Path.{◌∙◌}
 use Rattle.move_try.specs.Settle.{settle_trial, settle_test, settle_rejected, settle_reach, settle_fill, settle_commit, settle_accepted}
-use borrow.Author.Rules.{rules}
 use Rattle.move_try.proofs.settle.settle_in.Goals as goal
 
 pub trial-requires : goal.trial-requires

@@ -1,6 +1,5 @@
 -- `move_try::settle::settle_small` meets its contract. Assumes nothing.
 use native.Mathlib.Omega.{arith}
-use borrow.Author.Rules.{rules}
 use Rattle.move_try.proofs.settle.settle_small.Goals as goal
 
 pub settle_in-requires : goal.settle_in-requires

@@ -7,7 +7,6 @@ use Rattle.graphs.specs.Slots.{slot_edge}
 use Rattle.graphs.specs.Walk.{cyclic}
 use Rattle.graph_slots.specs.Listing.{group_can, slot-lists}
 use Rattle.move_try.specs.Test.{search_done, walk_can, walk_done}
-use borrow.Author.Rules.{rules}
 use Rattle.move_try.proofs.test.closes_cycle.Goals as goal
 
 pub group-requires : goal.group-requires

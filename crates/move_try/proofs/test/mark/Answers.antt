@@ -1,7 +1,6 @@
 -- `move_try::test::mark` meets its contract. Assumes nothing.
 use Rattle.graph_neighbours.specs.Lists.{edge}
 use Rattle.move_try.specs.Test.{mark_can, mark_done}
-use borrow.Author.Rules.{rules}
 use Rattle.move_try.proofs.test.mark.Goals as goal
 
 pub reach-requires : goal.reach-requires

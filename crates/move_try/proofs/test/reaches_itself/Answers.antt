@@ -1,7 +1,6 @@
 -- `move_try::test::reaches_itself` meets its contract. Assumes nothing.
 use Rattle.graph_neighbours.specs.Lists.{edge}
 use Rattle.move_try.specs.Test.{itself-done}
-use borrow.Author.Rules.{rules}
 use Rattle.move_try.proofs.test.reaches_itself.Goals as goal
 
 pub mark-requires : goal.mark-requires

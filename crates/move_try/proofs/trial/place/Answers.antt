@@ -1,6 +1,5 @@
 -- `place` meets its contract. Assumes nothing.
 use Rattle.move_try.specs.Trial.{placed-part}
-use borrow.Author.Rules.{rules}
 use Rattle.move_try.proofs.trial.place.Goals as goal
 
 pub returns : goal.returns

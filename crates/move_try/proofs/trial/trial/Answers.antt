@@ -1,7 +1,6 @@
 -- `move_try::trial::trial` meets its contract. Assumes nothing.
 use native.Mathlib.Omega.{arith}
 use Rattle.move_try.specs.Trial.{fill_can, fill_done}
-use borrow.Author.Rules.{rules}
 use Rattle.move_try.proofs.trial.trial.Goals as goal
 
 pub fill_slots-requires : goal.fill_slots-requires

@@ -2,7 +2,6 @@
 use Prim.Native.Nat.{◌+◌, ◌*◌}
 use native.Mathlib.Omega.{arith}
 use lib.ListN.{length-set}
-use borrow.Author.Rules.{rules}
 use Rattle.entry_set.specs.Sets.{number}
 use Rattle.move_try.specs.Areas.{sets_with, written_long, registered_written}
 use Rattle.move_try.proofs.writes.add_node.Goals as goal

@@ -7,7 +7,6 @@ use Rattle.layout.specs.Patch.{part}
 use Rattle.move_edges.specs.Matrix.{matrix}
 use Rattle.move_try.specs.Areas.{committed}
 use Rattle.move_try.specs.Commit.{edges_can, commit_long, stored_long, commit_same, commit_done}
-use borrow.Author.Rules.{rules}
 use Rattle.move_try.proofs.writes.commit.Goals as goal
 
 pub edges_after-edges-requires : goal.edges_after-edges-requires

@@ -1,6 +1,5 @@
 -- `follow` meets its contract: the square is lent to `update`, and comes back as a patch. Assumes nothing.
 use Rattle.move_try.specs.Commit.{follow_can, follow-done}
-use borrow.Author.Rules.{rules}
 use Rattle.move_try.proofs.writes.follow.Goals as goal
 
 pub update-requires : goal.update-requires

@@ -1,7 +1,6 @@
 -- `raise` meets its contract: the marks lane is lent to the walk's start, and comes back as a patch. Assumes nothing.
 use native.Mathlib.Omega.{arith}
 use Rattle.move_try.specs.Areas.{raised-done}
-use borrow.Author.Rules.{rules}
 use Rattle.move_try.proofs.writes.raise.Goals as goal
 
 pub returns : goal.returns

@@ -1,6 +1,5 @@
 -- `register` meets its contract. Assumes nothing.
 use mathlib.Core.Path.{refl}
-use borrow.Author.Rules.{rules}
 use borrow.Author.Tests.{eq-eqb, ne_eqb}
 use Rattle.move_try.proofs.writes.register.Goals as goal
 

@@ -1,0 +1,3 @@
+-- What holds of the definitions. Assumes nothing.
+pub mod Outcome
+pub mod TriedLaws
