@@ -3,9 +3,9 @@ use Rattle.std.specs.Prelude.{ℕ, ◌+◌, ◌*◌, ◌≤◌, ◌<◌, ◌≡�
 use Rattle.std.proofs.Common.{arith, ◌∙◌}
 use Rattle.std.proofs.Math.Path.{refl, sym, ap}
 use Rattle.std.proofs.Math.Bool.{true, false, cond}
-use mathlib.Core.List.{List, ◌++◌, map}
+use mathlib.Core.List.{List, ◌++◌}
 use Rattle.std.proofs.Math.ListN.{length, get_or-append}
-use Rattle.std.proofs.lemmas.List.{length-map, length-replicate}
+use Rattle.std.proofs.lemmas.List.{length-replicate}
 use borrow.Author.Tests.{le-leb, lt-leb, lt-ltb, le-ltb}
 use Rattle.graphs.specs.Count.{ind}
 use Rattle.graphs.specs.Tab.{zeros}
@@ -15,17 +15,14 @@ use Rattle.move_ledger.specs.Graph.{Load, at, edge}
 use Rattle.move_ledger.specs.Answer.{Answer, refused, is_refused}
 use Rattle.move_ledger.specs.Answer as answer
 use Rattle.move_ledger.proofs.NodeWalks.{cyclic-nodes}
-use Rattle.move_area.specs.Area.{sets_in, decode}
+use Rattle.move_area.specs.Area.{decode}
 use Rattle.move_questions.specs.Answers.{place_in, Checked, Listable}
 use Rattle.move_rows.specs.Later.{turned-back, goes_on}
 use Rattle.move_rows.specs.Listed.{RowTold}
-use Rattle.move_order.specs.Order.{start_order, names, told, started}
-use Rattle.start_order.specs.Turns.{Setting, whole}
-use Rattle.start_order.specs.Nodes.{setting, fits, row, turn-none, order_of, placing, long, few, atoms, cell-edge}
-use Rattle.start_order.specs.Marked.{Marked}
+use Rattle.move_order.specs.Order.{names, told, started}
+use Rattle.start_order.specs.Nodes.{order_of, placing, long, few}
 use Rattle.start_order.specs.Walked.{CanMark}
-use Rattle.start_order.specs.Lowest.{atom_node, CanLower, Lowest, names_low}
-use Rattle.start_order.specs.Steps.{CanList, Told}
+use Rattle.start_order.specs.Lowest.{CanLower}
 
 -- the first n numbers are cleared
 pub cleared : (l : List ℕ) {l' : List ℕ} (n : ℕ) → l' ≡ replicate n 0 ++ drop n l → (x : ℕ) → x < n → at l' x ≡ 0
@@ -48,7 +45,7 @@ pub record Fetched (load : Load) (n : ℕ) (area : List ℕ) (b : ℕ) (chunks c
   pub named : chunks' ≡ patch 0 (names load (place_in load n area) b) chunks
 
 module _ {load : Load} {n : ℕ} {area : List ℕ} {r b : ℕ} {order degrees chunks marks low : List ℕ} (can : CanFetch load n area r b order degrees chunks) (lists : FetchRoom marks low) where
-  checked : Checked load n area r
+  pub checked : Checked load n area r
   checked = can.listable.checked
 
   pub fetch_clear : n ≤ length marks
@@ -63,41 +60,6 @@ module _ {load : Load} {n : ℕ} {area : List ℕ} {r b : ℕ} {order degrees ch
     room = omega (arith, checked.loadable.sizes.area);
     node = λ i l. omega (arith, checked.ranged.nodes i l, checked.ranged.few, checked.loadable.sizes.sets, lists.lows);
   }
-
-  module _ {marks' low' : List ℕ} (m : Marked load n area r b marks') (ml : length marks' ≡ length marks) (v : Lowest (atom_node area n) 0 load.A low') (ll : length low' ≡ length low) where
-    fetch_list : CanList (setting load n area b) area n r load.A order low' marks' degrees chunks
-    fetch_list = record {
-      fits = fits checked b;
-      row = row can.listable b;
-      square = omega (arith, checked.loadable.sizes.area);
-      small = checked.loadable.sizes.sets;
-      few = few checked;
-      cell = cell-edge checked;
-      orders = can.listable.order_long;
-      lows = omega (arith, few checked, checked.loadable.sizes.sets, lists.lows);
-      marks_long = omega (arith, few checked, fetch_clear);
-      degrees_long = omega (arith, few checked, can.listable.degrees_long);
-      room = can.room;
-      first = turn-none can.listable b m.mark_at;
-    }
-
-    pub fetch_list_some : (s : Setting) × CanList s area n r load.A order low' marks' degrees chunks
-    fetch_list_some = (setting load n area b, fetch_list)
-
-    fetch_done : {chunks' : List ℕ} {k : ℕ} → Told (setting load n area b) r load.A low' chunks chunks' k → Fetched load n area b chunks chunks' k
-    unfolding start_order
-    fetch_done {chunks'} {k} t =
-        let s : start_order load (place_in load n area) b ≡ map (at (sets_in n area)) t.listed
-        = ap (whole (setting load n area b)) (atoms checked) ∙ t.all in
-        let e = names_low checked v b t.listed s t.inside t.wanted in
-        record {
-          many = t.many ∙ sym (length-map t.listed (at low')) ∙ ap length (sym e);
-          named = t.named ∙ ap (λ u. patch 0 u chunks) (sym e);
-        }
-
-    pub fetch_told : {chunks' : List ℕ} {k : ℕ} → ((s : Setting) → CanList s area n r load.A order low' marks' degrees chunks → Told s r load.A low' chunks chunks' k)
-        → Fetched load n area b chunks chunks' k
-    fetch_told f = fetch_done (f (setting load n area b) fetch_list)
 
 -- no earlier row fits
 pub record CanGoOn (load : Load) (n : ℕ) (area order degrees : List ℕ) : Type 0 where

@@ -1,27 +1,17 @@
 -- The loop over the turns: what holds before each, and what it comes to. Assumes nothing.
-use Rattle.std.specs.Prelude.{ℕ, ◌+◌, ◌≤◌, ◌<◌, ◌≡◌, List, [], ◌∷◌, ◌++◌, map, length, set}
+use Rattle.std.specs.Prelude.{ℕ, ◌≤◌, ◌<◌, ◌≡◌, List, [], map, length}
 use Rattle.std.proofs.Common.{arith, sym, ap, ◌∙◌}
-use Rattle.std.proofs.lemmas.List.{length-map}
 use Rattle.graphs.specs.Count.{ind}
-use Rattle.layout.specs.Patch.{patch, patch_long, patch_in, is_part, patch-none, patch_one, patch_append, patch-over}
+use Rattle.layout.specs.Patch.{patch, patch-none}
 use Rattle.move_ledger.specs.Graph.{at}
-use Rattle.move_order.specs.Listing.{snoc_length}
-use Rattle.start_order.specs.Turns.{Setting, whole, is_ready, Turn, map_snoc, turns_end, turns_full, left_over, turn_more}
-use Rattle.start_order.specs.Steps.{CanSeek, Sought, leads, CanTake, Taken, CanList, Told}
+use Rattle.start_order.specs.Turns.{Setting, whole, is_ready, Turn, turns_end, turns_full, left_over}
+use Rattle.start_order.specs.Steps.{CanSeek, Sought, leads, CanTake, CanList, Told}
 
 -- after k turns: the nodes that are listed, and their numbers in the lent list
 pub record Run (s : Setting) (n r a : ℕ) (low chunks₀ : List ℕ) (k : ℕ) (marks degrees chunks : List ℕ) : Type 0 where
   pub listed : List ℕ
   pub turn : Turn s n r a k listed marks degrees
   pub named : chunks ≡ patch 0 (map (at low) listed) chunks₀
-
--- one number more behind those that are written
-patch_snoc : (v l : List ℕ) (k x : ℕ) → k ≡ length v → k < length l → set (patch 0 v l) k x ≡ patch 0 (v ++ x ∷ []) l
-patch_snoc v l k x e b =
-    patch_one k x (patch 0 v l) (omega (arith, patch_long 0 v l))
-    ∙ ap (λ i. patch i (x ∷ []) (patch 0 v l)) {x = k} {y = 0 + length v} (omega arith)
-    ∙ patch_append 0 v (x ∷ []) (patch 0 v l) (is_part 0 (patch 0 v l) v (λ i h. patch_in 0 v l i h (omega arith)))
-    ∙ patch-over 0 (v ++ x ∷ []) v l (omega (arith, snoc_length v x))
 
 module _ {s : Setting} {area : List ℕ} {n r a : ℕ} {order low marks₀ degrees₀ chunks₀ : List ℕ} (can : CanList s area n r a order low marks₀ degrees₀ chunks₀) where
   pub run_none : Run s n r a low chunks₀ 0 marks₀ degrees₀ chunks₀
@@ -45,10 +35,10 @@ module _ {s : Setting} {area : List ℕ} {n r a : ℕ} {order low marks₀ degre
           ap (is_ready marks degrees) (sym p.2) ∙ f.before p.0 (omega (arith, p.1))))
 
       module _ (here : i < r) (less : k < a) (m : length marks ≡ length marks₀) (d : length degrees ≡ length degrees₀) (l : length chunks ≡ length chunks₀) where
-        abbrev z : ℕ
+        abbrev pub z : ℕ
         z = at order i
 
-        zr : z < r
+        pub zr : z < r
         zr = can.row.node i here
 
         -- of a node's edges that are left one leads to z, or none
@@ -66,16 +56,4 @@ module _ {s : Setting} {area : List ℕ} {n r a : ℕ} {order low marks₀ degre
           lows = omega (arith, zr, can.lows);
           marks_long = omega (arith, zr, can.marks_long);
           room = omega (arith, can.room);
-        }
-
-        pub run_more : {marks' degrees' chunks' : List ℕ} → Taken area n r z k low marks degrees chunks marks' degrees' chunks' → Run s n r a low chunks₀ (k + 1) marks' degrees' chunks'
-        run_more t = record {
-          listed = run.listed ++ z ∷ [];
-          turn =
-              turn_more can.fits can.few run.turn can.row here (f.found here) f.before less t.marked (omega (arith, can.marks_long))
-              (λ y b. omega (arith, t.passed y b, ap ind (can.cell y z (omega (arith, can.few)) (omega (arith, zr, can.few)))));
-          named =
-              t.named ∙ ap (λ u. set u k (at low z)) run.named
-              ∙ patch_snoc (map (at low) run.listed) chunks₀ k (at low z) (omega (arith, length-map run.listed (at low), run.turn.many)) (omega (arith, can.room))
-              ∙ ap (λ v. patch 0 v chunks₀) (sym (map_snoc (at low) run.listed z));
         }

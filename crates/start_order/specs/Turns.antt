@@ -1,19 +1,18 @@
 -- The turns in which the chunks are listed, by nodes: what each finds, and what it leaves. Assumes nothing.
 use Prim.Native.Nat.{ℕ, zero, suc, ◌+◌, ◌-◌, ◌≤◌, ◌<◌}
 use native.Mathlib.Omega.{arith}
-use Rattle.std.proofs.Math.Decide.{ℕ_discrete, dec_lt}
-use Rattle.std.specs.Prelude.{◌≡◌, refl, Bool, ◌&&◌, ◌||◌, List, [], ◌∷◌, ◌++◌, map, eqb, length, set}
-use Rattle.std.proofs.Common.{sym, subst, ◌∙◌, ⊎_elim, get_or-set_same, get_or-set_other, eqb-true, eq-eqb, ne_eqb}
+use Rattle.std.specs.Prelude.{◌≡◌, refl, Bool, ◌&&◌, ◌||◌, List, [], ◌∷◌, ◌++◌, map, eqb, length}
+use Rattle.std.proofs.Common.{sym, subst, ◌∙◌, ⊎_elim, eqb-true, eq-eqb, ne_eqb}
 use Rattle.std.proofs.Math.Path.{ap}
 use Rattle.std.proofs.Math.Bool.{true, false, not, cond, true≢false}
 use Rattle.graphs.specs.Bools.{or_cases, or_left, or_right, and_left, and_right, and_both, fails}
 use Rattle.graphs.specs.Count.{ind, count, count_pos, count-all_no}
 use Rattle.graphs.specs.Total.{total_change, count-total}
-use Rattle.graphs.specs.Lists.{any, all, has, any_give, any-take, all_give}
+use Rattle.graphs.specs.Lists.{any, has, any-take, all_give}
 use Rattle.move_ledger.specs.Graph.{at}
 use Rattle.move_ledger.specs.Listing.{Rising}
-use Rattle.move_order.specs.Order.{ready, first, listing}
-use Rattle.move_order.specs.Listing.{snoc_length, has_snoc, first_is, first_least, Fit, ready_fit}
+use Rattle.move_order.specs.Order.{ready, listing}
+use Rattle.move_order.specs.Listing.{has_snoc, Fit, ready_fit}
 
 -- A graph of sets and the nodes below r that have them: between sets there are the edges `over`, wanted are the sets that pass, `chunks` rises; the set
 -- of a node, and the edges between nodes.
@@ -108,10 +107,10 @@ one_less e l n z b h =
     gone = ap (λ t. ind (e z && not t)) (has_snoc z z l ∙ or_right (has z l) (eqb z z) (eq-eqb z z refl)) ∙ none (e z)
 
 module _ {s : Setting} {n r a k : ℕ} {listed marks degrees : List ℕ} (fits : Fits s r) (few : r ≤ n) (t : Turn s n r a k listed marks degrees) where
-  abbrev sets : List ℕ
+  abbrev pub sets : List ℕ
   sets = map s.set listed
 
-  abbrev test : ℕ → Bool
+  abbrev pub test : ℕ → Bool
   test = ready s.over s.wanted s.chunks sets
 
   -- a node is listed where its set is
@@ -121,7 +120,7 @@ module _ {s : Setting} {n r a k : ℕ} {listed marks degrees : List ℕ} (fits :
       subst (λ u. has u listed ≡ true) (fits.apart q.0 x (t.inside q.0 q.1) b q.2) q.1
 
   -- a set is ready exactly where its node can be listed
-  to_node : (x : ℕ) → x < r → test (s.set x) ≡ true → is_ready marks degrees x ≡ true
+  pub to_node : (x : ℕ) → x < r → test (s.set x) ≡ true → is_ready marks degrees x ≡ true
   to_node x b h = and_both (eqb (at marks x) 1) _ (eq-eqb _ _ (t.mark_at x b ∙ unlisted (has x listed) refl)) (eq-eqb _ _ (t.degree_at x b ∙ count-all_no _ n none))
     where
       f : Fit s.over s.wanted s.chunks sets (s.set x)
@@ -189,79 +188,21 @@ module _ {s : Setting} {n r a k : ℕ} {listed marks degrees : List ℕ} (fits :
   -- the first node that can be listed is listed
   module _ {order : List ℕ} (row : Row s r order) {i : ℕ} (here : i < r) (can : is_ready marks degrees (at order i) ≡ true)
       (before : (j : ℕ) → j < i → is_ready marks degrees (at order j) ≡ false) (less : k < a) where
-    abbrev z : ℕ
+    abbrev pub z : ℕ
     z = at order i
 
-    zr : z < r
+    pub zr : z < r
     zr = row.node i here
 
-    test-z : test (s.set z) ≡ true
+    pub test-z : test (s.set z) ≡ true
     test-z = to_set z zr can
 
-    fit_z : Fit s.over s.wanted s.chunks sets (s.set z)
+    pub fit_z : Fit s.over s.wanted s.chunks sets (s.set z)
     fit_z = ready_fit s.over s.wanted s.chunks sets (s.set z) test-z
-
-    in_chunks : has (s.set z) s.chunks ≡ true
-    in_chunks = fits.member z fit_z.want
-
-    some : any test s.chunks ≡ true
-    some = any_give test s.chunks (s.set z) in_chunks test-z
-
-    -- no ready set is smaller
-    least : (X : ℕ) → has X s.chunks ≡ true → test X ≡ true → s.set z ≤ X
-    least X m h =
-        let x = fits.node X m in
-        let q = to_node x.0 x.1 (ap test x.2 ∙ h) in
-        let p = row.place x.0 x.1 in
-        let no-earlier : p.0 < i → ⊥ = λ l. true≢false (sym q ∙ ap (is_ready marks degrees) (sym p.2) ∙ before p.0 l) in
-        elim (ℕ_discrete p.0 i) [
-          | yes g ↦ omega (arith, ap s.set (ap (at order) (sym g) ∙ p.2) ∙ x.2)
-          | no g ↦ elim (dec_lt p.0 i) [
-            | yes l ↦ absurd (no-earlier l)
-            | no l ↦ omega (arith, row.rise i p.0 (omega arith) p.1, ap s.set p.2 ∙ x.2)
-          ]
-        ]
-
-    chosen : first test s.chunks ≡ s.set z
-    chosen =
-        let f = first_is test s.chunks some in
-        omega (arith, first_least test fits.rises (s.set z) in_chunks test-z, least (first test s.chunks) f.0 f.1)
 
     pub turn-new : has z listed ≡ false
     turn-new = fails _ (λ q. true≢false (sym (map-has s.set z listed q) ∙ fit_z.new))
 
-    goes_on : whole s a ≡ listing s.over s.wanted s.chunks (a - (k + 1)) (map s.set (listed ++ z ∷ []))
-    unfolding listing
-    goes_on =
-        let e : a - k ≡ suc (a - (k + 1)) = omega arith in
-        t.goes ∙ ap (λ j. listing s.over s.wanted s.chunks j sets) e
-        ∙ ap (λ u. cond u (listing s.over s.wanted s.chunks (a - (k + 1)) (sets ++ first test s.chunks ∷ [])) sets) some
-        ∙ ap (λ X. listing s.over s.wanted s.chunks (a - (k + 1)) (sets ++ X ∷ [])) chosen
-        ∙ ap (listing s.over s.wanted s.chunks (a - (k + 1))) (sym (map_snoc s.set listed z))
-
     -- each node's edges that are left, of which one leads to z or none
     pub left_over : (x : ℕ) → x < r → count (λ y. s.edge x y && not (has y (listed ++ z ∷ []))) n + ind (s.edge x z) ≡ at degrees x
     left_over x b = one_less (s.edge x) listed n z (omega (arith, zr)) turn-new ∙ sym (t.degree_at x b)
-
-    pub turn_more : {marks' degrees' : List ℕ} → marks' ≡ set marks z 2 → r ≤ length marks → ((x : ℕ) → x < r → at degrees' x + ind (s.edge x z) ≡ at degrees x)
-        → Turn s n r a (k + 1) (listed ++ z ∷ []) marks' degrees'
-    turn_more {marks'} {degrees'} m long d = record {
-      most = omega arith;
-      many = omega (arith, snoc_length listed z, t.many);
-      inside = λ x h. ⊎_elim (t.inside x) (λ q. omega (arith, eqb-true x z q, zr)) (or_cases (has x listed) _ (sym (has_snoc x z listed) ∙ h));
-      wanted = λ x h. ⊎_elim (t.wanted x) (λ q. rw (eqb-true x z q) fit_z.want) (or_cases (has x listed) _ (sym (has_snoc x z listed) ∙ h));
-      goes = goes_on;
-      mark_at = λ x b. ap (λ l. at l x) m ∙ marks-at x b (ℕ_discrete x z);
-      degree_at = λ x b. omega (arith, d x b, left_over x b);
-    }
-      where
-        marks-at : (x : ℕ) → x < r → Dec (x ≡ z) → at (set marks z 2) x ≡ cond (has x (listed ++ z ∷ [])) 2 (ind (s.wanted (s.set x)))
-        marks-at x b (yes e) =
-            ap (at (set marks z 2)) e ∙ get_or-set_same marks z 2 0 (omega (arith, zr))
-            ∙ sym (ap (λ u. cond u 2 (ind (s.wanted (s.set x)))) (has_snoc x z listed ∙ or_right (has x listed) _ (eq-eqb x z e)))
-        marks-at x b (no e) =
-            get_or-set_other marks z x 2 0 e ∙ t.mark_at x b ∙ sym (ap (λ u. cond u 2 (ind (s.wanted (s.set x)))) (has_snoc x z listed ∙ keep (has x listed) (eqb x z) (ne_eqb x z e)))
-          where
-            keep : (p q : Bool) → q ≡ false → (p || q) ≡ p
-            keep true q h = refl
-            keep false q h = h

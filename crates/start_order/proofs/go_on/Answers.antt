@@ -1,7 +1,6 @@
 -- `start_order::go_on` meets its contract. Assumes nothing.
 use Rattle.start_order.specs.Calls.{go_bit, go_cyclic, go_short, go_fetch, go_told}
 use native.Mathlib.Omega.{arith}
-use borrow.Author.Rules.{rules}
 use Rattle.start_order.proofs.go_on.Goals as goal
 
 pub returns-then-wide-bit : goal.returns-then-wide-bit

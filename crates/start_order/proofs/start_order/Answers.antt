@@ -1,6 +1,5 @@
 -- `start_order::start_order` meets its contract. Assumes nothing.
 use Rattle.start_order.specs.Calls.{call_refused, call_on, call-answer}
-use borrow.Author.Rules.{rules}
 use Rattle.start_order.proofs.start_order.Goals as goal
 
 pub returns-then-q-ne0 : goal.returns-then-q-ne0

@@ -1,10 +1,9 @@
 -- `start_order::atoms::lowest` meets its contract. Assumes nothing.
-use Rattle.start_order.specs.Lowest.{atom_node, Lowest, lowest_none, lowest_more}
-use borrow.Author.Rules.{rules}
-use lib.ListN.{length, length-set}
+use Rattle.start_order.specs.Lowest.{lowest_none, lowest_more}
+use lib.ListN.{length-set}
 use mathlib.Core.Path.{◌≡◌, refl}
 use native.Mathlib.Omega.{arith}
-use Prim.Native.Nat.{◌-◌, ◌≤◌}
+use Prim.Native.Nat.{◌-◌}
 use Rattle.start_order.proofs.atoms.lowest.Goals as goal
 
 pub loop-k-init : goal.loop-k-init

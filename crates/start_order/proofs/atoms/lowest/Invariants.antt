@@ -1,10 +1,8 @@
 -- `start_order::atoms::lowest` meets its contract. Assumes nothing.
-use Rattle.start_order.specs.Lowest.{atom_node, Lowest, lowest_none, lowest_more}
-use borrow.Author.Rules.{rules}
-use lib.ListN.{length, length-set}
-use mathlib.Core.Path.{◌≡◌, refl}
-use native.Mathlib.Omega.{arith}
-use Prim.Native.Nat.{◌-◌, ◌≤◌}
+use Rattle.start_order.specs.Lowest.{atom_node, Lowest}
+use lib.ListN.{length}
+use mathlib.Core.Path.{◌≡◌}
+use Prim.Native.Nat.{◌≤◌}
 use Rattle.start_order.proofs.atoms.lowest.Given as goal
 
 abbrev pub invariant-loop-k : goal.invariant-loop-k

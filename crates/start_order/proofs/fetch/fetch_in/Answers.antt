@@ -1,7 +1,7 @@
 -- `start_order::fetch::fetch_in` meets its contract. Assumes nothing.
-use Rattle.start_order.specs.Calls.{cleared, fetch_mark, fetch_low, fetch_list_some, fetch_told}
+use Rattle.start_order.specs.Calls.{cleared, fetch_mark, fetch_low}
+use Rattle.start_order.proofs.Calls.{fetch_list_some, fetch_told}
 use mathlib.Core.Path.{◌∙◌}
-use borrow.Author.Rules.{rules}
 use Rattle.start_order.proofs.fetch.fetch_in.Goals as goal
 
 pub mark-requires : goal.mark-requires

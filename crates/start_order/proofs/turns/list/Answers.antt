@@ -1,12 +1,8 @@
 -- `start_order::turns::list` meets its contract. Assumes nothing.
-use Rattle.start_order.specs.Running.{Run, run_none, run_seek, run_end, run_full, run_take, run_more}
-use Rattle.start_order.specs.Steps.{CanList}
-use Rattle.start_order.specs.Turns.{Setting}
-use borrow.Author.Rules.{rules}
-use lib.ListN.{length}
-use mathlib.Core.Path.{◌≡◌, refl, ◌∙◌}
+use Rattle.start_order.specs.Running.{run_none, run_seek, run_end, run_full, run_take}
+use Rattle.start_order.proofs.Running.{run_more}
+use mathlib.Core.Path.{refl, ◌∙◌}
 use native.Mathlib.Omega.{arith}
-use Prim.Native.Nat.{◌-◌, ◌≤◌}
 use Rattle.start_order.proofs.turns.list.Goals as goal
 
 pub loop-k-init : goal.loop-k-init

@@ -1,11 +1,9 @@
 -- `start_order::turns::list` meets its contract. Assumes nothing.
-use Rattle.start_order.specs.Running.{Run, run_none, run_seek, run_end, run_full, run_take, run_more}
+use Rattle.start_order.specs.Running.{Run}
 use Rattle.start_order.specs.Steps.{CanList}
 use Rattle.start_order.specs.Turns.{Setting}
-use borrow.Author.Rules.{rules}
 use lib.ListN.{length}
-use mathlib.Core.Path.{◌≡◌, refl, ◌∙◌}
-use native.Mathlib.Omega.{arith}
+use mathlib.Core.Path.{◌≡◌}
 use Prim.Native.Nat.{◌-◌, ◌≤◌}
 use Rattle.start_order.proofs.turns.list.Given as goal
 

@@ -1,10 +1,7 @@
 -- `start_order::turns::pass` meets its contract. Assumes nothing.
-use Rattle.start_order.specs.StepLaws.{pass_cell, pass_less, passed_none, passed-more}
 use Rattle.start_order.specs.Steps.{Passed}
-use borrow.Author.Rules.{rules}
-use lib.ListN.{length, length-set}
-use mathlib.Core.Path.{◌≡◌, refl}
-use native.Mathlib.Omega.{arith}
+use lib.ListN.{length}
+use mathlib.Core.Path.{◌≡◌}
 use Prim.Native.Nat.{◌-◌, ◌≤◌}
 use Rattle.start_order.proofs.turns.pass.Given as goal
 

@@ -4,7 +4,6 @@ use borrow.Author.Tests.{eq-eqb, ne_eqb}
 use lib.Dec.{eqb}
 use mathlib.Core.Bool.{◌&&◌}
 use mathlib.Core.Path.{sym, ap}
-use borrow.Author.Rules.{rules}
 use Rattle.start_order.proofs.turns.ready.Goals as goal
 
 pub returns-then-marks-x-ne1 : goal.returns-then-marks-x-ne1

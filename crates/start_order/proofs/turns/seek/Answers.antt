@@ -1,12 +1,9 @@
 -- `start_order::turns::seek` meets its contract. Assumes nothing.
 use Rattle.start_order.specs.Turns.{is_ready}
 use Rattle.move_ledger.specs.Graph.{at}
-use borrow.Author.Rules.{rules}
-use mathlib.Core.Bool.{false}
-use mathlib.Core.Path.{◌≡◌, sym, ap, ◌∙◌}
+use mathlib.Core.Path.{sym, ap, ◌∙◌}
 use native.Mathlib.Decide.{ℕ_discrete}
 use native.Mathlib.Omega.{arith}
-use Prim.Native.Nat.{ℕ, ◌-◌, ◌≤◌, ◌<◌}
 use Rattle.start_order.proofs.turns.seek.Goals as goal
 
 pub loop-i-init : goal.loop-i-init

@@ -8,7 +8,6 @@ use mathlib.Core.Bool.{not, ◌&&◌}
 use mathlib.Core.Path.{sym, ap, ◌∙◌}
 use native.Mathlib.Omega.{arith}
 use Prim.Native.Nat.{◌+◌}
-use borrow.Author.Rules.{rules}
 use Rattle.start_order.proofs.wanted.is_root.Goals as goal
 
 pub returns-then-area-lanes-eq0 : goal.returns-then-area-lanes-eq0

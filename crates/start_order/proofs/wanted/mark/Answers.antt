@@ -1,5 +1,4 @@
 -- `start_order::wanted::mark` meets its contract. Assumes nothing.
-use borrow.Author.Rules.{rules}
 use Rattle.start_order.proofs.wanted.mark.Goals as goal
 
 pub mark_small-requires : goal.mark_small-requires

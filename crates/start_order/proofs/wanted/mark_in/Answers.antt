@@ -1,6 +1,5 @@
 -- `start_order::wanted::mark_in` meets its contract. Assumes nothing.
 use Rattle.start_order.specs.Walking.{mark_group, mark_find, mark_blank, mark_spread, mark_done}
-use borrow.Author.Rules.{rules}
 use Rattle.start_order.proofs.wanted.mark_in.Goals as goal
 
 pub group-requires : goal.group-requires

@@ -1,6 +1,5 @@
 -- `start_order::wanted::mark_small` meets its contract. Assumes nothing.
 use native.Mathlib.Omega.{arith}
-use borrow.Author.Rules.{rules}
 use Rattle.start_order.proofs.wanted.mark_small.Goals as goal
 
 pub mark_in-requires : goal.mark_in-requires

@@ -1,12 +1,8 @@
 -- `start_order::wanted::roots` meets its contract. Assumes nothing.
 use Rattle.start_order.specs.Walked.{seed_can}
-use Rattle.start_order.specs.Roots.{Roots, roots_none, roots_more}
-use Rattle.start_order.specs.Bits.{picks}
-use borrow.Author.Rules.{rules}
-use lib.ListN.{length}
+use Rattle.start_order.specs.Roots.{roots_none, roots_more}
 use mathlib.Core.Path.{◌≡◌, refl, ◌∙◌}
 use native.Mathlib.Omega.{arith}
-use Prim.Native.Nat.{◌-◌, ◌≤◌}
 use Rattle.start_order.proofs.wanted.roots.Goals as goal
 
 pub loop-x-init : goal.loop-x-init

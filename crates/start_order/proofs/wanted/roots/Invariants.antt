@@ -1,11 +1,8 @@
 -- `start_order::wanted::roots` meets its contract. Assumes nothing.
-use Rattle.start_order.specs.Walked.{seed_can}
-use Rattle.start_order.specs.Roots.{Roots, roots_none, roots_more}
+use Rattle.start_order.specs.Roots.{Roots}
 use Rattle.start_order.specs.Bits.{picks}
-use borrow.Author.Rules.{rules}
 use lib.ListN.{length}
-use mathlib.Core.Path.{◌≡◌, refl, ◌∙◌}
-use native.Mathlib.Omega.{arith}
+use mathlib.Core.Path.{◌≡◌}
 use Prim.Native.Nat.{◌-◌, ◌≤◌}
 use Rattle.start_order.proofs.wanted.roots.Given as goal
 

@@ -1,7 +1,6 @@
 -- `start_order::wanted::seed` meets its contract. Assumes nothing.
 use mathlib.Core.Bool.{true≢false}
 use mathlib.Core.Path.{refl, sym, ◌∙◌}
-use borrow.Author.Rules.{rules}
 use Rattle.start_order.proofs.wanted.seed.Goals as goal
 
 pub returns-then-is_root : goal.returns-then-is_root
