@@ -14,7 +14,7 @@ use Rattle.move_ledger.specs.Ledger.{atom_set, has_cycle}
 use Rattle.moves_replies.specs.Words.{reply, load_reply}
 use Rattle.moves_replies.specs.Room.{Put, put_as, put-none}
 use Rattle.moves_load_commands.specs.declared.Machine.{Machine}
-use Rattle.moves_load_commands.specs.Machine.{done, start, Reading, reading, read, taken}
+use Rattle.moves_load_commands.specs.Machine.{done, start, Reading, read, taken}
 use Rattle.moves_commands.specs.Program.{State, Turn, areas, lent, begun, listing, load, move, edges, set_command, cycle, with_machine, quiet, execute, step}
 use Rattle.moves_commands.specs.Steps.{Stepped, held}
 

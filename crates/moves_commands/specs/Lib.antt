@@ -3,5 +3,4 @@ pub mod Program
 pub mod Few
 pub mod Fits
 pub mod Feed
-pub mod Alike
 pub mod Steps

@@ -3,12 +3,10 @@ use native.Mathlib.Omega.{arith}
 use lib.ListN.{length}
 use Rattle.moves_commands.specs.Program.{areas}
 use Rattle.moves_commands.specs.Feed.{feed-used}
-use mathlib.Core.Path.{ap, sym, ◌∙◌}
-use borrow.Author.Tests.{not-true, not-false}
+use mathlib.Core.Path.{sym, ◌∙◌}
 use Rattle.moves_commands.specs.Fits.{fits_true}
 use Rattle.moves_commands.specs.Steps.{held}
 use Rattle.moves_commands.proofs.Feeds.{fed_all, fed_none}
-use borrow.Author.Rules.{rules}
 use Rattle.moves_commands.proofs.feed.Goals as goal
 
 pub returns-then-not-fits : goal.returns-then-not-fits

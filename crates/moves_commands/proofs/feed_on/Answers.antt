@@ -1,9 +1,6 @@
 -- `moves_commands::feed_on` meets its contract. Assumes nothing.
 use native.Mathlib.Omega.{arith}
-use Prim.Native.Nat.{◌-◌}
-use lib.ListN.{length}
-use Rattle.moves_commands.specs.Steps.{held}
-use Rattle.moves_commands.proofs.Feeds.{Feeding, feeding-none, feeding_on, feeding-done}
+use Rattle.moves_commands.proofs.Feeds.{feeding-none, feeding_on, feeding-done}
 use Rattle.moves_commands.proofs.feed_on.Goals as goal
 
 pub loop-sets-init : goal.loop-sets-init

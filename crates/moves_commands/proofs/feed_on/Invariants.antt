@@ -1,9 +1,8 @@
 -- `moves_commands::feed_on` meets its contract. Assumes nothing.
-use native.Mathlib.Omega.{arith}
 use Prim.Native.Nat.{◌-◌}
 use lib.ListN.{length}
 use Rattle.moves_commands.specs.Steps.{held}
-use Rattle.moves_commands.proofs.Feeds.{Feeding, feeding-none, feeding_on, feeding-done}
+use Rattle.moves_commands.proofs.Feeds.{Feeding}
 use Rattle.moves_commands.proofs.feed_on.Given as goal
 
 abbrev pub invariant-loop-sets : goal.invariant-loop-sets

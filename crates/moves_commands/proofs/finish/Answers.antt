@@ -3,7 +3,6 @@ use native.Mathlib.Omega.{arith}
 use borrow.Author.Tests.{le-leb, lt-leb, eq-eqb, ne_eqb}
 use Rattle.moves_replies.specs.Room.{put-none}
 use Rattle.moves_commands.specs.Program as def
-use borrow.Author.Rules.{rules}
 use Rattle.moves_commands.proofs.finish.Goals as goal
 
 pub returns-then-out-lt64 : goal.returns-then-out-lt64

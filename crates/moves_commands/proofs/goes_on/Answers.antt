@@ -4,7 +4,6 @@ use mathlib.Core.Bool.{true≢false}
 use borrow.Author.Tests.{leb-true}
 use mathlib.Core.Path.{refl, sym}
 use borrow.Author.Tests.{le-ltb, lt-ltb}
-use borrow.Author.Rules.{rules}
 use Rattle.moves_commands.proofs.goes_on.Goals as goal
 
 pub returns-then-n-i : goal.returns-then-n-i

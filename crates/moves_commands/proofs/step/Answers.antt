@@ -3,7 +3,6 @@ use Rattle.moves_commands.specs.Steps.{held}
 use native.Mathlib.Omega.{arith}
 use Rattle.moves_commands.proofs.Turns.{stopped_steps, refused_steps, waiting_steps, executed_steps}
 use Rattle.moves_commands.specs.Fits.{taken-ready}
-use borrow.Author.Rules.{rules}
 use Rattle.moves_commands.proofs.step.Goals as goal
 
 pub returns-then-m : goal.returns-then-m

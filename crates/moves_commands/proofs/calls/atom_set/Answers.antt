@@ -2,7 +2,6 @@
 use mathlib.Core.Path.{sym}
 use native.Mathlib.Omega.{arith}
 use lib.Seq.{length-take-le}
-use borrow.Author.Rules.{rules}
 use Rattle.moves_commands.proofs.calls.atom_set.Goals as goal
 
 pub slice_bounds-atom_set-end : goal.slice_bounds-atom_set-end

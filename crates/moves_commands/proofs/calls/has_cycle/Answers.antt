@@ -2,7 +2,6 @@
 use mathlib.Core.Path.{sym}
 use native.Mathlib.Omega.{arith}
 use lib.Seq.{length-take-le}
-use borrow.Author.Rules.{rules}
 use Rattle.moves_commands.proofs.calls.has_cycle.Goals as goal
 
 pub slice_bounds-has_cycle-end : goal.slice_bounds-has_cycle-end

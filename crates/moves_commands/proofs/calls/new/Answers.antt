@@ -2,7 +2,6 @@
 use mathlib.Core.Path.{sym}
 use native.Mathlib.Omega.{arith}
 use lib.Seq.{length-take-le}
-use borrow.Author.Rules.{rules}
 use Rattle.moves_commands.proofs.calls.new.Goals as goal
 
 pub slice_bounds-new-end : goal.slice_bounds-new-end

@@ -2,7 +2,6 @@
 use mathlib.Core.Path.{sym}
 use native.Mathlib.Omega.{arith}
 use lib.Seq.{length-take-le}
-use borrow.Author.Rules.{rules}
 use Rattle.moves_commands.proofs.calls.try_move.Goals as goal
 
 pub slice_bounds-try_move-end : goal.slice_bounds-try_move-end

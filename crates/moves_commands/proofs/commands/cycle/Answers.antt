@@ -1,6 +1,5 @@
 -- `moves_commands::commands::cycle` meets its contract. Assumes nothing.
 use Rattle.moves_commands.proofs.Turns.{cycle_steps}
-use borrow.Author.Rules.{rules}
 use Rattle.moves_commands.proofs.commands.cycle.Goals as goal
 
 pub returns : goal.returns

@@ -1,6 +1,5 @@
 -- `moves_commands::commands::edges` meets its contract. Assumes nothing.
 use Rattle.moves_commands.proofs.Turns.{edges_steps}
-use borrow.Author.Rules.{rules}
 use Rattle.moves_commands.proofs.commands.edges.Goals as goal
 
 pub returns : goal.returns

@@ -2,7 +2,6 @@
 use Rattle.moves_commands.specs.Steps.{held}
 use native.Mathlib.Omega.{arith}
 use Rattle.moves_commands.proofs.Turns.{execute-load, execute-move, execute-edges, execute-set, execute-cycle, execute-read}
-use borrow.Author.Rules.{rules}
 use Rattle.moves_commands.proofs.commands.execute.Goals as goal
 
 pub returns-in-19 : goal.returns-in-19

@@ -1,6 +1,5 @@
 -- `moves_commands::commands::load` meets its contract. Assumes nothing.
 use Rattle.moves_commands.proofs.Turns.{load_steps}
-use borrow.Author.Rules.{rules}
 use Rattle.moves_commands.proofs.commands.load.Goals as goal
 
 pub returns : goal.returns

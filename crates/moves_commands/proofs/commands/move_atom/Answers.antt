@@ -1,6 +1,5 @@
 -- `moves_commands::commands::move_atom` meets its contract. Assumes nothing.
 use Rattle.moves_commands.proofs.Turns.{move_steps}
-use borrow.Author.Rules.{rules}
 use Rattle.moves_commands.proofs.commands.move_atom.Goals as goal
 
 pub returns : goal.returns

@@ -1,7 +1,6 @@
 -- `moves_commands::commands::quiet` meets its contract. Assumes nothing.
 use native.Mathlib.Omega.{arith}
 use Rattle.moves_replies.specs.Room.{put-none}
-use borrow.Author.Rules.{rules}
 use Rattle.moves_commands.proofs.commands.quiet.Goals as goal
 
 pub returns-then-m : goal.returns-then-m

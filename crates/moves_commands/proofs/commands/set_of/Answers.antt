@@ -1,6 +1,5 @@
 -- `moves_commands::commands::set_of` meets its contract. Assumes nothing.
 use Rattle.moves_commands.proofs.Turns.{set_steps}
-use borrow.Author.Rules.{rules}
 use Rattle.moves_commands.proofs.commands.set_of.Goals as goal
 
 pub returns : goal.returns

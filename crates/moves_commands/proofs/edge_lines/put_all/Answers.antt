@@ -2,7 +2,6 @@
 use native.Mathlib.Omega.{arith}
 use Rattle.moves_commands.specs.Program.{areas}
 use Rattle.moves_commands.proofs.Lines.{list_one, head-there, totals_there, count-told, all_few, lines_long, listing_steps}
-use borrow.Author.Rules.{rules}
 use Rattle.moves_commands.proofs.edge_lines.put_all.Goals as goal
 
 pub registered-known-requires : goal.registered-known-requires

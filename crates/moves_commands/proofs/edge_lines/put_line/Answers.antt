@@ -1,7 +1,6 @@
 -- `moves_commands::edge_lines::put_line` meets its contract. Assumes nothing.
 use Rattle.moves_replies.specs.Room.{put_as}
 use Rattle.moves_commands.proofs.Lines.{list_some, line-told}
-use borrow.Author.Rules.{rules}
 use Rattle.moves_commands.proofs.edge_lines.put_line.Goals as goal
 
 pub edge_at-e-requires : goal.edge_at-e-requires

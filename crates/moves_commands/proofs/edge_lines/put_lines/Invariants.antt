@@ -1,10 +1,9 @@
 -- `moves_commands::edge_lines::put_lines` meets its contract. Assumes nothing.
-use native.Mathlib.Omega.{arith}
 use Prim.Native.Nat.{◌-◌}
 use Rattle.move_ledger.specs.Graph.{Load}
 use Rattle.moves_commands.specs.Program.{areas}
 use Rattle.moves_commands.specs.Steps.{CanList}
-use Rattle.moves_commands.proofs.Lines.{Listing, listing_none, listing-room, listing-more, listing-done}
+use Rattle.moves_commands.proofs.Lines.{Listing}
 use Rattle.moves_commands.proofs.edge_lines.put_lines.Given as goal
 
 abbrev pub invariant-loop-k : goal.invariant-loop-k

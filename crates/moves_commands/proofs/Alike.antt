@@ -1,4 +1,4 @@
--- The program over its area prints what the program over its ledger prints. Assumes nothing.
+-- Theorems on the definitions of specs/Alike: they stand here, so that the crate can be read with a definition changed. Assumes nothing.
 use Rattle.std.specs.Prelude.{◌≡◌, Bool, cond, ◌&&◌, ◌||◌, eqb, length}
 use Rattle.std.proofs.Math.Path.{refl, ap, fun_ext}
 use Rattle.std.proofs.Common.{sym, ap₂, ◌∙◌, true≢false, arith}
