@@ -4,7 +4,7 @@ use Rattle.std.proofs.Common.{sym, ap, ◌∙◌, append_assoc, arith, le-leb}
 use Rattle.moves_commands.specs.Program.{areas, State, Turn, step, finish, replies, fresh, printed}
 use Rattle.moves_commands.specs.Fits.{Ready, fits, step_fits}
 use Rattle.moves_commands.specs.Feed.{reserve, Fed, stay, ahead, feeding, feed, feeding-more}
-use Rattle.moves_commands.specs.Alike.{prints}
+use Rattle.moves_commands.proofs.Alike.{prints}
 
 -- the state after bytes
 unfoldable pub after : State (List ℕ) → List ℕ → State (List ℕ)
