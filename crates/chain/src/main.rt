@@ -1,6 +1,6 @@
 // The program `chain`: reads a number n from standard input, and writes commands of the program `moves` to standard output that load n atoms, each on the
 // next, and move the first so that it reaches all others. Which bytes the system's `read` and `write` move no contract can say: that they are called
-// with the right lists is to be read in `read_full` and `reply`.
+// with the right lists is to be read in `run` and `reply`.
 #![tactic(auto)]
 
 ghost use Rattle.std.specs.Prelude.{◌≤◌, length, take};
@@ -8,34 +8,16 @@ ghost use Rattle.moves_replies.specs.Room.{Put};
 ghost use Rattle.chain_commands.specs.Printed.{room, printed};
 ghost use Rattle.chain.specs.Ran.{Ran};
 
-use std::io::Read as _;
+use program_input::read_full;
 
-// Reads until the list is full, the input ends or a read fails, and answers how many bytes it put at the start of the list.
-fn read_full(rt: HostRuntime, input: &mut [u8]) -> usize
-    ensures { result ≤ length input.new }
+// Answers the input, and writes the answer.
+fn reply(rt: HostRuntime, input: &[u8], out: &mut [u8]) -> usize
+    requires { room ≤ length out.old }
+    ensures { Put (printed input.now) out.old 0 out.new result }
 {
-    let mut done = 0;
-    while done < input.len() {
-        let n = match rt.stdin().read(&mut input[done..]) {
-            Ok(n) => n,
-            Err(_) => 0,
-        };
-        if n == 0 {
-            break;
-        }
-        done += n;
-    }
-    done
-}
-
-// Answers the first n bytes of the input, and writes the answer.
-fn reply(rt: HostRuntime, input: &[u8], n: usize, out: &mut [u8]) -> usize
-    requires { (n ≤ length input.now) × (room ≤ length out.old) }
-    ensures { Put (printed (take n input.now)) out.old 0 out.new result }
-{
-    let k = chain_commands::answer(&input[..n], out);
-    rt.write_all(&out[..k]).is_ok();
-    k
+    let n = chain_commands::answer(input, out);
+    let _ = rt.write_all(&out[..n]);
+    n
 }
 
 // Reads the input to its end, however it comes in pieces, or until the list is full, and answers it. A read that fails is the end of the input.
@@ -43,8 +25,8 @@ fn run(rt: HostRuntime, input: &mut [u8], out: &mut [u8]) -> usize
     requires { (5 ≤ length input.old) × (room ≤ length out.old) }
     ensures { Ran input.new out.old out.new result }
 {
-    let n = read_full(rt, input);
-    reply(rt, input, n, out)
+    let n = read_full(&mut rt.stdin(), input);
+    reply(rt, &input[..n], out)
 }
 
 fn main(rt: HostRuntime) {

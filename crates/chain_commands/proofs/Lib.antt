@@ -1,3 +1,3 @@
 -- The laws that the proofs of `chain_commands` cite. Assumes nothing.
-pub mod Writing
 pub mod Reading
+pub mod Chaining

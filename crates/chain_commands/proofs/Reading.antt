@@ -1,61 +1,54 @@
 -- The number asked for, as the code finds it. Assumes nothing.
-use Prim.Native.Nat.{ℕ, ◌+◌, ◌-◌, ◌≤◌, ◌<◌}
-use native.Mathlib.Omega.{arith}
-use native.Mathlib.Numerals.{add-one}
-use mathlib.Core.Path.{◌≡◌, refl, sym, ap, ◌∙◌}
-use mathlib.Core.Bool.{Bool, true, false, cond, ◌||◌}
-use mathlib.Core.List.{List, []}
-use lib.Dec.{ltb, eqb}
-use lib.ListN.{length, take, drop, get_or}
-use lib.Seq.{length-take-le, get_or-take, drop-cons, drop-length}
-use borrow.Author.Tests.{eq-eqb, ne_eqb, lt-ltb, le-ltb}
-use Rattle.move_ledger.specs.Graph.{at}
+use Rattle.std.proofs.Common.{◌≡◌, refl, sym, ap, ◌∙◌, Option, Some, None, IfSome, ℕ, suc, ◌+◌, ◌≤◌, ◌<◌, List, [], ◌∷◌, length, get_or, take, drop, arith, add-one, lt-ltb, le-ltb, ne_eqb}
+use Rattle.std.specs.List.{slice_get}
+use Rattle.std.proofs.Math.Seq.{drop-cons, drop-length}
 use Rattle.chain_commands.specs.Asked.{asked}
-use Rattle.chain_commands.specs.Parse.{before_newline, more, value, number, parse-asked}
+use Rattle.chain_commands.specs.Parse.{before_newline, more, value, up_to, number, value-none, parse-asked, asked-within}
 
-pub newline_none : (l : List ℕ) → length l ≡ 0 → 0 ≡ before_newline l
-newline_none l h = go (eqb (at l (length l - 1)) 10)
-  where
-    go : (t : Bool) → 0 ≡ cond t (length l - 1) (length l)
-    go true = omega arith
-    go false = omega arith
-
--- the digits up to i are read
-pub value-more : (text : List ℕ) (v i : ℕ) → i < length text → value v (drop i text) ≡ value 0 text → value (more v (get_or text i 0)) (drop (i + 1) text) ≡ value 0 text
+-- the digits up to i are read, and one more
+pub value-more : (text : List ℕ) (v : Option ℕ) (i : ℕ) → i < length text → value v (drop i text) ≡ value (Some 0) text → value (more v (get_or text i 0)) (drop (i + 1) text) ≡ value (Some 0) text
 unfolding value
 value-more text v i h e = rw add-one (rw (drop-cons text i 0 h) at e)
 
-pub value-done : (text : List ℕ) (v i : ℕ) → i ≡ length text → value v (drop i text) ≡ value 0 text → v ≡ value 0 text
+-- all are
+pub value-done : (text : List ℕ) (v : Option ℕ) (i : ℕ) → i ≡ length text → value v (drop i text) ≡ value (Some 0) text → v ≡ value (Some 0) text
 unfolding value
 value-done text v i h e = let d : drop i text ≡ [] = ap (λ (k : ℕ). drop k text) h ∙ drop-length text in rw d at e
 
-module _ (input : List ℕ) {k : ℕ} (e : k ≡ before_newline input) (b : k ≤ length input) where
-  whole : number (take k input) ≡ asked input
-  whole = ap (λ (i : ℕ). number (take i input)) e ∙ parse-asked input
+-- or a byte is no digit of it
+pub value-stops : (text : List ℕ) (v : Option ℕ) (i : ℕ) → i < length text → value v (drop i text) ≡ value (Some 0) text → more v (get_or text i 0) ≡ None → None ≡ value (Some 0) text
+value-stops text v i h e n = sym (value-none (drop (i + 1) text)) ∙ (rw n at (value-more text v i h e))
 
-  long : length (take k input) ≡ k
-  long = length-take-le k input b
+-- the number of what stands before a last newline
+module _ (input : List ℕ) {text : List ℕ} (e : text ≡ take (before_newline input) input) where
+  read : number text ≡ asked input
+  read = ap number e ∙ parse-asked input
 
-  pub asked-empty : k ≡ 0 → 0 ≡ asked input
-  asked-empty h = rw (eq-eqb (length (take k input)) 0 (omega (arith, long))) at whole
-
-  pub asked_nought : (k ≡ 0 → ⊥) → at input 0 < 49 → 0 ≡ asked input
-  asked_nought h z =
-      rw (ne_eqb (length (take k input)) 0 (λ q. omega (arith, long)), lt-ltb (at (take k input) 0) 49 (omega (arith, get_or-take k input 0 0 (omega arith)))) at whole
-
-  pub asked-over : {v : ℕ} → v ≡ value 0 (take k input) → 512 < v → 0 ≡ asked input
-  asked-over {v} q h = sym (none (eqb (length (take k input)) 0) (ltb (at (take k input) 0) 49)) ∙ (rw (lt-ltb 512 (value 0 (take k input)) (omega arith)) at whole)
+  pub asked-empty : None ≡ slice_get text 0 → None ≡ asked input
+  asked-empty h = go text h ∙ read
     where
-      none : (s t : Bool) → cond (s || (t || true)) 0 (value 0 (take k input)) ≡ 0
-      none true t = refl
-      none false true = refl
-      none false false = refl
+      go : (l : List ℕ) → None ≡ slice_get l 0 → None ≡ number l
+      go [] h = refl
+      go (b ∷ bs) h = cc
 
-  pub asked_right : {v : ℕ} → (k ≡ 0 → ⊥) → 49 ≤ at input 0 → v ≡ value 0 (take k input) → v ≤ 512 → v ≡ asked input
-  asked_right {v} h z q l =
-      q
-      ∙ (rw (
-        ne_eqb (length (take k input)) 0 (λ q. omega (arith, long)),
-        le-ltb (at (take k input) 0) 49 (omega (arith, get_or-take k input 0 0 (omega arith))),
-        le-ltb 512 (value 0 (take k input)) (omega arith),
-      ) at whole)
+  pub asked_low : {b : ℕ} → Some b ≡ slice_get text 0 → b < 49 → None ≡ asked input
+  asked_low {b} h z = go text h ∙ read
+    where
+      go : (l : List ℕ) → Some b ≡ slice_get l 0 → None ≡ number l
+      go [] h = cc
+      go (c ∷ bs) h = let q : b ≡ c = cc in rw (lt-ltb c 49 (omega arith), ne_eqb (suc (length bs)) 0 (λ z. omega arith)) refl
+
+  pub asked_right : {b : ℕ} {r : Option ℕ} → Some b ≡ slice_get text 0 → 49 ≤ b → r ≡ up_to 512 (value (Some 0) text) → r ≡ asked input
+  asked_right {b} {r} h z f = go text h f ∙ read
+    where
+      go : (l : List ℕ) → Some b ≡ slice_get l 0 → r ≡ up_to 512 (value (Some 0) l) → r ≡ number l
+      go [] h f = cc
+      go (c ∷ bs) h f = let q : b ≡ c = cc in rw (le-ltb c 49 (omega arith), ne_eqb (suc (length bs)) 0 (λ z. omega arith)) f
+
+-- it is from 1 to 512
+pub asked_bounds : (input : List ℕ) {r : Option ℕ} → r ≡ asked input → IfSome r (λ n. (0 < n) × (n ≤ 512))
+asked_bounds input {r} e = go r e
+  where
+    go : (o : Option ℕ) → o ≡ asked input → IfSome o (λ n. (0 < n) × (n ≤ 512))
+    go None e = tt
+    go (Some n) e = asked-within input n (sym e)

@@ -1,4 +1,4 @@
--- The load that the program `chain` writes (02, (xii)), and what stands at each place of its lists. Assumes nothing.
+-- The load that the program `chain` writes, and what stands at each place of its lists. Assumes nothing.
 use Rattle.std.specs.Prelude.{ℕ, suc, ◌+◌, ◌-◌, ◌≤◌, ◌<◌, ◌≡◌, refl, cond, List, leb, replicate}
 use Rattle.std.proofs.Common.{arith, ap, ◌∙◌, le-leb}
 use Rattle.std.proofs.Math.Decide.{ℕ_discrete}
@@ -7,7 +7,7 @@ use Rattle.graphs.specs.Tab.{tab, tab-at}
 use Rattle.move_ledger.specs.Graph.{Load, none, at, owner}
 use Rattle.move_ledger.specs.LoadLaws.{Starts, owner_is}
 
--- "a load of n atoms": "11 for each atom on the next, rising". "With E = 16"; no bit has a host
+-- n atoms, each on the next; of 16 entry bits none has a host
 abbrev pub chain : ℕ → Load
 chain n =
     record {
@@ -19,7 +19,7 @@ chain n =
       hosts = replicate 16 none;
     }
 
--- "commands 10 with sets 1 to n"
+-- the atoms' sets are 1 to n
 abbrev pub sets : ℕ → List ℕ
 sets n = tab suc n
 

@@ -1,14 +1,14 @@
--- A load and one move as raw commands of the program `moves` (01, "Program `moves`"). Assumes nothing.
+-- A load and one move as raw commands of the program `moves`. Assumes nothing.
 use Rattle.std.specs.Prelude.{ℕ, zero, suc, ◌+◌, ◌-◌, ◌*◌, ◌/◌, ◌%◌, ◌<◌, ◌≡◌, refl, cond, List, [], ◌∷◌, ◌++◌, eqb, length}
 use Rattle.std.proofs.Common.{arith, add-one, sym, ap, ap₂, ◌∙◌, append-nil, length-append}
 use Rattle.move_ledger.specs.Graph.{Load, none, at, owner}
 use Rattle.chain_commands.specs.Chain.{chain, sets, set_at, next-at, owner_at}
 
--- "16-bit operands, low byte first"
+-- an operand has 16 bits, its low byte first
 abbrev pub operand : ℕ → List ℕ
 operand x = x % 256 ∷ x / 256 ∷ []
 
--- "10 set: next atom. 11 a b: a depends on b. 12 e a: host. 13: load"; "20 a set: move" (hex)
+-- 10: the next atom and its set. 11: a depends on b. 12: the host of a bit. 13: the load. 20: a to a set. The numbers are hexadecimal
 abbrev pub next_atom : ℕ → List ℕ
 next_atom set = 16 ∷ operand set
 
@@ -26,7 +26,7 @@ unfoldable pub in_turn : (ℕ → List ℕ) → ℕ → List ℕ
 in_turn f zero = []
 in_turn f (suc n) = in_turn f n ++ f n
 
--- the commands that name a load and its entry sets of one number each ("a bit without a 12 has host None"), load it, and move atom a to a set
+-- the commands that name a load and its entry sets of one number each (a bit without a 12 has no host), load it, and move atom a to a set
 abbrev pub raw : Load → List ℕ → ℕ → ℕ → List ℕ
 raw load sets a set =
     in_turn (λ i. next_atom (at sets i)) load.A

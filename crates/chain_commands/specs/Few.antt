@@ -1,5 +1,5 @@
 -- Five bytes of the input tell what is printed. Assumes nothing.
-use Rattle.std.specs.Prelude.{ℕ, zero, suc, ◌≤◌, ◌<◌, ◌≡◌, refl, ◌⊎◌, true, List, ◌++◌, leb, length}
+use Rattle.std.specs.Prelude.{ℕ, zero, suc, ◌≤◌, ◌<◌, ◌≡◌, refl, ◌⊎◌, true, None, List, ◌++◌, leb, length}
 use Rattle.std.proofs.Common.{arith, ap, ◌∙◌, inl, inr, length-append, leb-true}
 use Rattle.graphs.specs.Bools.{or_cases, fails}
 use Rattle.graphs.specs.Lists.{all, below, all_take, has-below}
@@ -25,7 +25,7 @@ says-short input n b h = go (or_cases (same input (decimal n)) _ h)
     go (inr e) = omega (arith, ap length (same_one input (line (decimal n)) e) ∙ length-append (decimal n) _, short n b)
 
 -- an input of more than four bytes is none
-asked_long : (input : List ℕ) → 4 < length input → (k : ℕ) → k ≤ 512 → asked_upto input k ≡ 0
+asked_long : (input : List ℕ) → 4 < length input → (k : ℕ) → k ≤ 512 → asked_upto input k ≡ None
 unfolding asked_upto
 asked_long input l zero h = refl
 asked_long input l (suc k) h = rw (fails (says input (suc k)) (λ e. omega (arith, says-short input (suc k) h e))) (asked_long input l k (omega arith))

@@ -1,19 +1,25 @@
--- What the program `chain` prints (02, (xii)). Assumes nothing.
-use Rattle.std.specs.Prelude.{ℕ, ◌+◌, ◌≤◌, ◌≡◌, refl, cond, List, [], leb, eqb}
+-- What the program `chain` prints. Assumes nothing.
+use Rattle.std.specs.Prelude.{ℕ, ◌+◌, ◌≤◌, ◌≡◌, refl, cond, Option, Some, None, List, [], leb}
 use Rattle.std.proofs.Common.{le-leb}
+use Rattle.refusals.specs.Rows.{row}
+use Rattle.refusals.specs.declared.Refusal.TheVariants as refusal
 use Rattle.move_ledger.specs.Answer.{refused}
 use Rattle.moves_replies.specs.Words.{reply}
 use Rattle.chain_commands.specs.Chain.{chain, sets}
 use Rattle.chain_commands.specs.Commands.{raw}
 use Rattle.chain_commands.specs.Asked.{asked}
 
--- the load of n atoms, and "20 for atom 0 to set n + 1"
+-- the load of n atoms, then atom 0 to set n + 1
 abbrev pub chain_commands : ℕ → List ℕ
 chain_commands n = raw (chain n) (sets n) 0 (n + 1)
 
--- "reads n .. (else it prints the line `refused 22`), and writes, as raw commands of `moves`, .. a load of n atoms with a move"
+-- the commands for the number that is asked for, a refusal where none is
+abbrev pub printed_for : Option ℕ → List ℕ
+printed_for None = reply (refused (row refusal.BadCommand))
+printed_for (Some n) = chain_commands n
+
 unfoldable pub printed : List ℕ → List ℕ
-printed input = cond (eqb (asked input) 0) (reply (refused 22)) (chain_commands (asked input))
+printed input = printed_for (asked input)
 
 -- the bytes of the longest answer, that to 512
 abbrev pub room : ℕ

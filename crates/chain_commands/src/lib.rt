@@ -6,21 +6,36 @@ mod number;
 
 ghost use Rattle.std.specs.Prelude.{length};
 ghost use Rattle.moves_replies.specs.Room.{Put};
-ghost use Rattle.chain_commands.specs.Printed.{fitting};
+ghost use Rattle.moves_replies.specs.Wrote.{HasRoom, Wrote};
+ghost use Rattle.chain_commands.specs.Printed.{printed, fitting};
 
-use moves_replies::put_refused;
+use moves_replies::Replies;
+use refusals::Refusal;
 
-// Writes what the program prints to an input at the start of a list, and answers how many bytes that are; nothing where the list is shorter than 4,097
-// bytes, as many as the longest answer has.
+// As many bytes as the longest answer has.
+const ROOM: usize = 4097;
+
+// What the program prints to an input.
+#[tactic(auto, unfolding(crate::specs::Printed::printed))]
+fn put_answer(replies: &mut Replies, input: &[u8])
+    requires { HasRoom 4097 replies.old }
+    ensures { Wrote (printed input.now) replies.old replies.new }
+{
+    match number::asked(input) {
+        Some(n) => commands::put_chain(replies, n),
+        None => replies.put_refused(Refusal::BadCommand),
+    }
+}
+
+// Writes what the program prints to an input at the start of a list, and answers how many bytes that are; nothing where the list has no room for the
+// longest answer.
 pub fn answer(input: &[u8], out: &mut [u8]) -> usize
     ensures { Put (fitting input.now (length out.old)) out.old 0 out.new result }
 {
-    if out.len() < 4097 {
+    if out.len() < ROOM {
         return 0;
     }
-    let n = number::asked(input);
-    if n == 0 {
-        return put_refused(out, 0, 22);
-    }
-    commands::put_chain(out, n)
+    let mut replies = Replies { out, at: 0 };
+    put_answer(&mut replies, input);
+    replies.at
 }

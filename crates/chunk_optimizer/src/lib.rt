@@ -6,46 +6,14 @@ mod load; // load.rt: new
 ghost use Rattle.merge_state.specs.Table.{init_module_assignment, add_module_to_chunk, register_chunk_graph_index, to_temp_idx, calc_chunk_dependencies, would_create_circular_dependency, is_reachable, merge_chunk_dependencies, pass};
 ghost use Rattle.merge_area.specs.Calls.{Called, PassCalled};
 ghost use Rattle.chunk_optimizer.specs.Answers.{done_told, temp_told, said_told, pass_told, assigned};
-ghost use Rattle.chunk_optimizer.specs.Registering.{Standing};
 
+use entry_set::EntrySet;
 pub use load::new;
-use merge_area::places::key_place;
-use merge_state::{ChunkIdx, ModuleIdx, NONE, Sizes};
-
-// What a call answers that is neither a question nor the pass.
-#[derive(Clone, Copy)]
-pub enum DoneAnswer {
-    Done,
-    Refused(u32),
-}
-
-// A chunk, or none.
-#[derive(Clone, Copy)]
-pub enum OptionChunkIdx {
-    Some(ChunkIdx),
-    None,
-}
-
-// What to_temp_idx answers.
-#[derive(Clone, Copy)]
-pub enum TempIdxAnswer {
-    Is(OptionChunkIdx),
-    Refused(u32),
-}
-
-// What a question answers.
-#[derive(Clone, Copy)]
-pub enum YesNoAnswer {
-    Is(bool),
-    Refused(u32),
-}
-
-// What the pass answers: how many candidates it assigned.
-#[derive(Clone, Copy)]
-pub enum PassAnswer {
-    Assigned(u32),
-    Refused(u32),
-}
+use merge_area::places::{MADE, USED, key_place};
+use merge_area::{Area, header, standing_row};
+use merge_rows::rows::{add_row, calc_row, find_chunk, init_row, pair_row, pass_row, reach_row};
+use merge_state::{ChunkIdx, ModuleIdx, Sizes};
+use refusals::Refusal;
 
 // Lists a module with the chunk of its set, or with a new chunk that needs creation.
 pub fn init_module_assignment(
@@ -54,18 +22,18 @@ pub fn init_module_assignment(
     m: ModuleIdx,
     bits: &[u64],
     effects: &[u32],
-) -> DoneAnswer
+) -> Result<(), Refusal>
     ensures { Called sizes area.old (init_module_assignment m.0 bits.now effects.now) (done_told result) area.new }
 {
-    let row = merge_rows::rows::init_row(sizes, area, m, bits, effects);
-    if row != 0 {
-        return DoneAnswer::Refused(row);
-    }
-    let chunk = merge_rows::rows::find_chunk(sizes, area, bits);
-    let at = m.0 as usize;
-    let set = entry_set::from_list(bits);
-    merge_writes::assign(sizes, area, m, chunk, set, effects[at] != 0);
-    DoneAnswer::Done
+    init_row(sizes, area, m, bits, effects)?;
+    let standing = Area {
+        sizes,
+        numbers: area,
+    };
+    let chunk = find_chunk(&standing, bits);
+    let set = EntrySet::from_list(bits);
+    merge_writes::assign(sizes, area, m, chunk, set, effects[m.0 as usize] != 0);
+    Ok(())
 }
 
 // Lists a module with a chunk.
@@ -75,32 +43,12 @@ pub fn add_module_to_chunk(
     m: ModuleIdx,
     chunk: ChunkIdx,
     effects: &[u32],
-) -> DoneAnswer
+) -> Result<(), Refusal>
     ensures { Called sizes area.old (add_module_to_chunk m.0 chunk.0 effects.now) (done_told result) area.new }
 {
-    let row = merge_rows::rows::add_row(sizes, area, m, chunk, effects);
-    if row != 0 {
-        return DoneAnswer::Refused(row);
-    }
-    let at = m.0 as usize;
-    merge_writes::append(sizes, area, m, chunk, effects[at] != 0);
-    DoneAnswer::Done
-}
-
-// Records the chunk of a key on an area that passed the rows 14, 15 and 21.
-fn register_made(sizes: Sizes, area: &mut [u32], key: ChunkIdx, chunk: ChunkIdx) -> DoneAnswer
-    requires { Standing sizes area.old }
-    ensures { Called sizes area.old (register_chunk_graph_index key.0 chunk.0) (done_told result) area.new }
-{
-    if sizes.chunks <= key.0 as usize {
-        return DoneAnswer::Refused(16);
-    }
-    let made = merge_area::header(sizes, area, 1);
-    if made <= chunk.0 {
-        return DoneAnswer::Refused(16);
-    }
-    merge_writes::register(sizes, area, key, chunk);
-    DoneAnswer::Done
+    add_row(sizes, area, m, chunk, effects)?;
+    merge_writes::append(sizes, area, m, chunk, effects[m.0 as usize] != 0);
+    Ok(())
 }
 
 // Records the chunk of a key, in place of any that it has.
@@ -109,33 +57,31 @@ pub fn register_chunk_graph_index(
     area: &mut [u32],
     key: ChunkIdx,
     chunk: ChunkIdx,
-) -> DoneAnswer
+) -> Result<(), Refusal>
     ensures { Called sizes area.old (register_chunk_graph_index key.0 chunk.0) (done_told result) area.new }
 {
-    let row = merge_area::standing_row(sizes, false, false, area);
-    if row != 0 {
-        return DoneAnswer::Refused(row);
+    standing_row(sizes, false, false, area)?;
+    if sizes.chunks <= key.0 as usize {
+        return Err(Refusal::MergeIndex);
     }
-    register_made(sizes, area, key, chunk)
+    let made = header(sizes, area, MADE);
+    if made <= chunk.0 {
+        return Err(Refusal::MergeIndex);
+    }
+    merge_writes::register(sizes, area, key, chunk);
+    Ok(())
 }
 
-// The chunk registered for a key, or none.
-pub fn to_temp_idx(sizes: Sizes, area: &[u32], key: ChunkIdx) -> TempIdxAnswer
+// The chunk registered for a key.
+pub fn to_temp_idx(sizes: Sizes, area: &[u32], key: ChunkIdx) -> Result<Option<ChunkIdx>, Refusal>
     ensures { Called sizes area.now (to_temp_idx key.0) (temp_told result) area.now }
 {
-    let row = merge_area::standing_row(sizes, false, false, area);
-    if row != 0 {
-        return TempIdxAnswer::Refused(row);
-    }
+    standing_row(sizes, false, false, area)?;
     let k = key.0 as usize;
     if sizes.chunks <= k {
-        return TempIdxAnswer::Is(OptionChunkIdx::None);
+        return Ok(None);
     }
-    let chunk = area[key_place(sizes, k)];
-    if chunk == NONE {
-        return TempIdxAnswer::Is(OptionChunkIdx::None);
-    }
-    TempIdxAnswer::Is(OptionChunkIdx::Some(ChunkIdx(chunk)))
+    Ok(ChunkIdx::named(area[key_place(sizes, k)]))
 }
 
 // Adds to each chunk's dependencies those that the module dependencies give.
@@ -144,16 +90,13 @@ pub fn calc_chunk_dependencies(
     area: &mut [u32],
     starts: &[u32],
     dependencies: &[u32],
-) -> DoneAnswer
+) -> Result<(), Refusal>
     ensures { Called sizes area.old (calc_chunk_dependencies starts.now dependencies.now) (done_told result) area.new }
 {
-    let row = merge_rows::rows::calc_row(sizes, area, starts, dependencies);
-    if row != 0 {
-        return DoneAnswer::Refused(row);
-    }
-    let used = merge_area::header(sizes, area, 4) as usize;
+    calc_row(sizes, area, starts, dependencies)?;
+    let used = header(sizes, area, USED) as usize;
     merge_dependencies::calculate(sizes, area, starts, dependencies, used);
-    DoneAnswer::Done
+    Ok(())
 }
 
 // Whether source depends directly on target, or the two fused would lie on a cycle with another chunk; what was merged away isn't followed. Where
@@ -163,25 +106,32 @@ pub fn would_create_circular_dependency(
     area: &[u32],
     source: ChunkIdx,
     target: ChunkIdx,
-) -> YesNoAnswer
+) -> Result<bool, Refusal>
     ensures { Called sizes area.now (would_create_circular_dependency source.0 target.0) (said_told result) area.now }
 {
-    let row = merge_rows::rows::pair_row(sizes, area, source, target);
-    if row != 0 {
-        return YesNoAnswer::Refused(row);
-    }
-    YesNoAnswer::Is(merge_questions::warns(sizes, area, source, target))
+    pair_row(sizes, area, source, target)?;
+    let standing = Area {
+        sizes,
+        numbers: area,
+    };
+    Ok(merge_questions::warns(&standing, source, target))
 }
 
 // Whether a chunk reaches another in one step or more.
-pub fn is_reachable(sizes: Sizes, area: &[u32], from: ChunkIdx, to: ChunkIdx) -> YesNoAnswer
+pub fn is_reachable(
+    sizes: Sizes,
+    area: &[u32],
+    from: ChunkIdx,
+    to: ChunkIdx,
+) -> Result<bool, Refusal>
     ensures { Called sizes area.now (is_reachable from.0 to.0) (said_told result) area.now }
 {
-    let row = merge_rows::rows::reach_row(sizes, area, from, to);
-    if row != 0 {
-        return YesNoAnswer::Refused(row);
-    }
-    YesNoAnswer::Is(merge_questions::reaches(sizes, area, from, to))
+    reach_row(sizes, area, from, to)?;
+    let standing = Area {
+        sizes,
+        numbers: area,
+    };
+    Ok(merge_questions::reaches(&standing, from, to))
 }
 
 // The target takes over the source's dependencies and side effects.
@@ -190,18 +140,15 @@ pub fn merge_chunk_dependencies(
     area: &mut [u32],
     target: ChunkIdx,
     source: ChunkIdx,
-) -> DoneAnswer
+) -> Result<(), Refusal>
     ensures { Called sizes area.old (merge_chunk_dependencies target.0 source.0) (done_told result) area.new }
 {
-    let row = merge_rows::rows::pair_row(sizes, area, target, source);
-    if row != 0 {
-        return DoneAnswer::Refused(row);
-    }
+    pair_row(sizes, area, target, source)?;
     merge_dependencies::merge(sizes, area, target, source);
-    DoneAnswer::Done
+    Ok(())
 }
 
-// Each chunk that needs creation, in rising index, is merged into its proposal or created; its kind and number are written.
+// Each chunk that needs creation, in rising index, is merged into its proposal or created; its kind and number are written. How many there are.
 pub fn pass(
     sizes: Sizes,
     area: &mut [u32],
@@ -209,14 +156,11 @@ pub fn pass(
     bars: &[u32],
     kinds: &mut [u32],
     numbers: &mut [u32],
-) -> PassAnswer
+) -> Result<u32, Refusal>
     ensures { PassCalled sizes area.old (pass proposals.now bars.now kinds.old numbers.old) (kinds.old, numbers.old) (pass_told result (kinds.new, numbers.new)) (assigned result) area.new (kinds.new, numbers.new) }
 {
-    let row = merge_rows::rows::pass_row(sizes, area, proposals, bars, kinds, numbers);
-    if row != 0 {
-        return PassAnswer::Refused(row);
-    }
+    pass_row(sizes, area, proposals, bars, kinds, numbers)?;
     let n = kinds.len() as u32;
     merge_pass::commit(sizes, area, proposals, bars, kinds, numbers);
-    PassAnswer::Assigned(n)
+    Ok(n)
 }

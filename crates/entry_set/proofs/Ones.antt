@@ -7,7 +7,7 @@ use native.Mathlib.Nat.{pow-suc, mul_comm, mul_assoc}
 use lib.Arith.{lt-one}
 use lib.ListN.{length, get_or}
 use lib.Pow.{pow-add, pow_pos}
-use lib.Count.{ones_in, ones, count_trailing_zeros, under, ones_step, ones_cat, ones-le}
+use lib.Count.{ones_in, ones, count_trailing_zeros, under, ones_step, ones_cat}
 use Rattle.entry_set.specs.declared.EntrySet.{EntrySet}
 use Rattle.entry_set.specs.Joined.{joined}
 use Rattle.entry_set.specs.JoinedLaws.{wider, turned, joined-below}
@@ -100,9 +100,6 @@ ones_four s h =
     let second = ones_cons 64 s.1 (s.2 + 2 ^ 64 * (s.3 + 2 ^ 64 * 0)) (h 1) in
     let first = ones_cons 64 s.0 (s.1 + 2 ^ 64 * (s.2 + 2 ^ 64 * (s.3 + 2 ^ 64 * 0))) (h 0) in
     omega (arith, first, second, third, fourth)
-
-pub ones_at : (l : List ℕ) → ((i : ℕ) → get_or l i 0 < 2 ^ 64) → (i : ℕ) → ones (get_or l i 0) ≤ 64
-ones_at l h i = ones-le 64 (get_or l i 0) (h i)
 
 -- four numbers with a one aren't all 0
 pub some_four : (s : EntrySet) → ((i : ℕ) → get_or (numbers s) i 0 < 2 ^ 64) → ones (number s) ≡ 1 → s.0 ≡ 0 → s.1 ≡ 0 → s.2 ≡ 0 → s.3 ≡ 0 → ⊥

@@ -10,14 +10,17 @@ use Rattle.entry_set.specs.Sets.{value, words}
 use Rattle.entry_set.specs.Lanes.{strided, lanes}
 
 -- a list of at most four numbers, 0 past its end
-pub four_of : (l : List ℕ) → length l ≤ 4 → value (get_or l 0 0 ∷ get_or l 1 0 ∷ get_or l 2 0 ∷ get_or l 3 0 ∷ []) ≡ value l
+whole : (l : List ℕ) → length l ≤ 4 → value (get_or l 0 0 ∷ get_or l 1 0 ∷ get_or l 2 0 ∷ get_or l 3 0 ∷ []) ≡ value l
 unfolding joined
-four_of [] h = refl
-four_of (a ∷ []) h = refl
-four_of (a ∷ b ∷ []) h = refl
-four_of (a ∷ b ∷ c ∷ []) h = refl
-four_of (a ∷ b ∷ c ∷ d ∷ []) h = refl
-four_of (a ∷ b ∷ c ∷ d ∷ e ∷ l) h = absurd (omega arith)
+whole [] h = refl
+whole (a ∷ []) h = refl
+whole (a ∷ b ∷ []) h = refl
+whole (a ∷ b ∷ c ∷ []) h = refl
+whole (a ∷ b ∷ c ∷ d ∷ []) h = refl
+whole (a ∷ b ∷ c ∷ d ∷ e ∷ l) h = absurd (omega arith)
+
+pub four_of : (l : List ℕ) → length l ≤ 4 → {a b c d : ℕ} → a ≡ get_or l 0 0 → b ≡ get_or l 1 0 → c ≡ get_or l 2 0 → d ≡ get_or l 3 0 → value (a ∷ b ∷ c ∷ d ∷ []) ≡ value l
+four_of l h p q r s = rw (p, q, r, s) (whole l h)
 
 -- the number of 32 bits at j is half of that of 64 bits at j / 2
 pub word_low : (X j : ℕ) {x r : ℕ} → x ≡ get_or (words 4 X) (j / 2) 0 → r ≡ x % 2 ^ 32 → j % 2 ≡ 0 → r ≡ get_or (parts 32 8 X) j 0
@@ -35,10 +38,19 @@ pair x y Z = omega arith
 
 -- four pairs of numbers of 32 bits
 pub pairs : (l : List ℕ) (at stride : ℕ) {a b c d : ℕ}
-    → a ≡ get_or l at 0 + 2 ^ 32 * get_or l (at + stride) 0
-    → b ≡ get_or l (at + stride + stride) 0 + 2 ^ 32 * get_or l (at + stride + stride + stride) 0
-    → c ≡ get_or l (at + stride + stride + stride + stride) 0 + 2 ^ 32 * get_or l (at + stride + stride + stride + stride + stride) 0
-    → d ≡ get_or l (at + stride + stride + stride + stride + stride + stride) 0 + 2 ^ 32 * get_or l (at + stride + stride + stride + stride + stride + stride + stride) 0
+    → a ≡ get_or l (at + 0 * stride) 0 + 2 ^ 32 * get_or l (at + 1 * stride) 0
+    → b ≡ get_or l (at + 2 * stride) 0 + 2 ^ 32 * get_or l (at + 3 * stride) 0
+    → c ≡ get_or l (at + 4 * stride) 0 + 2 ^ 32 * get_or l (at + 5 * stride) 0
+    → d ≡ get_or l (at + 6 * stride) 0 + 2 ^ 32 * get_or l (at + 7 * stride) 0
     → value (a ∷ b ∷ c ∷ d ∷ []) ≡ lanes l at stride
 unfolding joined strided
-pairs l at stride p q r s = rw (p, q, r, s) (simp pair)
+pairs l at stride p q r s =
+    let e0 : at + 0 * stride ≡ at = omega arith in
+    let e1 : at + 1 * stride ≡ at + stride = omega arith in
+    let e2 : at + 2 * stride ≡ at + stride + stride = omega arith in
+    let e3 : at + 3 * stride ≡ at + stride + stride + stride = omega arith in
+    let e4 : at + 4 * stride ≡ at + stride + stride + stride + stride = omega arith in
+    let e5 : at + 5 * stride ≡ at + stride + stride + stride + stride + stride = omega arith in
+    let e6 : at + 6 * stride ≡ at + stride + stride + stride + stride + stride + stride = omega arith in
+    let e7 : at + 7 * stride ≡ at + stride + stride + stride + stride + stride + stride + stride = omega arith in
+    rw (p, q, r, s, e0, e1, e2, e3, e4, e5, e6, e7) (simp pair)

@@ -4,34 +4,30 @@ use mathlib.Core.Path.{◌≡◌, refl, ap}
 use mathlib.Core.List.{List, []}
 use native.Mathlib.Omega.{arith}
 use native.Mathlib.Numerals.{add-one}
-use native.Mathlib.Nat.{suc-mul, mul-le-mul_right}
+use native.Mathlib.Nat.{suc-mul}
 use lib.ListN.{length, get_or, set, drop, length-set, drop_of_length-le}
 use lib.Seq.{drop-cons}
 use Rattle.entry_set.specs.Joined.{parts}
 use Rattle.entry_set.specs.JoinedLaws.{length-parts}
 use Rattle.entry_set.specs.Lanes.{set_strided, set_lanes}
 
-pub record Writing (l₀ l : List ℕ) (at stride X j p : ℕ) : Type 0 where
-  pub turns : j ≤ 8
-  pub place : p ≡ at + j * stride
+pub record Writing (l₀ l : List ℕ) (at stride X j : ℕ) : Type 0 where
   pub same_length : length l ≡ length l₀
-  pub left : set_strided l p stride (drop j (parts 32 8 X)) ≡ set_lanes l₀ at stride X
+  pub left : set_strided l (at + j * stride) stride (drop j (parts 32 8 X)) ≡ set_lanes l₀ at stride X
 
-pub writing_none : (l : List ℕ) (at stride X : ℕ) → Writing l l at stride X 0 at
-writing_none l at stride X = record { turns = omega arith; place = omega arith; same_length = refl; left = refl }
+pub writing_none : (l : List ℕ) (at stride X : ℕ) → Writing l l at stride X 0
+writing_none l at stride X =
+    let here : at + 0 * stride ≡ at = omega arith in
+    record { same_length = refl; left = rw here refl }
 
-module _ {l₀ l : List ℕ} {at stride X j p : ℕ} (w : Writing l₀ l at stride X j p) where
-  pub writing_room : j < 8 → at + 7 * stride < length l₀ → p < length l
-  writing_room h room = omega (arith, w.place, w.same_length, mul-le-mul_right {m = j} {n = 7} stride (omega arith))
-
-  pub writing_more : {x : ℕ} → j < 8 → x ≡ get_or (parts 32 8 X) j 0 → Writing l₀ (set l p x) at stride X (j + 1) (p + stride)
+module _ {l₀ l : List ℕ} {at stride X j : ℕ} (w : Writing l₀ l at stride X j) where
+  pub writing_more : {x : ℕ} → j < 8 → x ≡ get_or (parts 32 8 X) j 0 → Writing l₀ (set l (at + j * stride) x) at stride X (j + 1)
   unfolding set_strided
   writing_more {x} h e =
+      let there : at + (j + 1) * stride ≡ at + j * stride + stride = omega (arith, ap (λ (n : ℕ). n * stride) (add-one j), suc-mul j stride) in
       record {
-        turns = omega arith;
-        place = omega (arith, w.place, ap (λ (n : ℕ). n * stride) (add-one j), suc-mul j stride);
         same_length = simp length-set w.same_length;
-        left = rw (add-one j, e) (rw (drop-cons (parts 32 8 X) j 0 (omega (arith, length-parts 32 8 X))) at w.left);
+        left = rw (there, add-one j, e) (rw (drop-cons (parts 32 8 X) j 0 (omega (arith, length-parts 32 8 X))) at w.left);
       }
 
   pub writing_done : 8 ≤ j → l ≡ set_lanes l₀ at stride X

@@ -1,4 +1,4 @@
--- The definitions computed: rows 7 and 11 at the edges of E, single bits, and the answer by value. Assumes nothing.
+-- The definitions computed: lent sets at the edges of e, single bits, and the answer by value. Assumes nothing.
 use Rattle.std.specs.Prelude.{◌+◌, ◌^◌, ◌≡◌, refl, true, false, [], ◌∷◌}
 use Rattle.entry_set.specs.Joined.{joined, parts}
 use Rattle.entry_set.specs.Sets.{words, legal, bit_below, single_bit}

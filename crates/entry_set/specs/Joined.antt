@@ -1,7 +1,7 @@
 -- A list of numbers of b bits as one number, the first lowest, and back. Assumes nothing.
 use Rattle.std.specs.Prelude.{ℕ, zero, suc, ◌+◌, ◌*◌, ◌^◌, ◌/◌, ◌%◌, List, [], ◌∷◌}
 
--- the number that numbers of b bits make, "bit 0 lowest"
+-- the number that numbers of b bits make, bit 0 lowest
 unfoldable pub joined : ℕ → List ℕ → ℕ
 joined b [] = 0
 joined b (x ∷ xs) = x + 2 ^ b * joined b xs

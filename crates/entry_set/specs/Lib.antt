@@ -3,6 +3,7 @@ pub mod Joined
 pub mod JoinedLaws
 pub mod Sets
 pub mod SetLaws
+pub mod Compared
 pub mod SingleLaws
 pub mod Lanes
 pub mod LaneLaws

@@ -1,6 +1,6 @@
 -- Laws of sets as numbers: the four numbers by value, legal sets, the range. Assumes nothing.
 use Rattle.std.specs.Prelude.{ℕ, zero, suc, ◌+◌, ◌-◌, ◌*◌, ◌^◌, ◌<◌, ◌≤◌, ◌≡◌, refl, Bool, true, false, not, ◌&&◌, List, [], ◌∷◌, ltb, eqb, length, get_or}
-use Rattle.std.proofs.Common.{sym, ap, ◌∙◌, subst, arith, mul_comm, mul-le-mul_left, mul-le-mul_right, suc-mul, lt_of_lt_of_le, ltb-true, ltb-false, lt-ltb, le-ltb, eqb-true, pow-add, pow_pos, pow_mono}
+use Rattle.std.proofs.Common.{sym, ap, ◌∙◌, subst, arith, mul_comm, mul-le-mul_left, mul-le-mul_right, suc-mul, lt_of_lt_of_le, ltb-true, ltb-false, lt-ltb, le-ltb, eqb-true, pow-add, pow_pos, pow_mono, Fits, w64}
 use Rattle.std.proofs.Math.Bool.{and-eq-true_iff}
 use Rattle.std.proofs.Math.Decide.{dec_le}
 use Rattle.std.proofs.lemmas.Bool.{not-false}
@@ -26,6 +26,16 @@ pub holds : (s : EntrySet) → ((i : ℕ) → get_or (numbers s) i 0 < 2 ^ 64) �
 unfolding entry_set
 holds s h = record { value = refl; set = sym (ap of_list (parts-joined 64 (numbers s) h)) }
 
+-- what is known of a set by value: its numbers are of 64 bits
+abbrev pub Known : EntrySet → Type 0
+Known s = Fits w64 s.0 × Fits w64 s.1 × Fits w64 s.2 × Fits w64 s.3
+
+pub known : (s : EntrySet) → Known s → (i : ℕ) → get_or (numbers s) i 0 < 2 ^ 64
+known s k = small k.0.fits k.1.fits k.2.fits k.3.fits
+
+pub known-holds : {X : ℕ} {s : EntrySet} → Known s → number s ≡ X → Holds X s
+known-holds {X} {s} k e = subst (λ (n : ℕ). Holds n s) e (holds s (known s k))
+
 -- the set of X has the words of X, and its number at most 256 bits
 pub numbers_entry_set : (X : ℕ) → numbers (entry_set X) ≡ words 4 X
 unfolding entry_set parts
@@ -40,6 +50,12 @@ holds-below {X} {s} h = subst (λ (n : ℕ). n < 2 ^ 256) (ap number (sym h.set)
 
 pub holds-numbers : {X : ℕ} {s : EntrySet} → Holds X s → numbers s ≡ words 4 X
 holds-numbers {X} h = ap numbers h.set ∙ numbers_entry_set X
+
+pub holds-known : {X : ℕ} {s : EntrySet} → Holds X s → Known s
+holds-known {X} {s} h = (fit 0, fit 1, fit 2, fit 3)
+  where
+    fit : (i : ℕ) → Fits w64 (get_or (numbers s) i 0)
+    fit i = record { fits = subst (λ (l : List ℕ). get_or l i 0 < 2 ^ 64) (sym (holds-numbers h)) (parts_below 64 4 X i) }
 
 -- a set that a test finds legal has w numbers, four at most, and no bit at or above e
 legal-length : (e : ℕ) (l : List ℕ) → legal e l ≡ true → length l ≡ width e

@@ -1,21 +1,21 @@
--- A set of E entry bits is one number below 2 ^ E (01, "A move, from its entry", and rows 7 and 11). Assumes nothing.
+-- A set of e entry bits is one number below 2 ^ e. Assumes nothing.
 use Rattle.std.specs.Prelude.{ℕ, zero, suc, ◌+◌, ◌^◌, ◌/◌, ◌≡◌, Bool, cond, ◌&&◌, List, [], ◌∷◌, ltb, eqb, length, get_or}
 use Rattle.entry_set.specs.Joined.{joined, parts}
 use Rattle.entry_set.specs.declared.EntrySet.{EntrySet}
 
--- the number that a lent set stands for: "numbers of 64 bits, bit 0 lowest"
+-- the number that a lent set stands for: numbers of 64 bits, bit 0 lowest
 abbrev pub value : List ℕ → ℕ
 value = joined 64
 
--- "A set is answered by value, as four numbers of 64 bits, unused ones 0": the k lowest numbers of 64 bits
+-- the k lowest numbers of 64 bits
 abbrev pub words : ℕ → ℕ → List ℕ
 words = parts 64
 
--- "w = E/64 rounded up"
+-- how many numbers a lent set of e bits has: e / 64 rounded up
 abbrev pub width : ℕ → ℕ
 width e = (e + 63) / 64
 
--- row 11 doesn't fit: w numbers, and no bit at or above E
+-- a lent set that is accepted: so many numbers, and no bit at or above e
 abbrev pub legal : ℕ → List ℕ → Bool
 legal e s = eqb (length s) (width e) && ltb (value s) (2 ^ e)
 
@@ -26,7 +26,7 @@ numbers s = s.0 ∷ s.1 ∷ s.2 ∷ s.3 ∷ []
 abbrev pub number : EntrySet → ℕ
 number s = value (numbers s)
 
--- "A set is answered by value, as four numbers of 64 bits, unused ones 0"
+-- a set is answered by value, as four numbers of 64 bits, unused ones 0
 unfoldable pub entry_set : ℕ → EntrySet
 entry_set X = record { 0 = get_or (words 4 X) 0 0; 1 = get_or (words 4 X) 1 0; 2 = get_or (words 4 X) 2 0; 3 = get_or (words 4 X) 3 0 }
 

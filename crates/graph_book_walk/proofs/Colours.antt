@@ -1,19 +1,22 @@
 -- What opening a node and going through its edges does to the colours. Assumes nothing.
-use Prim.Native.Nat.{ℕ, zero, suc, ◌+◌, ◌-◌, ◌<◌, ◌≤◌}
+use Prim.Native.Nat.{ℕ, ◌+◌, ◌<◌, ◌≤◌}
 use native.Mathlib.Omega.{arith}
 use native.Mathlib.Decide.{ℕ_discrete}
-use mathlib.Core.Path.{◌≡◌, refl, sym, ap, subst, ◌∙◌}
-use mathlib.Core.Logic.{◌⊎◌, inl, inr, ⊎_elim}
+use mathlib.Core.Path.{◌≡◌, refl, sym, ap, ◌∙◌}
+use mathlib.Core.Logic.{inl, inr, ⊎_elim}
 use mathlib.Core.Bool.{Bool, true, false, true≢false}
 use mathlib.Core.List.{List}
-use lib.ListN.{get_or, length, set, length-set}
+use lib.ListN.{length, set, length-set}
 use lib.Seq.{get_or-set_same, get_or-set_other}
 use borrow.Author.Count.{below_more}
 use Rattle.graphs.specs.Lists.{below}
 use Rattle.graphs.specs.Walk.{Walk, one, more, cyclic}
 use Rattle.graphs.specs.Walks.{join, sources-below, cyclic_walk}
 use Rattle.graphs.specs.Total.{whites, whites_push}
-use Rattle.graph_neighbours.specs.Lists.{deg, nb, edge, Graph, listed, listed-to}
+use Rattle.graph_colours.specs.declared.State.{State}
+use Rattle.graph_colours.specs.declared.State.TheVariants.{White, Gray, Black}
+use Rattle.graph_colours.specs.States.{code}
+use Rattle.graph_neighbours.specs.Lists.{deg, nb, edge, Graph, listed}
 use Rattle.graph_book_walk.proofs.Falling.{falling, falls_open, falls_edges, grown_whites, deg_le}
 use Rattle.graph_book_walk.specs.Book.{at, Clean, Grown, CanOpen, Opened, CanGo, Gone}
 
@@ -39,18 +42,18 @@ stays v k (one {x} {y} h) b = k.out x y ((listed v).from x y h) b h
 stays v k (more {x} {y} h w) b = stays v k w (k.out x y ((listed v).from x y h) b h)
 
 -- x is opened
-module _ {g l : List ℕ} {n : ℕ} {colour : List ℕ} {x : ℕ} (v : CanOpen g l n colour x) where
+module _ {g l : List ℕ} {n : ℕ} {colour : List State} {x : ℕ} (v : CanOpen g l n colour x) where
   abbrev e : ℕ → ℕ → Bool
   e = edge g l n
 
-  abbrev gray : List ℕ
-  gray = set colour x 1
+  abbrev gray : List State
+  gray = set colour x Gray
 
   gray-x : at gray x ≡ 1
-  gray-x = get_or-set_same colour x 1 0 (omega (arith, v.long, v.node))
+  gray-x = ap code (get_or-set_same colour x Gray White (omega (arith, v.long, v.node)))
 
   gray_y : (y : ℕ) → (y ≡ x → ⊥) → at gray y ≡ at colour y
-  gray_y y h = get_or-set_other colour x y 1 0 h
+  gray_y y h = ap code (get_or-set_other colour x y Gray White h)
 
   pub open_whites : whites n (at gray) + 1 ≡ whites n (at colour)
   open_whites = whites_push n (at colour) (at gray) x v.node v.white gray-x (λ y b h. gray_y y h)
@@ -78,15 +81,15 @@ module _ {g l : List ℕ} {n : ℕ} {colour : List ℕ} {x : ℕ} (v : CanOpen g
   open_less = rw (length-set, v.long) (falls_open (whites n (at colour)) (whites n (at gray)) (length l) (deg g x) open_whites (deg_le v.graph x v.node))
 
   -- its edges are gone through
-  module _ {colour' : List ℕ} {met : Bool} (long : length colour' ≡ n) (k : Gone g l n gray x colour' met) where
-    abbrev black : List ℕ
-    black = set colour' x 2
+  module _ {colour' : List State} {met : Bool} (long : length colour' ≡ n) (k : Gone g l n gray x colour' met) where
+    abbrev black : List State
+    black = set colour' x Black
 
     black-x : at black x ≡ 2
-    black-x = get_or-set_same colour' x 2 0 (omega (arith, v.node))
+    black-x = ap code (get_or-set_same colour' x Black White (omega (arith, v.node)))
 
     black_y : (y : ℕ) → (y ≡ x → ⊥) → at black y ≡ at colour' y
-    black_y y h = get_or-set_other colour' x y 2 0 h
+    black_y y h = ap code (get_or-set_other colour' x y Black White h)
 
     still : (y : ℕ) → 2 ≤ at colour' y → 2 ≤ at black y
     still y h = elim (ℕ_discrete y x) [ yes q ↦ omega (arith, ap (at black) q, black-x) | no q ↦ omega (arith, black_y y q) ]
@@ -136,7 +139,7 @@ module _ {g l : List ℕ} {n : ℕ} {colour : List ℕ} {x : ℕ} (v : CanOpen g
     }
 
 -- the first i edges of x are gone through, and no gray node was met
-pub record Going (g l : List ℕ) (n : ℕ) (colour : List ℕ) (x i : ℕ) (colour' : List ℕ) : Type 0 where
+pub record Going (g l : List ℕ) (n : ℕ) (colour : List State) (x i : ℕ) (colour' : List State) : Type 0 where
   pub can : CanGo g l n colour x
   pub long : length colour' ≡ n
   pub within : i ≤ deg g x
@@ -144,10 +147,10 @@ pub record Going (g l : List ℕ) (n : ℕ) (colour : List ℕ) (x i : ℕ) (col
   pub clean : Clean (edge g l n) n (at colour')
   pub grown : Grown n (at colour) (at colour')
 
-pub going_none : {g l : List ℕ} {n : ℕ} {colour : List ℕ} {x : ℕ} → CanGo g l n colour x → Going g l n colour x 0 colour
+pub going_none : {g l : List ℕ} {n : ℕ} {colour : List State} {x : ℕ} → CanGo g l n colour x → Going g l n colour x 0 colour
 going_none {n} {colour} v = record { can = v; long = v.long; within = omega arith; past = λ j b. absurd (omega arith); clean = v.clean; grown = grown_refl n (at colour) }
 
-module _ {g l : List ℕ} {n : ℕ} {colour : List ℕ} {x i : ℕ} {colour' : List ℕ} (v : Going g l n colour x i colour') where
+module _ {g l : List ℕ} {n : ℕ} {colour : List State} {x i : ℕ} {colour' : List State} (v : Going g l n colour x i colour') where
   -- a gray node is one that was gray at first
   old : (y : ℕ) → y < n → at colour' y ≡ 1 → at colour y ≡ 1
   old y b h = elim (ℕ_discrete (at colour y) 0) [ yes q ↦ absurd (v.grown.fresh y b q h) | no q ↦ sym (v.grown.known y b q) ∙ h ]
@@ -192,10 +195,10 @@ module _ {g l : List ℕ} {n : ℕ} {colour : List ℕ} {x i : ℕ} {colour' : L
       pub going_can : CanOpen g l n colour' y
       going_can = record { graph = v.can.graph; long = v.long; node = next_node; white = h; clean = v.clean; path = path_next }
 
-      pub going_met : {colour'' : List ℕ} {met : Bool} → met ≡ true → Opened g l n colour' y colour'' met → Gone g l n colour x colour'' true
+      pub going_met : {colour'' : List State} {met : Bool} → met ≡ true → Opened g l n colour' y colour'' met → Gone g l n colour x colour'' true
       going_met q k = record { closes = λ r. k.closes q; all = λ q. absurd (true≢false q); clean = λ q. absurd (true≢false q); grown = λ q. absurd (true≢false q) }
 
-      pub going_more : {colour'' : List ℕ} {met : Bool} → met ≡ false → length colour'' ≡ length colour' → Opened g l n colour' y colour'' met → Going g l n colour x (i + 1) colour''
+      pub going_more : {colour'' : List State} {met : Bool} → met ≡ false → length colour'' ≡ length colour' → Opened g l n colour' y colour'' met → Going g l n colour x (i + 1) colour''
       going_more {colour''} f q k = record {
         can = v.can;
         long = q ∙ v.long;

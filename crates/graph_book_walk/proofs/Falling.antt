@@ -1,15 +1,15 @@
 -- The number that each call makes less, over the white nodes and the edges that remain. Assumes nothing.
-use Prim.Native.Nat.{ℕ, zero, suc, ◌+◌, ◌-◌, ◌*◌, ◌<◌, ◌≤◌}
+use Prim.Native.Nat.{ℕ, zero, suc, ◌+◌, ◌*◌, ◌<◌, ◌≤◌}
 use native.Mathlib.Omega.{arith}
 use native.Mathlib.Decide.{ℕ_discrete}
 use native.Mathlib.Nat.{suc-mul, mul-le-mul_right}
 use native.Mathlib.Numerals.{add-one}
-use mathlib.Core.Path.{◌≡◌, refl, sym, ap, ◌∙◌}
+use mathlib.Core.Path.{◌≡◌, sym, ap, ◌∙◌}
 use mathlib.Core.List.{List}
-use lib.ListN.{get_or, length, set}
-use Rattle.graphs.specs.Total.{total, is0, is0_le, whites, whites_push}
+use lib.ListN.{length}
+use Rattle.graphs.specs.Total.{total, is0, is0_le, whites}
 use Rattle.graph_neighbours.specs.Lists.{deg, Graph}
-use Rattle.graph_book_walk.specs.Book.{at, Grown}
+use Rattle.graph_book_walk.specs.Book.{Grown}
 
 -- w white nodes, and r of a list of m edges remain
 unfoldable pub falling : ℕ → ℕ → ℕ → ℕ

@@ -1,20 +1,24 @@
 -- The nodes opened one after the other. Assumes nothing.
-use Prim.Native.Nat.{ℕ, zero, suc, ◌+◌, ◌<◌, ◌≤◌}
+use Prim.Native.Nat.{ℕ, ◌+◌, ◌<◌, ◌≤◌}
 use native.Mathlib.Omega.{arith}
 use mathlib.Core.Path.{◌≡◌, refl, sym, ap, ◌∙◌}
-use mathlib.Core.Bool.{Bool, true, false}
-use mathlib.Core.List.{List, ◌++◌}
-use lib.ListN.{get_or, length, replicate, drop}
+use mathlib.Core.Bool.{Bool, false}
+use mathlib.Core.List.{List}
+use Rattle.std.proofs.lemmas.List.{get_or-replicate}
+use lib.ListN.{length, replicate}
 use borrow.Author.Count.{below_more}
 use Rattle.graphs.specs.Bools.{fails}
 use Rattle.graphs.specs.Lists.{below}
-use Rattle.graphs.specs.Walk.{Walk, cyclic}
+use Rattle.graphs.specs.Walk.{cyclic}
 use Rattle.graphs.specs.Walks.{sources-below, cyclic_walk, walk_from}
+use Rattle.graph_colours.specs.declared.State.{State}
+use Rattle.graph_colours.specs.declared.State.TheVariants.{White, Gray, Black}
+use Rattle.graph_colours.specs.States.{code}
 use Rattle.graph_neighbours.specs.Lists.{edge, Graph, listed}
-use Rattle.graph_book_walk.specs.Book.{at, Clean, Grown, CanOpen, Opened}
+use Rattle.graph_book_walk.specs.Book.{at, Clean, CanOpen, Opened}
 
 -- between two openings no node is gray, and the nodes below x are black
-pub record Round (g l : List ℕ) (n x : ℕ) (colour : List ℕ) : Type 0 where
+pub record Round (g l : List ℕ) (n x : ℕ) (colour : List State) : Type 0 where
   pub graph : Graph g l n
   pub long : length colour ≡ n
   pub within : x ≤ n
@@ -22,15 +26,15 @@ pub record Round (g l : List ℕ) (n x : ℕ) (colour : List ℕ) : Type 0 where
   pub calm : (y : ℕ) → y < n → at colour y ≡ 1 → ⊥
   pub past : (y : ℕ) → y < x → 2 ≤ at colour y
 
-pub cleared : (n : ℕ) (l : List ℕ) {l' : List ℕ} → l' ≡ replicate n 0 ++ drop n l → (x : ℕ) → x < n → at l' x ≡ 0
-cleared n l {l'} q x b = ap (λ (k : List ℕ). get_or k x 0) q ∙ zeros n (drop n l) x b
-  where
-    zeros : (n : ℕ) (r : List ℕ) (x : ℕ) → x < n → get_or (replicate n 0 ++ r) x 0 ≡ 0
-    zeros zero r x b = absurd (omega arith)
-    zeros (suc n) r zero b = refl
-    zeros (suc n) r (suc x) b = zeros n r x (omega arith)
+pub cleared : (n : ℕ) {l : List State} → l ≡ replicate n White → (x : ℕ) → x < n → at l x ≡ 0
+cleared n q x b = ap (λ k. at k x) q ∙ ap code (get_or-replicate n x White White b)
 
-pub round_first : {g l : List ℕ} {n : ℕ} {colour : List ℕ} → Graph g l n → length colour ≡ n → ((x : ℕ) → x < n → at colour x ≡ 0) → Round g l n 0 colour
+pub white : (s : State) → code s ≡ 0 → s ≡ White
+white White h = refl
+white Gray h = absurd (omega arith)
+white Black h = absurd (omega arith)
+
+pub round_first : {g l : List ℕ} {n : ℕ} {colour : List State} → Graph g l n → length colour ≡ n → ((x : ℕ) → x < n → at colour x ≡ 0) → Round g l n 0 colour
 round_first v q z = record {
   graph = v;
   long = q;
@@ -40,7 +44,7 @@ round_first v q z = record {
   past = λ y b. absurd (omega arith);
 }
 
-module _ {g l : List ℕ} {n x : ℕ} {colour : List ℕ} (v : Round g l n x colour) where
+module _ {g l : List ℕ} {n x : ℕ} {colour : List State} (v : Round g l n x colour) where
   module _ (b : x < n) where
     pub round_skip : (at colour x ≡ 0 → ⊥) → Round g l n (x + 1) colour
     round_skip h = record {
@@ -55,7 +59,7 @@ module _ {g l : List ℕ} {n x : ℕ} {colour : List ℕ} (v : Round g l n x col
     pub round_can : at colour x ≡ 0 → CanOpen g l n colour x
     round_can h = record { graph = v.graph; long = v.long; node = b; white = h; clean = v.clean; path = λ y k t. absurd (v.calm y k t) }
 
-    pub round_more : {colour' : List ℕ} {met : Bool} → met ≡ false → length colour' ≡ length colour → Opened g l n colour x colour' met → Round g l n (x + 1) colour'
+    pub round_more : {colour' : List State} {met : Bool} → met ≡ false → length colour' ≡ length colour → Opened g l n colour x colour' met → Round g l n (x + 1) colour'
     round_more {colour'} f q k =
         let w = k.grown f in
         record {

@@ -1,13 +1,12 @@
 -- Theorems on the definitions of specs/Life: they stand here, so that the crate can be read with a definition changed. Assumes nothing.
-use Rattle.std.specs.Prelude.{ℕ, ◌+◌, ◌<◌, ◌≤◌, ◌≡◌, refl, ◌↔◌, Bool, true, false, List, [], ◌∷◌, eqb}
-use Rattle.std.proofs.Common.{arith, sym, ap, subst, ◌∙◌, ⊎_elim, true≢false, eqb-true, eq-eqb, ne_eqb}
+use Rattle.std.specs.Prelude.{ℕ, ◌<◌, ◌≡◌, refl, true, List, [], ◌∷◌, eqb}
+use Rattle.std.proofs.Common.{arith, sym, ap, ◌∙◌, ⊎_elim, true≢false, eqb-true, eq-eqb}
 use Rattle.std.proofs.Math.Decide.{ℕ_discrete}
-use Rattle.graphs.specs.Bools.{or_cases, or_left, or_right, fails}
+use Rattle.graphs.specs.Bools.{or_cases, or_left, or_right}
 use Rattle.graphs.specs.Lists.{any, has}
-use Rattle.graph_colours.specs.declared.State.{State}
-use Rattle.graph_colours.specs.declared.State.TheVariants.{White, Gray, Black}
+use Rattle.graph_colours.specs.declared.State.TheVariants.{Gray, Black}
 use Rattle.graph_colours.specs.States.{code}
-use Rattle.graph_colours.specs.Colours.{next_state, View, Turns, Next, Opens, Passes, Closes, Step, opens, passes, closes, Run, none, more, Starts}
+use Rattle.graph_colours.specs.Colours.{next_state, View, Opens, Passes, Closes, Step, opens, passes, closes, Run, none, more, Starts}
 use Rattle.graph_colours.specs.Life.{Life}
 
 has_here : (x : ℕ) (l : List ℕ) → has x (x ∷ l) ≡ true
@@ -139,7 +138,7 @@ kept_run : {n : ℕ} {d : ℕ → ℕ} {f : ℕ → ℕ → ℕ} {v w : View} �
 kept_run k none = k
 kept_run k (more r s) = kept_step (kept_run k r) s
 
--- "a node there starts white, is gray exactly while its edges are gone through": at every moment of a run from the start
+-- it starts white, and is gray exactly while its edges are gone through: at every moment of a run from the start
 pub life : {n : ℕ} {d : ℕ → ℕ} {f : ℕ → ℕ → ℕ} {u v : View} → Starts n u → Run n d f u v → Life n d v
 life s r = (kept_run (kept-first s) r).life
 

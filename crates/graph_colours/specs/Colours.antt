@@ -9,17 +9,11 @@ next_state White = Gray
 next_state Gray = Black
 next_state Black = Black
 
--- the state that a number of the list of colours stands for
+-- the state of a node by a number: 0 while it is white, 1 while it is gray, and more when it is black
 abbrev pub colour_of : ℕ → State
 colour_of zero = White
 colour_of (suc zero) = Gray
 colour_of (suc (suc k)) = Black
-
--- the number of a state, once fin nodes have finished
-abbrev pub number_of : State → ℕ → ℕ
-number_of White fin = 0
-number_of Gray fin = 1
-number_of Black fin = fin + 2
 
 -- between two steps: each node's state, how many of its edges are gone through, and the nodes whose edges are being gone through, the last opened first
 pub record View : Type 0 where
@@ -87,8 +81,8 @@ held s zero = []
 held s (suc p) = s p ∷ held s p
 
 -- what the lists of the walk show
-abbrev pub view : List ℕ → List ℕ → List ℕ → ℕ → View
-view colour cursor stack sp = record { state = λ x. colour_of (get_or colour x 0); cursor = λ x. get_or cursor x 0; path = held (λ p. get_or stack p 0) sp }
+abbrev pub view : List State → List ℕ → List ℕ → ℕ → View
+view colour cursor stack sp = record { state = λ x. get_or colour x White; cursor = λ x. get_or cursor x 0; path = held (λ p. get_or stack p 0) sp }
 
 -- the walk ran from the first state to what the lists show
 pub record Ran (n : ℕ) (d : ℕ → ℕ) (f : ℕ → ℕ → ℕ) (last : View) : Type 0 where

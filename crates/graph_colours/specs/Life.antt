@@ -1,13 +1,12 @@
--- "a node there starts white, is gray exactly while its edges are gone through, then black to the end" (02, vi): of every run. Assumes nothing.
-use Rattle.std.specs.Prelude.{ℕ, ◌+◌, ◌<◌, ◌≤◌, ◌≡◌, refl, ◌↔◌, Bool, true, false, List, [], ◌∷◌, eqb}
-use Rattle.std.proofs.Common.{arith, sym, ap, subst, ◌∙◌, ⊎_elim, true≢false, eqb-true, eq-eqb, ne_eqb}
+-- A node starts white, is gray exactly while its edges are gone through, then black to the end: of every run. Assumes nothing.
+use Rattle.std.specs.Prelude.{ℕ, ◌<◌, ◌≡◌, ◌↔◌, true}
+use Rattle.std.proofs.Common.{arith, sym, ap, subst, ◌∙◌}
 use Rattle.std.proofs.Math.Decide.{ℕ_discrete}
-use Rattle.graphs.specs.Bools.{or_cases, or_left, or_right, fails}
-use Rattle.graphs.specs.Lists.{any, has}
+use Rattle.graphs.specs.Lists.{has}
 use Rattle.graph_colours.specs.declared.State.{State}
 use Rattle.graph_colours.specs.declared.State.TheVariants.{White, Gray, Black}
 use Rattle.graph_colours.specs.States.{code}
-use Rattle.graph_colours.specs.Colours.{next_state, View, Turns, Next, Opens, Passes, Closes, Step, opens, passes, closes, Run, none, more, Starts}
+use Rattle.graph_colours.specs.Colours.{next_state, View, Turns, Step, opens, passes, closes, Run, none, more}
 
 -- at every moment of a run
 pub record Life (n : ℕ) (d : ℕ → ℕ) (v : View) : Type 0 where
@@ -35,7 +34,7 @@ module _ (P : State → Type 0) (t : (s : State) → P s → P (next_state s)) {
   keeps none h = h
   keeps (more r s) h = keeps_step s (keeps r h)
 
--- "then black to the end": from any moment on
+-- black to the end: from any moment on
 pub black-stays : {n : ℕ} {d : ℕ → ℕ} {f : ℕ → ℕ → ℕ} {v w : View} → Run n d f v w → (x : ℕ) → x < n → v.state x ≡ Black → w.state x ≡ Black
 black-stays r x b h = keeps (λ s. s ≡ Black) (λ s q. ap next_state q) b r h
 

@@ -3,4 +3,4 @@ pub mod Parts
 pub mod Gathering
 pub mod Labels
 pub mod Meets
-pub mod Found
+pub mod OnlyOne

@@ -1,217 +1,118 @@
 // The components of a graph by two walks (Kosaraju-Sharir), and the only one with a closed walk.
 #![tactic(auto)]
 
-ghost use Rattle.std.specs.Prelude.{◌≡◌, ℕ, ◌+◌, ◌<◌, ◌≤◌, eqb, length, get_or, set};
-ghost use Rattle.graphs.specs.Count.{ind};
-ghost use Rattle.graph_neighbours.specs.Direction.{along};
+ghost use Rattle.std.specs.Prelude.{◌≡◌, ℕ, ◌+◌, ◌<◌, get_or};
+ghost use Rattle.graph_neighbours.specs.Followed.{followed};
 ghost use Rattle.graph_neighbours.specs.Lists.{edge};
 ghost use Rattle.graph_depth_first.specs.Steps.{at};
 ghost use Rattle.graph_components.specs.Components.{turn, CanGather, Gathered, Parting, CanWalkBack, Split};
 ghost use Rattle.graph_components.specs.Only.{flagged, meet_of, Met, Inner, CanMeet, CanFlag, Flagged, CanFlagOnly};
 
+use graph_neighbours::Neighbours;
+
 // Gives the label l to the nodes that reach `root` over nodes with no label.
-fn gather<'a>(
-    dir: graph_neighbours::Direction,
-    starts: &[u32],
-    dependencies: &'a [u32],
-    dependents: &'a [u32],
-    n: usize,
-    label: &mut [u32],
-    stack: &mut [u32],
-    root: u32,
-    l: u32,
-)
-    requires { CanGather starts.now (along dir dependencies.now dependents.now) n label.old stack.old root l }
-    ensures { Gathered (turn (edge starts.now (along dir dependencies.now dependents.now) n)) n root l (at label.old) (at label.new) }
+// stays: 0 stands for no label, since the labels are the marks of the walk.
+fn gather(graph: &Neighbours, n: usize, label: &mut [u32], stack: &mut [u32], root: u32, l: u32)
+    requires { CanGather graph.now.starts.now (followed graph.now) n label.old stack.old root l }
+    ensures { Gathered (turn (edge graph.now.starts.now (followed graph.now) n)) n root l (at label.old) (at label.new) }
 {
-    let sp = graph_walks::look(label, stack, l, 0, root);
-    graph_walks::spread(
-        dir,
-        starts,
-        dependencies,
-        dependents,
-        n,
-        l,
-        label,
-        stack,
-        sp,
-    );
+    let height = graph_walks::look(label, stack, l, 0, root);
+    graph_walks::spread(graph, n, l, label, stack, height);
 }
 
 // The component of the node at place k of the post-order, if it has no label.
-fn part<'a>(
-    dir: graph_neighbours::Direction,
-    starts: &[u32],
-    dependencies: &'a [u32],
-    dependents: &'a [u32],
-    n: usize,
-    order: &[u32],
-    label: &mut [u32],
-    stack: &mut [u32],
-    k: usize,
-)
-    requires { Parting starts.now (along dir dependencies.now dependents.now) n order.now label.old stack.old (k + 1) × (k < n) × (get_or order.now k 0 < n) }
-    ensures { Parting starts.now (along dir dependencies.now dependents.now) n order.now label.new stack.new k }
+fn part(graph: &Neighbours, n: usize, order: &[u32], label: &mut [u32], stack: &mut [u32], k: usize)
+    requires { Parting graph.now.starts.now (followed graph.now) n order.now label.old stack.old (k + 1) × (k < n) × (get_or order.now k 0 < n) }
+    ensures { Parting graph.now.starts.now (followed graph.now) n order.now label.new stack.new k }
 {
-    let r = order[k];
-    if label[r as usize] != 0 {
-        return;
+    let root = order[k];
+    if label[root as usize] == 0 {
+        gather(graph, n, label, stack, root, k as u32 + 1);
     }
-    gather(
-        dir,
-        starts,
-        dependencies,
-        dependents,
-        n,
-        label,
-        stack,
-        r,
-        k as u32 + 1,
-    );
 }
 
 // The second walk, over dependents in reverse post-order: two nodes get one label where each reaches the other.
-fn second_walk<'a>(
-    turned: &[u32],
-    dependencies: &'a [u32],
-    dependents: &'a [u32],
-    n: usize,
-    order: &[u32],
-    label: &mut [u32],
-    stack: &mut [u32],
-)
-    requires { CanWalkBack turned.now dependents.now n order.now label.old stack.old }
-    ensures { Split (turn (edge turned.now dependents.now n)) n (at label.new) }
+fn second_walk(turned: &Neighbours, n: usize, order: &[u32], label: &mut [u32], stack: &mut [u32])
+    requires { CanWalkBack turned.now.starts.now (followed turned.now) n order.now label.old stack.old }
+    ensures { Split (turn (edge turned.now.starts.now (followed turned.now) n)) n (at label.new) }
 {
-    graph_neighbours::clear(label, n);
-    let mut k = n;
-    while 0 < k {
-        k -= 1;
-        part(
-            graph_neighbours::Direction::Dependents,
-            turned,
-            dependencies,
-            dependents,
-            n,
-            order,
-            label,
-            stack,
-            k,
-        );
+    label[..n].fill(0);
+    for k in (0..n).rev() {
+        part(turned, n, order, label, stack, k);
     }
 }
 
-// An edge from label a to label b is met: the label of the edges within a component so far is 0 for none, `many` for two.
-fn meet(found: u32, a: u32, b: u32, many: u32) -> u32
-    ensures { result ≡ meet_of found a b many }
+// The labels of the edges within components.
+#[derive(Clone, Copy, PartialEq, Eq, Debug)]
+enum Found {
+    Nothing,
+    Only(u32),
+    Several,
+}
+
+// An edge from label a to label b is met.
+fn meet(found: Found, a: u32, b: u32) -> Found
+    ensures { result ≡ meet_of found a b }
 {
     if a != b {
         return found;
     }
-    if found == 0 {
-        return a;
+    match found {
+        Found::Nothing => Found::Only(a),
+        Found::Only(label) if label == a => found,
+        _ => Found::Several,
     }
-    if found == a {
-        return found;
-    }
-    many
 }
 
 // The edges of x.
-fn inner<'a>(
-    dir: graph_neighbours::Direction,
-    starts: &[u32],
-    dependencies: &'a [u32],
-    dependents: &'a [u32],
-    n: usize,
-    label: &[u32],
-    x: usize,
-    found: u32,
-) -> u32
-    requires { CanMeet starts.now (along dir dependencies.now dependents.now) n label.now × (x < n) × Met n (Inner starts.now (along dir dependencies.now dependents.now) n (at label.now) x 0) found }
-    ensures { Met n (Inner starts.now (along dir dependencies.now dependents.now) n (at label.now) (x + 1) 0) result }
+fn inner(graph: &Neighbours, n: usize, label: &[u32], x: usize, found: Found) -> Found
+    requires { CanMeet graph.now.starts.now (followed graph.now) n label.now × (x < n) × Met (Inner graph.now.starts.now (followed graph.now) n (at label.now) x 0) found }
+    ensures { Met (Inner graph.now.starts.now (followed graph.now) n (at label.now) (x + 1) 0) result }
 {
-    let m = graph_neighbours::degree(starts, x);
-    let many = n as u32 + 1;
-    let mut f = found;
-    let mut j = 0;
-    while j < m {
-        let y = graph_neighbours::neighbour(dir, starts, dependencies, dependents, x, j) as usize;
-        f = meet(f, label[x], label[y], many);
-        j += 1;
+    let mut found = found;
+    for &y in graph.of(x) {
+        found = meet(found, label[x], label[y as usize]);
     }
-    f
+    found
 }
 
-// All edges: the label of those within a component, 0 for none and n + 1 for two.
-fn within<'a>(
-    dir: graph_neighbours::Direction,
-    starts: &[u32],
-    dependencies: &'a [u32],
-    dependents: &'a [u32],
-    n: usize,
-    label: &[u32],
-) -> u32
-    requires { CanMeet starts.now (along dir dependencies.now dependents.now) n label.now }
-    ensures { Met n (Inner starts.now (along dir dependencies.now dependents.now) n (at label.now) n 0) result }
+// All edges.
+fn within(graph: &Neighbours, n: usize, label: &[u32]) -> Found
+    requires { CanMeet graph.now.starts.now (followed graph.now) n label.now }
+    ensures { Met (Inner graph.now.starts.now (followed graph.now) n (at label.now) n 0) result }
 {
-    let mut f: u32 = 0;
-    let mut x = 0;
-    while x < n {
-        f = inner(dir, starts, dependencies, dependents, n, label, x, f);
-        x += 1;
+    let mut found = Found::Nothing;
+    for x in 0..n {
+        found = inner(graph, n, label, x, found);
     }
-    f
+    found
 }
 
-// A node's flag.
-fn flag(flags: &mut [u32], x: usize, a: u32, b: u32)
-    requires { x < length flags.old }
-    ensures { flags.new ≡ set flags.old x (ind (eqb a b)) }
-{
-    if a == b {
-        flags[x] = 1;
-        return;
-    }
-    flags[x] = 0;
-}
-
-// The flags of the nodes with the label.
-fn flag_all(label: &[u32], n: usize, found: u32, flags: &mut [u32])
+// The flags of the nodes with the only label, if there is one.
+fn flag_all(label: &[u32], n: usize, found: Found, flags: &mut [u32])
     requires { CanFlag label.now n flags.old }
-    ensures { Flagged label.now n found flags.old n flags.new }
+    ensures { Flagged label.now found flags.old n flags.new }
 {
-    let mut x = 0;
-    while x < n {
-        flag(flags, x, label[x], found);
-        x += 1;
+    for x in 0..n {
+        flags[x] = u32::from(found == Found::Only(label[x]));
     }
 }
 
-// Flags the nodes of the only component with a closed walk; none where there are two such components. `order` has the nodes in the post-order of
-// a first walk; `label` and `stack` are scratch.
-pub fn only_cyclic_component<'a>(
-    starts: &[u32],
-    dependencies: &'a [u32],
-    turned: &[u32],
-    dependents: &'a [u32],
+// Flags the nodes of the only component with a closed walk; none where there are two such components. `turned` is the graph with each edge turned round;
+// `order` has the nodes in the post-order of a first walk; `label` and `stack` are scratch.
+pub fn only_cyclic_component(
+    graph: &Neighbours,
+    turned: &Neighbours,
     n: usize,
     order: &[u32],
     label: &mut [u32],
     stack: &mut [u32],
     flags: &mut [u32],
 )
-    requires { CanFlagOnly starts.now dependencies.now turned.now dependents.now n order.now label.old stack.old flags.old }
-    ensures { flags.new ≡ flagged (edge starts.now dependencies.now n) n flags.old }
+    requires { CanFlagOnly graph.now.starts.now (followed graph.now) turned.now.starts.now (followed turned.now) n order.now label.old stack.old flags.old }
+    ensures { flags.new ≡ flagged (edge graph.now.starts.now (followed graph.now) n) n flags.old }
 {
-    second_walk(turned, dependencies, dependents, n, order, label, stack);
-    let found = within(
-        graph_neighbours::Direction::Dependencies,
-        starts,
-        dependencies,
-        dependents,
-        n,
-        label,
-    );
+    second_walk(turned, n, order, label, stack);
+    let found = within(graph, n, label);
     flag_all(label, n, found, flags);
 }

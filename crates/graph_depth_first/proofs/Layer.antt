@@ -1,9 +1,9 @@
--- The same on the lists, for the stores of `src/lib.rt`. Assumes nothing.
-use Prim.Native.Nat.{ℕ, ◌+◌, ◌-◌, ◌<◌, ◌≤◌}
+-- The moves on the lists, for the stores of `src/lib.rt`. Assumes nothing.
+use Prim.Native.Nat.{ℕ, ◌+◌, ◌-◌, ◌^◌, ◌<◌, ◌≤◌}
 use native.Mathlib.Omega.{arith}
 use native.Mathlib.Decide.{ℕ_discrete}
 use mathlib.Core.Path.{◌≡◌, refl, sym, ap, ◌∙◌}
-use mathlib.Core.Logic.{◌⊎◌, inr}
+use mathlib.Core.Logic.{◌⊎◌, inl, inr}
 use mathlib.Core.Bool.{Bool, true, false, true≢false}
 use mathlib.Core.List.{List, []}
 use lib.ListN.{get_or, length, set, length-set}
@@ -11,230 +11,269 @@ use lib.Seq.{get_or-set_same, get_or-set_other}
 use Rattle.graphs.specs.Lists.{below}
 use Rattle.graphs.specs.Walk.{cyclic}
 use Rattle.graphs.specs.Walks.{sources-below, cyclic_walk}
-use Rattle.graph_neighbours.specs.Lists.{deg, nb, edge, listed}
-use Rattle.graph_depth_first.specs.Search.{Falls, size}
-use Rattle.graph_depth_first.specs.Steps.{at, CanDiscover, Discovered, Finished, CanVisit, Visited, Ready, Top, Kept, Stepped}
+use Rattle.graph_neighbours.specs.declared.Neighbours.{Neighbours}
+use Rattle.graph_neighbours.specs.Followed.{followed}
+use Rattle.graph_neighbours.specs.Parts.{part_of}
+use Rattle.graph_neighbours.specs.Lists.{deg, nb, edge, listed, part_long}
+use Rattle.graph_colours.specs.declared.State.{State}
+use Rattle.graph_colours.specs.declared.State.TheVariants.{White, Gray, Black}
+use Rattle.graph_colours.specs.States.{code}
+use Rattle.graph_colours.specs.Colours.{colour_of, view, held, Next, opens, passes, closes}
+use Rattle.graph_depth_first.specs.declared.DepthFirst.{DepthFirst}
+use Rattle.graph_depth_first.specs.declared.Progress.{Progress}
+use Rattle.graph_depth_first.specs.Search.{Falls}
+use Rattle.graph_depth_first.specs.Steps.{at, state_at, CanDiscover, Discovered, CanFinish, Finished, CanVisit, Visited, Ready, Kept, Stepped}
 use Rattle.graph_depth_first.proofs.Whites.{room_for}
-use Rattle.graph_colours.specs.Colours.{view, held, Next, Step, opens, passes, closes}
-use Rattle.graph_depth_first.proofs.Views.{next_top, view_opens, view-passes, view-closes}
+use Rattle.graph_depth_first.proofs.Numbers.{number_white, number_gray, number_black, black_number, apart, put, put_same, put_other, agree_put, size_states}
+use Rattle.graph_depth_first.proofs.Views.{held_none, next_top, view_opens, view-passes, view-closes}
 use Rattle.graph_depth_first.proofs.Moves as moves
 use Rattle.graph_depth_first.proofs.Falling as falling
 
-pub kept_refl : (n : ℕ) (l : List ℕ) → Kept n l l
+pub kept_refl : (n : ℕ) (l : List State) → Kept n l l
 kept_refl n l = record { known = λ x b h. h }
 
-pub kept_trans : {n : ℕ} {a b c : List ℕ} → Kept n a b → Kept n b c → Kept n a c
+pub kept_trans : {n : ℕ} {a b c : List State} → Kept n a b → Kept n b c → Kept n a c
 kept_trans p q = record { known = λ x b h. q.known x b (p.known x b h) }
 
-same : (w : List ℕ) (k v : ℕ) → k < length w → get_or (set w k v) k 0 ≡ v
-same w k v b = get_or-set_same w k v 0 b
+-- a node whose state changes is not white afterwards
+turned_kept : (n : ℕ) (l : List State) (j : ℕ) (q : State) → j < length l → (q ≡ White → ⊥) → Kept n l (set l j q)
+turned_kept n l j q b no-white = record {
+  known = λ x h k z. elim (ℕ_discrete x j) [
+    | yes i ↦ no-white (sym (get_or-set_same l j q White b) ∙ sym (ap (state_at (set l j q)) i) ∙ z)
+    | no i ↦ k (sym (get_or-set_other l j x q White i) ∙ z)
+  ];
+}
 
-other : (w : List ℕ) (k v i : ℕ) → (i ≡ k → ⊥) → get_or (set w k v) i 0 ≡ get_or w i 0
-other w k v i h = get_or-set_other w k i v 0 h
-
-module _ {g l : List ℕ} {n : ℕ} {colour cursor stack low order : List ℕ} {sp fin : ℕ} {met : Bool} (r : Ready g l n colour cursor stack low order sp fin met) where
+module _ {graph : Neighbours} {n N : ℕ} {s : DepthFirst N} {p : Progress} (r : Ready graph n s p) where
   abbrev e : ℕ → ℕ → Bool
-  e = edge g l n
+  e = edge graph.starts.now (followed graph) n
 
-  pub top_of : 0 < sp → Top g n colour cursor stack sp fin
-  top_of b =
-      let t : at stack (sp - 1) < n = r.state.node (sp - 1) (omega arith) in
-      let k = r.state.reach (at stack (sp - 1)) t in
-      record { some = b; gray = r.state.gray (sp - 1) (omega arith); node = t; reach = k; short = omega (arith, r.graph.inside _ t, r.graph.short); full = omega (arith, r.state.count) }
+  abbrev d : ℕ → ℕ
+  d = deg graph.starts.now
+
+  abbrev f : ℕ → ℕ → ℕ
+  f = nb graph.starts.now (followed graph)
 
   -- a white node is discovered
-  module _ (j : ℕ) (jn : j < n) (new : at colour j ≡ 0) where
-    pub push_fits : sp + fin < n
-    push_fits = room_for n (at colour) sp fin j r.state.count jn new
+  module _ (j : ℕ) (jn : j < n) (white : state_at s.states j ≡ White) where
+    new : r.number j ≡ 0
+    new = number_white (r.number j) (sym (r.states j jn) ∙ white)
 
-    pub discover_can : CanDiscover colour stack low sp j fin
-    discover_can = record { cell = omega (arith, r.colours); white = new; room = omega (arith, r.places, push_fits); mark = omega (arith, r.lows); few = omega (arith, push_fits, r.small) }
+    pub push_fits : p.height + p.finished < n
+    push_fits = room_for n r.number p.height p.finished j r.state.count jn new
 
-    module _ (after : (p : ℕ) → p + 1 ≡ sp → e (at stack p) j ≡ true) (from : (held (at stack) sp ≡ []) ⊎ ((x : ℕ) × Next (deg g) (nb g l) (view colour cursor stack sp) x j)) where
-      abbrev colour' : List ℕ
-      colour' = set colour j 1
+    pub discover_can : CanDiscover s p j
+    discover_can = record { cell = omega (arith, r.nodes); white = white; room = omega (arith, r.nodes, push_fits) }
 
-      abbrev stack' : List ℕ
-      stack' = set stack sp j
+    module _ (after : (k : ℕ) → k + 1 ≡ p.height → e (at s.stack k) j ≡ true) (from : (held (at s.stack) p.height ≡ []) ⊎ ((x : ℕ) × Next d f (view s.states s.cursors s.stack p.height) x j)) where
+      abbrev s₁ : DepthFirst N
+      s₁ = record { states = set s.states j Gray; cursors = s.cursors; stack = set s.stack p.height j; order = s.order; met = s.met }
 
-      abbrev low' : List ℕ
-      low' = set low j fin
+      abbrev p₁ : Progress
+      p₁ = record { height = p.height + 1; finished = p.finished }
 
-      cj : at colour' j ≡ 1
-      cj = same colour j 1 (omega (arith, r.colours))
+      sj : at s₁.stack p.height ≡ j
+      sj = get_or-set_same s.stack p.height j 0 (omega (arith, r.places, r.nodes, push_fits))
 
-      co : (x : ℕ) → x < n → (x ≡ j → ⊥) → at colour' x ≡ at colour x
-      co x b h = other colour j 1 x h
+      so : (k : ℕ) → k < n → (k ≡ p.height → ⊥) → at s₁.stack k ≡ at s.stack k
+      so k b h = get_or-set_other s.stack p.height k j 0 h
 
-      sj : at stack' sp ≡ j
-      sj = same stack sp j (omega (arith, r.places, push_fits))
+      agree₁ : (x : ℕ) → x < n → state_at s₁.states x ≡ colour_of (put r.number j 1 x)
+      agree₁ = agree_put s.states r.number r.states (omega (arith, r.colours, r.nodes)) j 1 Gray jn refl
 
-      so : (p : ℕ) → p < n → (p ≡ sp → ⊥) → at stack' p ≡ at stack p
-      so p b h = other stack sp j p h
-
-      aj : at low' j ≡ fin
-      aj = same low j fin (omega (arith, r.lows))
-
-      ao : (x : ℕ) → x < n → (x ≡ j → ⊥) → at low' x ≡ at low x
-      ao x b h = other low j fin x h
-
-      push_new : Ready g l n colour' cursor stack' low' order (sp + 1) fin met
-      push_new = record {
-        graph = r.graph;
+      push_ready : Ready graph n s₁ p₁
+      push_ready = record {
+        number = put r.number j 1;
+        low = put r.low j p.finished;
+        graph_in = r.graph_in;
+        nodes = r.nodes;
         colours = rw length-set r.colours;
-        cursors = r.cursors;
+        passed = r.passed;
         places = rw length-set r.places;
-        lows = rw length-set r.lows;
         orders = r.orders;
         small = r.small;
-        state = moves.push r.state (listed r.graph) (at colour') (at stack') (at low') j jn new after cj co sj so aj ao;
-        falls = λ h. falling.falls_push r.state (listed r.graph) (r.falls h) (at colour') j new cj co;
+        states = agree₁;
+        state = moves.push r.state (listed r.graph_in) (put r.number j 1) (at s₁.stack) (put r.low j p.finished) j jn new after (put_same r.number j 1) (λ x b. put_other r.number j 1 x) sj so (put_same r.low j p.finished) (λ x b. put_other r.low j p.finished x);
+        falls = λ h. falling.falls_push r.state (listed r.graph_in) (r.falls h) (put r.number j 1) j new (put_same r.number j 1) (λ x b. put_other r.number j 1 x);
         closes = r.closes;
       }
 
-      known_new : Kept n colour colour'
-      known_new = record { known = λ x b h z. elim (ℕ_discrete x j) [ yes k ↦ omega (arith, cj, ap (at colour') k) | no k ↦ h (sym (co x b k) ∙ z) ] }
-
-      less-new : size n (deg g) (at colour') (at cursor) (sp + 1) < size n (deg g) (at colour) (at cursor) sp
-      less-new = moves.push_size r.state (listed r.graph) (at colour') (at stack') (at low') j jn new after cj co sj so aj ao
-
-      module _ {colour'' stack'' low'' : List ℕ} (w : Discovered colour stack low sp j fin colour'' stack'' low'') where
-        pub push_ready : Ready g l n colour'' cursor stack'' low'' order (sp + 1) fin met
-        push_ready = rw (w.turned, w.pushed, w.noted) push_new
-
-        pub push_kept : Kept n colour colour''
-        push_kept = rw w.turned known_new
-
-        pub push_known : at colour'' j ≡ 0 → ⊥
-        push_known z = omega (arith, ap (λ (k : List ℕ). at k j) w.turned, cj)
-
-        pub push_moved : Step n (deg g) (nb g l) (view colour cursor stack sp) (view colour'' cursor stack'' (sp + 1))
-        push_moved = rw (w.turned, w.pushed) (opens j (view_opens n (deg g) (nb g l) colour cursor stack sp r.colours j jn (omega (arith, r.places, push_fits)) new from))
-
-        pub push_step : Stepped g l n colour cursor stack sp colour'' cursor stack'' low'' order (sp + 1) fin met
-        push_step = record { kept = push_kept; ready = push_ready; moved = push_moved; less = rw w.turned less-new }
-
-  -- the node t on top of the stack, and j, the place of its next neighbour
-  module _ (k : Top g n colour cursor stack sp fin) where
-    abbrev t : ℕ
-    t = at stack (sp - 1)
-
-    abbrev j : ℕ
-    j = at cursor t
-
-    -- t finishes
-    module _ (all : j ≡ deg g t) where
-      abbrev black : List ℕ
-      black = set colour t (fin + 2)
-
-      abbrev order' : List ℕ
-      order' = set order fin t
-
-      ct : at black t ≡ fin + 2
-      ct = same colour t (fin + 2) (omega (arith, k.node, r.colours))
-
-      co₁ : (x : ℕ) → x < n → (x ≡ t → ⊥) → at black x ≡ at colour x
-      co₁ x b h = other colour t (fin + 2) x h
-
-      of : at order' fin ≡ t
-      of = same order fin t (omega (arith, k.full, k.some, r.orders))
-
-      oo : (i : ℕ) → i < n → (i ≡ fin → ⊥) → at order' i ≡ at order i
-      oo i b h = other order fin t i h
-
-      pop_new : Stepped g l n colour cursor stack sp black cursor stack low order' (sp - 1) (fin + 1) met
-      pop_new = record {
-        kept = record { known = λ x b h z. elim (ℕ_discrete x t) [ yes i ↦ omega (arith, ct, ap (at black) i) | no i ↦ h (sym (co₁ x b i) ∙ z) ] };
-        ready = record {
-          graph = r.graph;
-          colours = rw length-set r.colours;
-          cursors = r.cursors;
-          places = r.places;
-          lows = r.lows;
-          orders = rw length-set r.orders;
-          small = r.small;
-          state = moves.pop r.state (listed r.graph) (at black) (at order') k.some all ct co₁ of oo;
-          falls = λ h. falling.falls_pop r.state (listed r.graph) (r.falls h) (at black) k.some all ct co₁;
-          closes = r.closes;
-        };
-        moved = closes t (view-closes n (deg g) (nb g l) colour cursor stack sp r.colours t fin k.node refl k.some k.gray all);
-        less = moves.pop_size r.state (listed r.graph) (at black) (at order') k.some all ct co₁ of oo;
+      push_new : Stepped graph n s p s₁ p₁
+      push_new = record {
+        kept = turned_kept n s.states j Gray (omega (arith, r.colours, r.nodes)) (apart (λ q. omega arith));
+        ready = push_ready;
+        moved = opens j (view_opens n d f s.states s.cursors s.stack p.height (omega (arith, r.colours, r.nodes)) j jn (omega (arith, r.places, r.nodes, push_fits)) white from);
+        less = omega (arith, size_states s₁.states (put r.number j 1) agree₁ d (at s.cursors) (p.height + 1), size_states s.states r.number r.states d (at s.cursors) p.height, moves.push_size r.state (listed r.graph_in) (put r.number j 1) (at s₁.stack) (put r.low j p.finished) j jn new after (put_same r.number j 1) (λ x b. put_other r.number j 1 x) sj so (put_same r.low j p.finished) (λ x b. put_other r.low j p.finished x));
       }
 
-      pub pop_step : {colour'' order'' : List ℕ} → Finished colour order t fin colour'' order'' → Stepped g l n colour cursor stack sp colour'' cursor stack low order'' (sp - 1) (fin + 1) met
-      pop_step w = rw (w.turned, w.listed) pop_new
+      module _ {s' : DepthFirst N} {p' : Progress} (w : Discovered s p j s' p') where
+        pub push_step : Stepped graph n s p s' p'
+        push_step = rw (w.turned, w.after) push_new
+
+        pub push_known : state_at s'.states j ≡ White → ⊥
+        push_known = rw w.turned (apart (λ q. omega (arith, ap code (get_or-set_same s.states j Gray White (omega (arith, r.colours, r.nodes))))))
+
+    -- it is a root
+    module _ (empty : p.height ≡ 0) {s' : DepthFirst N} {p' : Progress} (w : Discovered s p j s' p') where
+      pub root_step : Stepped graph n s p s' p'
+      root_step = push_step (λ k h. absurd (omega arith)) (inl (ap (held (at s.stack)) empty ∙ held_none (at s.stack))) w
+
+      pub root_known : state_at s'.states j ≡ White → ⊥
+      root_known = push_known (λ k h. absurd (omega arith)) (inl (ap (held (at s.stack)) empty ∙ held_none (at s.stack))) w
+
+  -- the node t on top of the stack, and j, the place of its next neighbour
+  module _ (some : 0 < p.height) where
+    abbrev t : ℕ
+    t = at s.stack (p.height - 1)
+
+    abbrev j : ℕ
+    j = at s.cursors t
+
+    pub top_node : t < n
+    top_node = r.state.node (p.height - 1) (omega arith)
+
+    pub top_gray : state_at s.states t ≡ Gray
+    top_gray = r.states t top_node ∙ ap colour_of (r.state.gray (p.height - 1) (omega arith))
+
+    pub top_full : p.height + p.finished ≤ n
+    top_full = omega (arith, r.state.count)
+
+    pub top_short : j < 2 ^ 31
+    top_short = omega (arith, r.state.reach t top_node, r.graph_in.inside t top_node, r.graph_in.short)
+
+    -- its neighbours, as a part of the list
+    module _ {part : List ℕ} (same : part ≡ part_of graph.starts.now (followed graph) t) where
+      long : length part ≡ d t
+      long = ap length same ∙ part_long r.graph_in t top_node
+
+      pub more-there : j < length part → j < d t
+      more-there h = omega (arith, long)
+
+      pub all_there : length part ≤ j → j ≡ d t
+      all_there h = omega (arith, long, r.state.reach t top_node)
+
+      pub next_is : {y : ℕ} → y ≡ get_or part j 0 → y ≡ f t j
+      next_is q = q ∙ ap (λ l. get_or l j 0) same
+
+    -- t finishes
+    module _ (all : j ≡ d t) where
+      pub finish_can : CanFinish s p t
+      finish_can = record { cell = omega (arith, top_node, r.nodes); gray = top_gray; some = some; room = omega (arith, top_full, r.nodes) }
+
+      abbrev s₂ : DepthFirst N
+      s₂ = record { states = set s.states t Black; cursors = s.cursors; stack = s.stack; order = set s.order p.finished t; met = s.met }
+
+      abbrev p₂ : Progress
+      p₂ = record { height = p.height - 1; finished = p.finished + 1 }
+
+      of : at s₂.order p.finished ≡ t
+      of = get_or-set_same s.order p.finished t 0 (omega (arith, top_full, r.orders, r.nodes))
+
+      oo : (i : ℕ) → i < n → (i ≡ p.finished → ⊥) → at s₂.order i ≡ at s.order i
+      oo i b h = get_or-set_other s.order p.finished i t 0 h
+
+      agree₂ : (x : ℕ) → x < n → state_at s₂.states x ≡ colour_of (put r.number t (p.finished + 2) x)
+      agree₂ = agree_put s.states r.number r.states (omega (arith, r.colours, r.nodes)) t (p.finished + 2) Black top_node (sym (black_number (p.finished + 2) (omega arith)))
+
+      pop_ready : Ready graph n s₂ p₂
+      pop_ready = record {
+        number = put r.number t (p.finished + 2);
+        low = r.low;
+        graph_in = r.graph_in;
+        nodes = r.nodes;
+        colours = rw length-set r.colours;
+        passed = r.passed;
+        places = r.places;
+        orders = rw length-set r.orders;
+        small = r.small;
+        states = agree₂;
+        state = moves.pop r.state (listed r.graph_in) (put r.number t (p.finished + 2)) (at s₂.order) some all (put_same r.number t (p.finished + 2)) (λ x b. put_other r.number t (p.finished + 2) x) of oo;
+        falls = λ h. falling.falls_pop r.state (listed r.graph_in) (r.falls h) (put r.number t (p.finished + 2)) some all (put_same r.number t (p.finished + 2)) (λ x b. put_other r.number t (p.finished + 2) x);
+        closes = r.closes;
+      }
+
+      pop_new : Stepped graph n s p s₂ p₂
+      pop_new = record {
+        kept = turned_kept n s.states t Black (omega (arith, top_node, r.colours, r.nodes)) (apart (λ q. omega arith));
+        ready = pop_ready;
+        moved = closes t (view-closes n d f s.states s.cursors s.stack p.height (omega (arith, r.colours, r.nodes)) t top_node refl some top_gray all);
+        less = omega (arith, size_states s₂.states (put r.number t (p.finished + 2)) agree₂ d (at s.cursors) (p.height - 1), size_states s.states r.number r.states d (at s.cursors) p.height, moves.pop_size r.state (listed r.graph_in) (put r.number t (p.finished + 2)) (at s₂.order) some all (put_same r.number t (p.finished + 2)) (λ x b. put_other r.number t (p.finished + 2) x) of oo);
+      }
+
+      pub pop_step : {s' : DepthFirst N} {p' : Progress} → Finished s p t s' p' → Stepped graph n s p s' p'
+      pop_step w = rw (w.turned, w.after) pop_new
 
     -- t's next neighbour
-    module _ (room : j ≡ deg g t → ⊥) where
-      pub next_in : j < deg g t
-      next_in = omega (arith, k.reach)
+    module _ (room : j < d t) {y : ℕ} (is : y ≡ f t j) where
+      next_node : y < n
+      next_node = rw is (r.graph_in.ends t j top_node room)
 
-      abbrev cursor' : List ℕ
-      cursor' = set cursor t (j + 1)
+      to_y : e t y ≡ true
+      to_y = rw is ((listed r.graph_in).step t j top_node room)
 
-      ut : at cursor' t ≡ j + 1
-      ut = same cursor t (j + 1) (omega (arith, k.node, r.cursors))
+      pub visit_can : CanVisit s p t y
+      visit_can = record {
+        cell = omega (arith, next_node, r.nodes);
+        next = omega (arith, top_node, r.nodes);
+        short = top_short;
+        room = λ h. omega (arith, push_fits y next_node h, r.nodes);
+      }
 
-      uo : (x : ℕ) → x < n → (x ≡ t → ⊥) → at cursor' x ≡ at cursor x
-      uo x b h = other cursor t (j + 1) x h
+      next : Next d f (view s.states s.cursors s.stack p.height) t y
+      next = next_top n d f s.states s.cursors s.stack p.height (omega (arith, r.colours, r.nodes)) t y refl some room (sym is)
 
-      module _ {y : ℕ} (is : y ≡ nb g l t j) where
-        pub next_node : y < n
-        next_node = rw is (r.graph.ends t j k.node next_in)
+      abbrev s₃ : Bool → DepthFirst N
+      s₃ b = record { states = s.states; cursors = set s.cursors t (j + 1); stack = s.stack; order = s.order; met = b }
 
-        to_y : e t y ≡ true
-        to_y = rw is ((listed r.graph).step t j k.node next_in)
+      abbrev cursors₃ : List ℕ
+      cursors₃ = set s.cursors t (j + 1)
 
-        pub visit_can : CanVisit colour cursor stack low sp fin t y
-        visit_can = record {
-          cell = omega (arith, next_node, r.colours);
-          next = omega (arith, k.node, r.cursors);
-          short = k.short;
-          room = λ h. omega (arith, push_fits y next_node h, r.places);
-          mark = omega (arith, next_node, r.lows);
-          few = omega (arith, k.full, r.small);
-        }
+      ut : at cursors₃ t ≡ j + 1
+      ut = get_or-set_same s.cursors t (j + 1) 0 (omega (arith, top_node, r.passed, r.nodes))
 
-        next : Next (deg g) (nb g l) (view colour cursor stack sp) t y
-        next = next_top n (deg g) (nb g l) colour cursor stack sp r.colours t y refl k.some next_in (sym is)
+      uo : (x : ℕ) → x < n → (x ≡ t → ⊥) → at cursors₃ x ≡ at s.cursors x
+      uo x b h = get_or-set_other s.cursors t x (j + 1) 0 h
 
-        -- it is passed by
-        passed : (at colour y ≡ 0 → ⊥) → {met' : Bool} → (met' ≡ false → Falls e n (nb g l) (at colour) (at cursor')) → (met' ≡ true → cyclic e (below n) ≡ true)
-            → Stepped g l n colour cursor stack sp colour cursor' stack low order sp fin met'
-        passed known falls shut = record {
-          kept = kept_refl n colour;
-          ready = record {
-            graph = r.graph;
-            colours = r.colours;
-            cursors = rw length-set r.cursors;
-            places = r.places;
-            lows = r.lows;
-            orders = r.orders;
-            small = r.small;
-            state = moves.next r.state (listed r.graph) (at cursor') t k.node next_in (rw is at known) ut uo;
-            falls = falls;
-            closes = shut;
-          };
-          moved = passes t y (view-passes n (deg g) (nb g l) colour cursor stack sp r.colours t y k.node r.cursors next known);
-          less = moves.next-size r.state (listed r.graph) (at cursor') t k.node next_in (rw is at known) ut uo;
-        }
+      -- it is passed by
+      passed : (state_at s.states y ≡ White → ⊥) → {b : Bool} → (b ≡ false → Falls e n f r.number (at cursors₃)) → (b ≡ true → cyclic e (below n) ≡ true)
+          → Stepped graph n s p (s₃ b) p
+      passed known falls shut =
+          let done : r.number (f t j) ≡ 0 → ⊥ = λ z. known (r.states y next_node ∙ ap colour_of (ap r.number is ∙ z)) in
+          record {
+            kept = kept_refl n s.states;
+            ready = record {
+              number = r.number;
+              low = r.low;
+              graph_in = r.graph_in;
+              nodes = r.nodes;
+              colours = r.colours;
+              passed = rw length-set r.passed;
+              places = r.places;
+              orders = r.orders;
+              small = r.small;
+              states = r.states;
+              state = moves.next r.state (listed r.graph_in) (at cursors₃) t top_node room done ut uo;
+              falls = falls;
+              closes = shut;
+            };
+            moved = passes t y (view-passes n d f s.states s.cursors s.stack p.height (omega (arith, r.colours, r.nodes)) t y top_node (omega (arith, r.passed, r.nodes)) next known);
+            less = omega (arith, size_states s.states r.number r.states d (at cursors₃) p.height, size_states s.states r.number r.states d (at s.cursors) p.height, moves.next-size r.state (listed r.graph_in) (at cursors₃) t top_node room done ut uo);
+          }
 
-        cycle : at colour y ≡ 1 → cyclic e (below n) ≡ true
-        cycle h = (cyclic_walk e (below n) (sources-below (listed r.graph).from)).1 (t, falling.closed r.state (listed r.graph) y k.some next_node to_y h)
+      cycle : state_at s.states y ≡ Gray → cyclic e (below n) ≡ true
+      cycle h =
+          (cyclic_walk e (below n) (sources-below (listed r.graph_in).from)).1
+          (t, falling.closed r.state (listed r.graph_in) y some next_node to_y (number_gray (r.number y) (sym (r.states y next_node) ∙ h)))
 
-        pub visit_step : {colour'' cursor'' stack'' low'' : List ℕ} {sp'' fin'' : ℕ} {met'' : Bool} → Visited colour cursor stack low sp fin t y met colour'' cursor'' stack'' low'' sp'' fin'' met''
-            → Stepped g l n colour cursor stack sp colour'' cursor'' stack'' low'' order sp'' fin'' met''
-        visit_step {colour''} {cursor''} {stack''} {low''} {sp''} {fin''} {met''} w = go (ℕ_discrete (at colour y) 0) (ℕ_discrete (at colour y) 1)
-          where
-            go : Dec (at colour y ≡ 0) → Dec (at colour y ≡ 1) → Stepped g l n colour cursor stack sp colour'' cursor'' stack'' low'' order sp'' fin'' met''
-            go (yes h) b =
-                let q = w.white h in
-                rw (q.1, q.2, q.3, w.same) (push_step y next_node h (λ p i. let z : p ≡ sp - 1 = omega arith in rw z to_y) (inr (t, next)) q.0)
-            go (no h) (yes b) =
-                let q = w.gray b in
-                rw (q.0, q.1, q.2, q.3, q.4, q.5, w.same) (passed h (λ z. absurd (true≢false z)) (λ z. cycle b))
-            go (no h) (no b) =
-                let q = w.black (omega arith) in
-                let done : 2 ≤ at colour (nb g l t j) = rw is at (let z : 2 ≤ at colour y = omega arith in z) in
-                rw (q.0, q.1, q.2, q.3, q.4, q.5, w.same)
-                (passed h (λ z. falling.falls_next r.state (listed r.graph) (r.falls z) (at cursor') t done ut uo) r.closes)
+      pub visit_step : {s' : DepthFirst N} {p' : Progress} → Visited s p t y s' p' → Stepped graph n s p s' p'
+      visit_step {s'} {p'} w = go (state_at s.states y) refl
+        where
+          go : (q : State) → state_at s.states y ≡ q → Stepped graph n s p s' p'
+          go White h = push_step y next_node h (λ k i. let z : k ≡ p.height - 1 = omega arith in rw z to_y) (inr (t, next)) (w.white h)
+          go Gray h =
+              let q = w.gray h in
+              rw (q.0, q.1) (passed (rw h (apart (λ z. omega arith))) (λ z. absurd (true≢false z)) (λ z. cycle h))
+          go Black h =
+              let q = w.black h in
+              let done : 2 ≤ r.number (f t j) = rw is at (number_black (r.number y) (sym (r.states y next_node) ∙ h)) in
+              rw (q.0, q.1) (passed (rw h (apart (λ z. omega arith))) (λ z. falling.falls_next r.state (listed r.graph_in) (r.falls z) (at cursors₃) t done ut uo) r.closes)

@@ -2,6 +2,7 @@
 pub mod Whites
 pub mod Moves
 pub mod Falling
+pub mod Numbers
 pub mod Layer
 pub mod Rounds
 mod Views

@@ -1,77 +1,91 @@
 -- The searches from one node after the other. Assumes nothing.
-use Prim.Native.Nat.{ℕ, zero, suc, ◌+◌, ◌<◌, ◌≤◌}
+use Prim.Native.Nat.{ℕ, ◌+◌, ◌<◌, ◌≤◌}
 use native.Mathlib.Omega.{arith}
 use mathlib.Core.Path.{◌≡◌, refl, sym, ap, ◌∙◌}
 use mathlib.Core.Bool.{Bool, true, false, true≢false}
 use mathlib.Core.List.{List, ◌++◌}
-use lib.ListN.{get_or, length, replicate, drop}
+use lib.ListN.{get_or, length, replicate, drop, length-replicate}
 use borrow.Author.Count.{below_more}
+use Rattle.std.proofs.lemmas.List.{get_or_append_left, get_or-replicate, length-append, length-drop}
 use Rattle.graphs.specs.Bools.{fails}
 use Rattle.graphs.specs.Lists.{below}
 use Rattle.graphs.specs.Walk.{cyclic}
 use Rattle.graphs.specs.Walks.{sources-below, cyclic_walk}
+use Rattle.graph_neighbours.specs.declared.Neighbours.{Neighbours}
+use Rattle.graph_neighbours.specs.Followed.{followed}
 use Rattle.graph_neighbours.specs.Lists.{deg, nb, edge, listed}
-use Rattle.graph_depth_first.specs.Steps.{at, Ready, Searched, CanWalk, Walked}
+use Rattle.graph_colours.specs.declared.State.TheVariants.{White, Black}
+use Rattle.graph_depth_first.specs.declared.DepthFirst.{DepthFirst}
+use Rattle.graph_depth_first.specs.declared.Progress.{Progress}
+use Rattle.graph_colours.specs.Colours.{colour_of}
+use Rattle.graph_depth_first.specs.Search.{Search}
+use Rattle.graph_depth_first.specs.Steps.{at, state_at, Ready, Searched, CanWalk, Walked}
+use Rattle.graph_depth_first.proofs.Numbers.{black_number}
 use Rattle.graph_depth_first.proofs.Moves as moves
 use Rattle.graph_depth_first.proofs.Falling as falling
 
--- between two searches the nodes below i are known
-pub record Round (g l : List ℕ) (n i : ℕ) (colour cursor stack low order : List ℕ) (fin : ℕ) (met : Bool) : Type 0 where
-  pub ready : Ready g l n colour cursor stack low order 0 fin met
-  pub known : (x : ℕ) → x < i → at colour x ≡ 0 → ⊥
-  pub within : i ≤ n
+-- between two searches no node is gray, and the nodes below i are known
+pub record Round (graph : Neighbours) (n i : ℕ) {N : ℕ} (s : DepthFirst N) (p : Progress) : Type 0 where
+  pub ready : Ready graph n s p
+  pub empty : p.height ≡ 0
+  pub known : (x : ℕ) → x < i → state_at s.states x ≡ White → ⊥
 
--- a cleared slice
-pub cleared : (n : ℕ) (l : List ℕ) {l' : List ℕ} → l' ≡ replicate n 0 ++ drop n l → (x : ℕ) → x < n → at l' x ≡ 0
-cleared n l {l'} q x b = ap (λ (k : List ℕ). get_or k x 0) q ∙ zeros n (drop n l) x b
-  where
-    zeros : (n : ℕ) (r : List ℕ) (x : ℕ) → x < n → get_or (replicate n 0 ++ r) x 0 ≡ 0
-    zeros zero r x b = absurd (omega arith)
-    zeros (suc n) r zero b = refl
-    zeros (suc n) r (suc x) b = zeros n r x (omega arith)
+-- the first n items of a list are v
+pub cleared : {A : Type 0} (n : ℕ) (v : A) (l : List A) {l' : List A} → l' ≡ replicate n v ++ drop n l → (x : ℕ) → x < n → get_or l' x v ≡ v
+cleared n v l q x b = ap (λ k. get_or k x v) q ∙ get_or_append_left (replicate n v) (drop n l) v x (omega (arith, length-replicate n v)) ∙ get_or-replicate n x v v b
 
-pub round_first : {g l : List ℕ} {n : ℕ} {colour cursor stack low order colour' cursor' : List ℕ} → CanWalk g l n colour cursor stack low order → length colour' ≡ length colour → length cursor' ≡ length cursor
-    → ((x : ℕ) → x < n → at colour' x ≡ 0) → ((x : ℕ) → x < n → at cursor' x ≡ 0) → Round g l n 0 colour' cursor' stack low order 0 false
-round_first {g} {l} {n} {stack} {low} {order} {colour'} {cursor'} can a b zc zu =
-    let first = moves.first (edge g l n) n (deg g) (nb g l) (at colour') (at cursor') (at stack) (at low) (at order) zc zu in
-    record {
-      ready = record {
-        graph = can.graph;
-        colours = omega (arith, can.colours);
-        cursors = omega (arith, can.cursors);
-        places = can.places;
-        lows = can.lows;
-        orders = can.orders;
-        small = can.small;
-        state = first;
-        falls = λ h. falling.falls_first first (listed can.graph) zc zu;
-        closes = λ h. absurd (true≢false (sym h));
-      };
-      known = λ x h. absurd (omega arith);
-      within = omega arith;
-    }
+pub cleared_long : {A : Type 0} (n : ℕ) (v : A) (l : List A) {l' : List A} → l' ≡ replicate n v ++ drop n l → {N : ℕ} → length l ≡ N → n ≤ N → length l' ≡ N
+cleared_long n v l q k b = ap length q ∙ length-append (replicate n v) (drop n l) ∙ (omega (arith, length-replicate n v, length-drop n l))
 
-module _ {g l : List ℕ} {n i : ℕ} {colour cursor stack low order : List ℕ} {fin : ℕ} {met : Bool} (r : Round g l n i colour cursor stack low order fin met) where
-  pub round_more : {colour' cursor' stack' low' order' : List ℕ} {fin' : ℕ} {met' : Bool} → i < n → Searched g l n i colour cursor stack colour' cursor' stack' low' order' fin' met'
-      → Round g l n (i + 1) colour' cursor' stack' low' order' fin' met'
-  round_more {colour'} b v = record {
+module _ {graph : Neighbours} {n N : ℕ} {s : DepthFirst N} (can : CanWalk graph.starts.now (followed graph) n N) where
+  pub round_first : length s.states ≡ N → length s.cursors ≡ N → length s.stack ≡ N → length s.order ≡ N → ((x : ℕ) → x < n → state_at s.states x ≡ White) → ((x : ℕ) → x < n → at s.cursors x ≡ 0)
+      → s.met ≡ false → Round graph n 0 s (record { height = 0; finished = 0 })
+  round_first a b k l zs zu clear =
+      let first = moves.first (edge graph.starts.now (followed graph) n) n (deg graph.starts.now) (nb graph.starts.now (followed graph)) (λ x. 0) (at s.cursors) (at s.stack) (λ x. 0) (at s.order) (λ x h. refl) zu in
+      record {
+        ready = record {
+          number = λ x. 0;
+          low = λ x. 0;
+          graph_in = can.graph;
+          nodes = can.nodes;
+          colours = a;
+          passed = b;
+          places = k;
+          orders = l;
+          small = can.small;
+          states = zs;
+          state = first;
+          falls = λ h. falling.falls_first first (listed can.graph) (λ x h. refl) zu;
+          closes = λ h. absurd (true≢false (sym h ∙ clear));
+        };
+        empty = refl;
+        known = λ x h. absurd (omega arith);
+      }
+
+module _ {graph : Neighbours} {n i N : ℕ} {s : DepthFirst N} {p : Progress} (r : Round graph n i s p) where
+  pub round_more : {s' : DepthFirst N} {p' : Progress} → i < n → Searched graph n i s s' p' → Round graph n (i + 1) s' p'
+  round_more {s'} b v = record {
     ready = v.ready;
-    known = below_more (λ x. at colour' x ≡ 0 → ⊥) i (λ x k. v.kept.known x (omega arith) (r.known x k)) v.known;
-    within = omega arith;
+    empty = v.empty;
+    known = below_more (λ x. state_at s'.states x ≡ White → ⊥) i (λ x k. v.kept.known x (omega arith) (r.known x k)) v.known;
   }
 
-  pub round_black : n ≤ i → (x : ℕ) → x < n → 2 ≤ at colour x
-  round_black b = moves.black r.ready.state (λ x k. r.known x (omega arith))
+  module _ (b : n ≤ i) where
+    all : (x : ℕ) → x < n → r.ready.number x ≡ 0 → ⊥
+    all x h z = r.known x (omega arith) (r.ready.states x h ∙ ap colour_of z)
 
-  pub round_done : n ≤ i → Walked (edge g l n) n order met
-  round_done b = record { answer = go met refl; ordered = moves.ordered r.ready.state all }
-    where
-      all : (x : ℕ) → x < n → at colour x ≡ 0 → ⊥
-      all x k = r.known x (omega arith)
+    finished : Search (edge graph.starts.now (followed graph) n) n (deg graph.starts.now) (nb graph.starts.now (followed graph)) r.ready.number (at s.cursors) (at s.stack) r.ready.low (at s.order) 0 p.finished
+    finished = rw r.empty at r.ready.state
 
-      go : (t : Bool) → met ≡ t → t ≡ cyclic (edge g l n) (below n)
-      go true q = sym (r.ready.closes q)
-      go false q = sym (fails _ (λ h.
-          let p = (cyclic_walk (edge g l n) (below n) (sources-below (listed r.ready.graph).from)).0 h in
-          let w = falling.falling r.ready.state (listed r.ready.graph) (r.ready.falls q) (moves.black r.ready.state all) p.1 in
-          omega arith))
+    pub round_black : (x : ℕ) → x < n → state_at s.states x ≡ Black
+    round_black x h = r.ready.states x h ∙ black_number (r.ready.number x) (moves.black finished all x h)
+
+    pub round_done : Walked (edge graph.starts.now (followed graph) n) n s.order s.met
+    round_done = record { answer = go s.met refl; ordered = moves.ordered finished all }
+      where
+        go : (t : Bool) → s.met ≡ t → t ≡ cyclic (edge graph.starts.now (followed graph) n) (below n)
+        go true q = sym (r.ready.closes q)
+        go false q = sym (fails _ (λ h.
+            let k = (cyclic_walk (edge graph.starts.now (followed graph) n) (below n) (sources-below (listed r.ready.graph_in).from)).0 h in
+            let w = falling.falling finished (listed r.ready.graph_in) (r.ready.falls q) (moves.black finished all) k.1 in
+            omega arith))

@@ -1,104 +1,109 @@
--- What the functions of the search ask and show. Assumes nothing.
+-- What the methods of the search ask and show. Assumes nothing.
 use Rattle.std.specs.Prelude.{ℕ, ◌+◌, ◌-◌, ◌^◌, ◌<◌, ◌≤◌, ◌≡◌, Bool, true, false, List, get_or, length, set}
 use Rattle.graphs.specs.Lists.{below}
 use Rattle.graphs.specs.Walk.{cyclic}
+use Rattle.graph_neighbours.specs.declared.Neighbours.{Neighbours}
+use Rattle.graph_neighbours.specs.Followed.{followed}
 use Rattle.graph_neighbours.specs.Lists.{deg, nb, edge, Graph}
+use Rattle.graph_colours.specs.declared.State.{State}
+use Rattle.graph_colours.specs.declared.State.TheVariants.{White, Gray, Black}
+use Rattle.graph_colours.specs.States.{code}
+use Rattle.graph_colours.specs.Colours.{colour_of, view, Step, Run}
+use Rattle.graph_depth_first.specs.declared.DepthFirst.{DepthFirst}
+use Rattle.graph_depth_first.specs.declared.Progress.{Progress}
 use Rattle.graph_depth_first.specs.Order.{Ordered}
-use Rattle.graph_colours.specs.Colours.{view, Step, Run}
 use Rattle.graph_depth_first.specs.Search.{Search, Falls, size}
 
 abbrev pub at : List ℕ → ℕ → ℕ
 at l x = get_or l x 0
 
-pub record CanDiscover (colour stack low : List ℕ) (sp y fin : ℕ) : Type 0 where
-  pub cell : y < length colour
-  pub white : get_or colour y 0 ≡ 0
-  pub room : sp < length stack
-  pub mark : y < length low
-  pub few : fin < 2 ^ 31
+abbrev pub state_at : List State → ℕ → State
+state_at l x = get_or l x White
+
+pub record CanDiscover {N : ℕ} (s : DepthFirst N) (p : Progress) (y : ℕ) : Type 0 where
+  pub cell : y < N
+  pub white : state_at s.states y ≡ White
+  pub room : p.height < N
 
 -- y turns gray and goes on the stack
-pub record Discovered (colour stack low : List ℕ) (sp y fin : ℕ) (colour' stack' low' : List ℕ) : Type 0 where
-  pub turned : colour' ≡ set colour y 1
-  pub pushed : stack' ≡ set stack sp y
-  pub noted : low' ≡ set low y fin
+pub record Discovered {N : ℕ} (s : DepthFirst N) (p : Progress) (y : ℕ) (s' : DepthFirst N) (p' : Progress) : Type 0 where
+  pub turned : s' ≡ record { states = set s.states y Gray; cursors = s.cursors; stack = set s.stack p.height y; order = s.order; met = s.met }
+  pub after : p' ≡ record { height = p.height + 1; finished = p.finished }
 
-pub record CanFinish (colour order : List ℕ) (t fin : ℕ) : Type 0 where
-  pub cell : t < length colour
-  pub gray : get_or colour t 0 ≡ 1
-  pub room : fin < length order
-  pub few : fin < 2 ^ 31
-  pub small : t < 2 ^ 31
+pub record CanFinish {N : ℕ} (s : DepthFirst N) (p : Progress) (t : ℕ) : Type 0 where
+  pub cell : t < N
+  pub gray : state_at s.states t ≡ Gray
+  pub some : 0 < p.height
+  pub room : p.finished < N
 
 -- t turns black
-pub record Finished (colour order : List ℕ) (t fin : ℕ) (colour' order' : List ℕ) : Type 0 where
-  pub turned : colour' ≡ set colour t (fin + 2)
-  pub listed : order' ≡ set order fin t
+pub record Finished {N : ℕ} (s : DepthFirst N) (p : Progress) (t : ℕ) (s' : DepthFirst N) (p' : Progress) : Type 0 where
+  pub turned : s' ≡ record { states = set s.states t Black; cursors = s.cursors; stack = s.stack; order = set s.order p.finished t; met = s.met }
+  pub after : p' ≡ record { height = p.height - 1; finished = p.finished + 1 }
 
-pub record CanVisit (colour cursor stack low : List ℕ) (sp fin t y : ℕ) : Type 0 where
-  pub cell : y < length colour
-  pub next : t < length cursor
-  pub short : get_or cursor t 0 < 2 ^ 31
-  pub room : get_or colour y 0 ≡ 0 → sp < length stack
-  pub mark : y < length low
-  pub few : fin < 2 ^ 31
+pub record CanVisit {N : ℕ} (s : DepthFirst N) (p : Progress) (t y : ℕ) : Type 0 where
+  pub cell : y < N
+  pub next : t < N
+  pub short : at s.cursors t < 2 ^ 31
+  pub room : state_at s.states y ≡ White → p.height < N
 
--- t's next neighbour y, by its colour
-pub record Visited (colour cursor stack low : List ℕ) (sp fin t y : ℕ) (met : Bool) (colour' cursor' stack' low' : List ℕ) (sp' fin' : ℕ) (met' : Bool) : Type 0 where
-  -- white: it is discovered
-  pub white : get_or colour y 0 ≡ 0 → Discovered colour stack low sp y fin colour' stack' low' × (cursor' ≡ cursor) × (sp' ≡ sp + 1) × (met' ≡ met)
-  -- gray: a closed walk is met
-  pub gray : get_or colour y 0 ≡ 1 → (colour' ≡ colour) × (stack' ≡ stack) × (low' ≡ low) × (cursor' ≡ set cursor t (get_or cursor t 0 + 1)) × (sp' ≡ sp) × (met' ≡ true)
-  -- black: it is passed by
-  pub black : 2 ≤ get_or colour y 0 → (colour' ≡ colour) × (stack' ≡ stack) × (low' ≡ low) × (cursor' ≡ set cursor t (get_or cursor t 0 + 1)) × (sp' ≡ sp) × (met' ≡ met)
-  pub same : fin' ≡ fin
+-- t's next neighbour y, by its state
+pub record Visited {N : ℕ} (s : DepthFirst N) (p : Progress) (t y : ℕ) (s' : DepthFirst N) (p' : Progress) : Type 0 where
+  -- it is discovered
+  pub white : state_at s.states y ≡ White → Discovered s p y s' p'
+  -- a closed walk is met
+  pub gray : state_at s.states y ≡ Gray → (s' ≡ record { states = s.states; cursors = set s.cursors t (at s.cursors t + 1); stack = s.stack; order = s.order; met = true }) × (p' ≡ p)
+  -- it is passed by
+  pub black : state_at s.states y ≡ Black → (s' ≡ record { states = s.states; cursors = set s.cursors t (at s.cursors t + 1); stack = s.stack; order = s.order; met = s.met }) × (p' ≡ p)
 
--- the slices are long enough, and hold the state of a search; `met` tells whether a gray neighbour was met
-pub record Ready (starts list : List ℕ) (n : ℕ) (colour cursor stack low order : List ℕ) (sp fin : ℕ) (met : Bool) : Type 0 where
-  pub graph : Graph starts list n
-  pub colours : n ≤ length colour
-  pub cursors : n ≤ length cursor
-  pub places : n ≤ length stack
-  pub lows : n ≤ length low
-  pub orders : n ≤ length order
+-- The lists hold the state of a search over n nodes; `met` tells whether a gray neighbour was met. A node's number is 0 while it is white, 1 while it is
+-- gray, and k + 2 when it is black and was the k-th to finish; its low is how many nodes had finished when it was discovered.
+pub record Ready (graph : Neighbours) (n : ℕ) {N : ℕ} (s : DepthFirst N) (p : Progress) : Type 0 where
+  pub number : ℕ → ℕ
+  pub low : ℕ → ℕ
+  pub graph_in : Graph graph.starts.now (followed graph) n
+  pub nodes : n ≤ N
+  pub colours : length s.states ≡ N
+  pub passed : length s.cursors ≡ N
+  pub places : length s.stack ≡ N
+  pub orders : length s.order ≡ N
   pub small : n < 2 ^ 31
-  pub state : Search (edge starts list n) n (deg starts) (nb starts list) (at colour) (at cursor) (at stack) (at low) (at order) sp fin
-  pub falls : met ≡ false → Falls (edge starts list n) n (nb starts list) (at colour) (at cursor)
-  pub closes : met ≡ true → cyclic (edge starts list n) (below n) ≡ true
-
--- the stack is not empty: the node on top of it is in range, and so is its cursor
-pub record Top (starts : List ℕ) (n : ℕ) (colour cursor stack : List ℕ) (sp fin : ℕ) : Type 0 where
-  pub some : 0 < sp
-  pub gray : at colour (at stack (sp - 1)) ≡ 1
-  pub node : at stack (sp - 1) < n
-  pub reach : at cursor (at stack (sp - 1)) ≤ deg starts (at stack (sp - 1))
-  pub short : at cursor (at stack (sp - 1)) < 2 ^ 31
-  pub full : sp + fin ≤ n
+  pub states : (x : ℕ) → x < n → state_at s.states x ≡ colour_of (number x)
+  pub state : Search (edge graph.starts.now (followed graph) n) n (deg graph.starts.now) (nb graph.starts.now (followed graph)) number (at s.cursors) (at s.stack) low (at s.order) p.height p.finished
+  pub falls : s.met ≡ false → Falls (edge graph.starts.now (followed graph) n) n (nb graph.starts.now (followed graph)) number (at s.cursors)
+  pub closes : s.met ≡ true → cyclic (edge graph.starts.now (followed graph) n) (below n) ≡ true
 
 -- a node that was discovered is not forgotten
-pub record Kept (n : ℕ) (colour colour' : List ℕ) : Type 0 where
-  pub known : (x : ℕ) → x < n → (at colour x ≡ 0 → ⊥) → at colour' x ≡ 0 → ⊥
+pub record Kept (n : ℕ) (states states' : List State) : Type 0 where
+  pub known : (x : ℕ) → x < n → (state_at states x ≡ White → ⊥) → state_at states' x ≡ White → ⊥
 
-pub record Stepped (starts list : List ℕ) (n : ℕ) (colour cursor stack : List ℕ) (sp : ℕ) (colour' cursor' stack' low' order' : List ℕ) (sp' fin' : ℕ) (met' : Bool) : Type 0 where
-  pub kept : Kept n colour colour'
-  pub ready : Ready starts list n colour' cursor' stack' low' order' sp' fin' met'
-  pub moved : Step n (deg starts) (nb starts list) (view colour cursor stack sp) (view colour' cursor' stack' sp')
-  pub less : size n (deg starts) (at colour') (at cursor') sp' < size n (deg starts) (at colour) (at cursor) sp
+-- a number that each step makes less
+abbrev pub left : Neighbours → ℕ → {N : ℕ} → DepthFirst N → Progress → ℕ
+left graph n s p = size n (deg graph.starts.now) (λ x. code (state_at s.states x)) (at s.cursors) p.height
+
+pub record Stepped (graph : Neighbours) (n : ℕ) {N : ℕ} (s : DepthFirst N) (p : Progress) (s' : DepthFirst N) (p' : Progress) : Type 0 where
+  pub kept : Kept n s.states s'.states
+  pub ready : Ready graph n s' p'
+  pub moved : Step n (deg graph.starts.now) (nb graph.starts.now (followed graph)) (view s.states s.cursors s.stack p.height) (view s'.states s'.cursors s'.stack p'.height)
+  pub less : left graph n s' p' < left graph n s p
+
+-- no node is gray, and root is a node
+pub record CanSearch (graph : Neighbours) (n root : ℕ) {N : ℕ} (s : DepthFirst N) (p : Progress) : Type 0 where
+  pub ready : Ready graph n s p
+  pub empty : p.height ≡ 0
+  pub node : root < n
 
 -- the whole search from one node
-pub record Searched (starts list : List ℕ) (n root : ℕ) (colour cursor stack colour' cursor' stack' low' order' : List ℕ) (fin' : ℕ) (met' : Bool) : Type 0 where
-  pub kept : Kept n colour colour'
-  pub known : at colour' root ≡ 0 → ⊥
-  pub ran : Run n (deg starts) (nb starts list) (view colour cursor stack 0) (view colour' cursor' stack' 0)
-  pub ready : Ready starts list n colour' cursor' stack' low' order' 0 fin' met'
+pub record Searched (graph : Neighbours) (n root : ℕ) {N : ℕ} (s s' : DepthFirst N) (p' : Progress) : Type 0 where
+  pub kept : Kept n s.states s'.states
+  pub known : state_at s'.states root ≡ White → ⊥
+  pub ran : Run n (deg graph.starts.now) (nb graph.starts.now (followed graph)) (view s.states s.cursors s.stack 0) (view s'.states s'.cursors s'.stack 0)
+  pub ready : Ready graph n s' p'
+  pub empty : p'.height ≡ 0
 
-pub record CanWalk (starts list : List ℕ) (n : ℕ) (colour cursor stack low order : List ℕ) : Type 0 where
+pub record CanWalk (starts list : List ℕ) (n N : ℕ) : Type 0 where
   pub graph : Graph starts list n
-  pub colours : n ≤ length colour
-  pub cursors : n ≤ length cursor
-  pub places : n ≤ length stack
-  pub lows : n ≤ length low
-  pub orders : n ≤ length order
+  pub nodes : n ≤ N
   pub small : n < 2 ^ 31
 
 -- the answer tells whether there is a closed walk, and `order` is the post-order

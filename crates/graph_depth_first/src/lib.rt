@@ -1,249 +1,150 @@
-// Depth-first search with a stack of its own. A node is white (0) till it is discovered, gray (1) while its edges are gone through, and
-// black (2 and up, by the order of the finishing) from then on.
+// Depth-first search with a stack of its own. A node is white till it is discovered, gray while its edges are gone through, and black from then on.
 #![tactic(auto)]
 
-ghost use Rattle.std.specs.Prelude.{◌≡◌, ℕ, ◌<◌, ◌^◌, get_or};
+ghost use Rattle.std.specs.Prelude.{◌≡◌, ℕ, ◌<◌};
 ghost use Rattle.graphs.specs.Lists.{below};
 ghost use Rattle.graphs.specs.Walk.{cyclic};
-ghost use Rattle.graph_neighbours.specs.Direction.{along};
+ghost use Rattle.graph_neighbours.specs.Followed.{followed};
 ghost use Rattle.graph_neighbours.specs.Lists.{deg, nb, edge};
-ghost use Rattle.graph_colours.specs.Colours.{view, Ran};
-ghost use Rattle.graph_depth_first.specs.Steps.{CanDiscover, Discovered, CanFinish, Finished, CanVisit, Visited, Ready, Top, Stepped, Searched, CanWalk, Walked};
+ghost use Rattle.graph_colours.specs.Colours.{view, Starts, Ran};
+ghost use Rattle.graph_depth_first.specs.Steps.{CanDiscover, Discovered, CanFinish, Finished, CanVisit, Visited, Ready, Stepped, CanSearch, Searched, CanWalk, Walked};
 
-// Where a search stands: the stack's height, how many nodes have finished, and whether a gray neighbour was met.
+use graph_colours::State;
+use graph_neighbours::Neighbours;
+
+// How far a search is: the stack's height, and how many nodes have finished.
 #[derive(Clone, Copy)]
-struct At {
-    sp: usize,
-    fin: usize,
-    met: bool,
+struct Progress {
+    height: usize,
+    finished: usize,
 }
 
-// Node y turns gray, after fin nodes have finished, and goes on the stack.
-fn discover(colour: &mut [u32], stack: &mut [u32], low: &mut [u32], sp: usize, y: u32, fin: usize)
-    requires { CanDiscover colour.old stack.old low.old sp y fin }
-    ensures { Discovered colour.old stack.old low.old sp y fin colour.new stack.new low.new }
-{
-    let i = y as usize;
-    let s = graph_colours::state_of(colour[i]);
-    colour[i] = graph_colours::number_of(graph_colours::next_state(s), fin);
-    stack[sp] = y;
-    low[i] = fin as u32;
+// A search over up to N nodes: each node's state, how many of its edges are gone through, the stack of the gray nodes, the nodes in the order in which they
+// finished, and whether a gray neighbour was met.
+#[derive(Clone, Copy)]
+pub struct DepthFirst<const N: usize> {
+    pub states: [State; N],
+    pub cursors: [u32; N],
+    pub stack: [u32; N],
+    pub order: [u32; N],
+    pub met: bool,
 }
 
-// Node t turns black, the fin-th to finish.
-fn finish(colour: &mut [u32], order: &mut [u32], t: usize, fin: usize)
-    requires { CanFinish colour.old order.old t fin }
-    ensures { Finished colour.old order.old t fin colour.new order.new }
-{
-    let s = graph_colours::state_of(colour[t]);
-    colour[t] = graph_colours::number_of(graph_colours::next_state(s), fin);
-    order[fin] = t as u32;
-}
+impl<const N: usize> DepthFirst<N> {
+    // Every node is white, none of its edges gone through.
+    pub fn new() -> DepthFirst<N>
+        ensures { Starts N (view result.states result.cursors result.stack 0) }
+    {
+        DepthFirst {
+            states: [State::White; N],
+            cursors: [0; N],
+            stack: [0; N],
+            order: [0; N],
+            met: false,
+        }
+    }
 
-// The next neighbour y of t, by its colour.
-fn visit(
-    colour: &mut [u32],
-    cursor: &mut [u32],
-    stack: &mut [u32],
-    low: &mut [u32],
-    sp: usize,
-    fin: usize,
-    t: usize,
-    y: u32,
-    met: bool,
-) -> At
-    requires { CanVisit colour.old cursor.old stack.old low.old sp fin t y }
-    ensures { Visited colour.old cursor.old stack.old low.old sp fin t y met colour.new cursor.new stack.new low.new result.sp result.fin result.met }
-{
-    let c = colour[y as usize];
-    // white: it is discovered
-    if c == 0 {
-        discover(colour, stack, low, sp, y, fin);
-        return At {
-            sp: sp + 1,
-            fin: fin,
-            met: met,
+    // The white node y turns gray and goes on the stack.
+    fn discover(&mut self, progress: Progress, y: u32) -> Progress
+        requires { CanDiscover self.old progress y }
+        ensures { Discovered self.old progress y self.new result }
+    {
+        let i = y as usize;
+        self.states[i] = self.states[i].next();
+        self.stack[progress.height] = y;
+        Progress {
+            height: progress.height + 1,
+            finished: progress.finished,
+        }
+    }
+
+    // The gray node t, on top of the stack, turns black.
+    fn finish(&mut self, progress: Progress, t: u32) -> Progress
+        requires { CanFinish self.old progress t }
+        ensures { Finished self.old progress t self.new result }
+    {
+        let i = t as usize;
+        self.states[i] = self.states[i].next();
+        self.order[progress.finished] = t;
+        Progress {
+            height: progress.height - 1,
+            finished: progress.finished + 1,
+        }
+    }
+
+    // The next neighbour y of t, by its state.
+    fn visit(&mut self, progress: Progress, t: u32, y: u32) -> Progress
+        requires { CanVisit self.old progress t y }
+        ensures { Visited self.old progress t y self.new result }
+    {
+        match self.states[y as usize] {
+            State::White => self.discover(progress, y),
+            // it is on the stack, and a closed walk is met
+            State::Gray => {
+                self.cursors[t as usize] += 1;
+                self.met = true;
+                progress
+            }
+            // it is passed by
+            State::Black => {
+                self.cursors[t as usize] += 1;
+                progress
+            }
+        }
+    }
+
+    // One step of the node on top of the stack.
+    fn step(&mut self, graph: &Neighbours, n: usize, progress: Progress) -> Progress
+        requires ready { Ready graph.now n self.old progress }
+        requires some { 0 < progress.height }
+        ensures { Stepped graph.now n self.old progress self.new result }
+    {
+        let t = self.stack[progress.height - 1];
+        match graph.of(t as usize).get(self.cursors[t as usize] as usize) {
+            Some(&y) => self.visit(progress, t, y),
+            None => self.finish(progress, t),
+        }
+    }
+
+    // The search from one node, if it is white.
+    fn search(&mut self, graph: &Neighbours, n: usize, root: usize, from: Progress) -> Progress
+        requires { CanSearch graph.now n root self.old from }
+        ensures { Searched graph.now n root self.old self.new result }
+    {
+        if self.states[root] != State::White {
+            return from;
+        }
+        let mut progress = self.discover(from, root as u32);
+        while 0 < progress.height {
+            progress = self.step(graph, n, progress);
+        }
+        progress
+    }
+
+    // The first walk: puts the nodes into post-order, and tells whether a gray neighbour was met.
+    pub fn first_walk(&mut self, graph: &Neighbours, n: usize) -> bool
+        requires { CanWalk graph.now.starts.now (followed graph.now) n N }
+        ensures walked { Walked (edge graph.now.starts.now (followed graph.now) n) n self.new.order result }
+        ensures ran { Ran n (deg graph.now.starts.now) (nb graph.now.starts.now (followed graph.now)) (view self.new.states self.new.cursors self.new.stack 0) }
+    {
+        self.states[..n].fill(State::White);
+        self.cursors[..n].fill(0);
+        self.met = false;
+        let mut progress = Progress {
+            height: 0,
+            finished: 0,
         };
+        for root in 0..n {
+            progress = self.search(graph, n, root, progress);
+        }
+        self.met
     }
-    // gray: it is on the stack, and a closed walk is met
-    if c == 1 {
-        cursor[t] = cursor[t] + 1;
-        return At {
-            sp: sp,
-            fin: fin,
-            met: true,
-        };
-    }
-    // black: it is passed by
-    cursor[t] = cursor[t] + 1;
-    At {
-        sp: sp,
-        fin: fin,
-        met: met,
-    }
-}
 
-// One step of the node on top of the stack.
-fn step<'a>(
-    dir: graph_neighbours::Direction,
-    starts: &[u32],
-    dependencies: &'a [u32],
-    dependents: &'a [u32],
-    n: usize,
-    colour: &mut [u32],
-    cursor: &mut [u32],
-    stack: &mut [u32],
-    low: &mut [u32],
-    order: &mut [u32],
-    sp: usize,
-    fin: usize,
-    met: bool,
-) -> At
-    requires { Ready starts.now (along dir dependencies.now dependents.now) n colour.old cursor.old stack.old low.old order.old sp fin met × Top starts.now n colour.old cursor.old stack.old sp fin }
-    ensures { Stepped starts.now (along dir dependencies.now dependents.now) n colour.old cursor.old stack.old sp colour.new cursor.new stack.new low.new order.new result.sp result.fin result.met }
-{
-    let t = stack[sp - 1] as usize;
-    let j = cursor[t] as usize;
-    if j == graph_neighbours::degree(starts, t) {
-        finish(colour, order, t, fin);
-        return At {
-            sp: sp - 1,
-            fin: fin + 1,
-            met: met,
-        };
+    // Whether the graph has a cycle.
+    pub fn has_cycle(&mut self, graph: &Neighbours, n: usize) -> bool
+        requires { CanWalk graph.now.starts.now (followed graph.now) n N }
+        ensures { result ≡ cyclic (edge graph.now.starts.now (followed graph.now) n) (below n) }
+    {
+        self.first_walk(graph, n)
     }
-    let y = graph_neighbours::neighbour(dir, starts, dependencies, dependents, t, j);
-    visit(colour, cursor, stack, low, sp, fin, t, y, met)
-}
-
-// The search from one node, if it is white.
-fn search<'a>(
-    dir: graph_neighbours::Direction,
-    starts: &[u32],
-    dependencies: &'a [u32],
-    dependents: &'a [u32],
-    n: usize,
-    colour: &mut [u32],
-    cursor: &mut [u32],
-    stack: &mut [u32],
-    low: &mut [u32],
-    order: &mut [u32],
-    root: usize,
-    from: usize,
-    before: bool,
-) -> At
-    requires { Ready starts.now (along dir dependencies.now dependents.now) n colour.old cursor.old stack.old low.old order.old 0 from before × (root < n) }
-    ensures { Searched starts.now (along dir dependencies.now dependents.now) n root colour.old cursor.old stack.old colour.new cursor.new stack.new low.new order.new result.fin result.met }
-{
-    if colour[root] != 0 {
-        return At {
-            sp: 0,
-            fin: from,
-            met: before,
-        };
-    }
-    discover(colour, stack, low, 0, root as u32, from);
-    let mut sp = 1;
-    let mut fin = from;
-    let mut met = before;
-    while 0 < sp {
-        let a = step(
-            dir,
-            starts,
-            dependencies,
-            dependents,
-            n,
-            colour,
-            cursor,
-            stack,
-            low,
-            order,
-            sp,
-            fin,
-            met,
-        );
-        sp = a.sp;
-        fin = a.fin;
-        met = a.met;
-    }
-    At {
-        sp: 0,
-        fin: fin,
-        met: met,
-    }
-}
-
-// The first walk: puts the nodes into post-order, and tells whether a gray neighbour was met.
-pub fn first_walk<'a>(
-    dir: graph_neighbours::Direction,
-    starts: &[u32],
-    dependencies: &'a [u32],
-    dependents: &'a [u32],
-    n: usize,
-    colour: &mut [u32],
-    cursor: &mut [u32],
-    stack: &mut [u32],
-    low: &mut [u32],
-    order: &mut [u32],
-) -> bool
-    requires { CanWalk starts.now (along dir dependencies.now dependents.now) n colour.old cursor.old stack.old low.old order.old }
-    ensures walked { Walked (edge starts.now (along dir dependencies.now dependents.now) n) n order.new result }
-    ensures ran { Ran n (deg starts.now) (nb starts.now (along dir dependencies.now dependents.now)) (view colour.new cursor.new stack.new 0) }
-{
-    graph_neighbours::clear(colour, n);
-    graph_neighbours::clear(cursor, n);
-    let mut fin = 0;
-    let mut met = false;
-    let mut i = 0;
-    while i < n {
-        let a = search(
-            dir,
-            starts,
-            dependencies,
-            dependents,
-            n,
-            colour,
-            cursor,
-            stack,
-            low,
-            order,
-            i,
-            fin,
-            met,
-        );
-        fin = a.fin;
-        met = a.met;
-        i += 1;
-    }
-    met
-}
-
-// Whether the graph has a cycle.
-pub fn has_cycle<'a>(
-    dir: graph_neighbours::Direction,
-    starts: &[u32],
-    dependencies: &'a [u32],
-    dependents: &'a [u32],
-    n: usize,
-    colour: &mut [u32],
-    cursor: &mut [u32],
-    stack: &mut [u32],
-    low: &mut [u32],
-    order: &mut [u32],
-) -> bool
-    requires { CanWalk starts.now (along dir dependencies.now dependents.now) n colour.old cursor.old stack.old low.old order.old }
-    ensures { result ≡ cyclic (edge starts.now (along dir dependencies.now dependents.now) n) (below n) }
-{
-    first_walk(
-        dir,
-        starts,
-        dependencies,
-        dependents,
-        n,
-        colour,
-        cursor,
-        stack,
-        low,
-        order,
-    )
 }

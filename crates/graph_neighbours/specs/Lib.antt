@@ -3,5 +3,6 @@ pub mod Groups
 pub mod Steps
 pub mod Parts
 pub mod Direction
+pub mod Followed
 pub mod Lists
 pub mod Grouped

@@ -4,7 +4,7 @@ use native.Mathlib.Omega.{arith}
 use native.Mathlib.Decide.{dec_lt}
 use mathlib.Core.Path.{◌≡◌, refl, sym, ap, ◌∙◌, fun_ext}
 use mathlib.Core.Bool.{Bool, false, cond}
-use mathlib.Core.List.{List, [], ◌∷◌, ◌++◌}
+use mathlib.Core.List.{List, ◌++◌}
 use lib.Dec.{ltb}
 use lib.ListN.{get_or, length, replicate, drop, length-replicate}
 use lib.Seq.{get_or-drop, get_or-append-add}
@@ -20,7 +20,7 @@ use Rattle.graph_neighbours.specs.Lists.{edge}
 use Rattle.graph_neighbours.specs.Steps.{Grouped}
 use Rattle.graph_components.specs.Components.{turn}
 use Rattle.graph_components.specs.Only.{flagged, CanFlagOnly}
-use Rattle.graph_slots.specs.Asked.{Slots, ListRoom, SlotLists, CanFlagFrom}
+use Rattle.graph_slots.specs.Asked.{Slots, ListRoom, CanFlagFrom}
 use Rattle.graph_slots.specs.Listing.{slot-lists}
 
 turned_slots : {s t : List ℕ} {m n : ℕ} → Slots s t m n → Slots t s m n

@@ -19,14 +19,6 @@ pub record ListRoom (m n : ℕ) (heads list : List ℕ) : Type 0 where
   pub room : m ≤ length list
   pub short : length list < 2 ^ 31
 
--- room for a depth-first search
-pub record Scratch (n : ℕ) (colour cursor stack low order : List ℕ) : Type 0 where
-  pub colours : n ≤ length colour
-  pub cursors : n ≤ length cursor
-  pub places : n ≤ length stack
-  pub lows : n ≤ length low
-  pub orders : n ≤ length order
-
 -- the neighbour lists are those of the slots
 pub record SlotLists (s t : List ℕ) (m n : ℕ) (heads list : List ℕ) : Type 0 where
   pub slots : Slots s t m n

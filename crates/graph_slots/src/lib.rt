@@ -2,16 +2,18 @@
 // grouped by source: `heads` has where each node's part of `list` starts.
 #![tactic(auto)]
 
-ghost use Rattle.std.specs.Prelude.{◌≡◌, ◌≤◌};
+ghost use Rattle.std.specs.Prelude.{◌≡◌, ℕ, ◌≤◌};
 ghost use Rattle.graphs.specs.Lists.{below};
 ghost use Rattle.graphs.specs.Slots.{slot_edge};
 ghost use Rattle.graphs.specs.Walk.{cyclic};
+ghost use Rattle.graph_neighbours.specs.Followed.{followed};
 ghost use Rattle.graph_neighbours.specs.Lists.{edge, Graph};
 ghost use Rattle.graph_walks.specs.Marks.{marked};
 ghost use Rattle.graph_components.specs.Only.{flagged};
-ghost use Rattle.graph_slots.specs.Asked.{CanMark, Scratch, CanFlagFrom, CanFlagSlots};
+ghost use Rattle.graph_slots.specs.Asked.{CanMark, CanFlagFrom, CanFlagSlots};
 
-use graph_neighbours::Direction;
+use graph_depth_first::DepthFirst;
+use graph_neighbours::{Direction, Neighbours, Slots};
 
 // So many nodes at most. A graph of up to SMALL_NODES is walked with short lists, which are sooner cleared.
 const NODES: usize = 1024;
@@ -23,52 +25,12 @@ const HEADS: usize = 1025;
 
 const SLOTS: usize = 8448;
 
-// Whether there is a cycle, for up to SMALL_NODES nodes.
-fn has_cycle_small(heads: &[u32], list: &[u32], n: usize) -> bool
-    requires { Graph heads.now list.now n × (n ≤ 128) }
-    ensures { result ≡ cyclic (edge heads.now list.now n) (below n) }
+// Whether there is a cycle, with lists for N nodes.
+fn has_cycle_within<const N: usize>(graph: &Neighbours, n: usize) -> bool
+    requires { Graph graph.now.starts.now (followed graph.now) n × (n ≤ N) × (N ≤ 1024) }
+    ensures { result ≡ cyclic (edge graph.now.starts.now (followed graph.now) n) (below n) }
 {
-    let mut colour = [0u32; SMALL_NODES];
-    let mut cursor = [0u32; SMALL_NODES];
-    let mut stack = [0u32; SMALL_NODES];
-    let mut low = [0u32; SMALL_NODES];
-    let mut order = [0u32; SMALL_NODES];
-    graph_depth_first::has_cycle(
-        Direction::Dependencies,
-        heads,
-        list,
-        list,
-        n,
-        &mut colour,
-        &mut cursor,
-        &mut stack,
-        &mut low,
-        &mut order,
-    )
-}
-
-// Whether there is a cycle, for up to NODES nodes.
-fn has_cycle_large(heads: &[u32], list: &[u32], n: usize) -> bool
-    requires { Graph heads.now list.now n × (n ≤ 1024) }
-    ensures { result ≡ cyclic (edge heads.now list.now n) (below n) }
-{
-    let mut colour = [0u32; NODES];
-    let mut cursor = [0u32; NODES];
-    let mut stack = [0u32; NODES];
-    let mut low = [0u32; NODES];
-    let mut order = [0u32; NODES];
-    graph_depth_first::has_cycle(
-        Direction::Dependencies,
-        heads,
-        list,
-        list,
-        n,
-        &mut colour,
-        &mut cursor,
-        &mut stack,
-        &mut low,
-        &mut order,
-    )
+    DepthFirst::<N>::new().has_cycle(graph, n)
 }
 
 // Whether there is a cycle.
@@ -76,10 +38,17 @@ pub fn has_cycle(heads: &[u32], list: &[u32], n: usize) -> bool
     requires { Graph heads.now list.now n × (n ≤ 1024) }
     ensures { result ≡ cyclic (edge heads.now list.now n) (below n) }
 {
+    let graph = Neighbours {
+        direction: Direction::Dependencies,
+        starts: heads,
+        dependencies: list,
+        dependents: list,
+    };
     if n <= SMALL_NODES {
-        return has_cycle_small(heads, list, n);
+        has_cycle_within::<SMALL_NODES>(&graph, n)
+    } else {
+        has_cycle_within::<NODES>(&graph, n)
     }
-    has_cycle_large(heads, list, n)
 }
 
 // Marks the nodes that `root` reaches in one step or more.
@@ -87,170 +56,95 @@ pub fn reach(heads: &[u32], list: &[u32], n: usize, mark: u32, root: usize, mark
     requires { CanMark heads.now list.now n mark root marks.old }
     ensures { marks.new ≡ marked (edge heads.now list.now n) n mark root marks.old }
 {
+    let graph = Neighbours {
+        direction: Direction::Dependencies,
+        starts: heads,
+        dependencies: list,
+        dependents: list,
+    };
     let mut stack = [0u32; NODES];
-    graph_walks::reach(
-        Direction::Dependencies,
-        heads,
-        list,
-        list,
-        n,
-        mark,
-        root,
-        marks,
-        &mut stack,
-    );
+    graph_walks::reach(&graph, n, mark, root, marks, &mut stack);
 }
 
 // Flags the nodes of the only component with a closed walk. `order` is the post-order of a first walk, `label` and `stack` are scratch.
 fn flag_component(
-    sources: &[u32],
-    targets: &[u32],
-    m: usize,
+    slots: &Slots,
     n: usize,
-    heads: &[u32],
-    list: &[u32],
+    graph: &Neighbours,
     order: &[u32],
     label: &mut [u32],
     stack: &mut [u32],
     flags: &mut [u32],
 )
-    requires { CanFlagFrom sources.now targets.now m n heads.now list.now order.now label.old stack.old flags.old }
-    ensures { flags.new ≡ flagged (slot_edge sources.now targets.now m) n flags.old }
+    requires { CanFlagFrom slots.now.sources.now slots.now.targets.now slots.now.count n graph.now.starts.now (followed graph.now) order.now label.old stack.old flags.old }
+    ensures { flags.new ≡ flagged (slot_edge slots.now.sources.now slots.now.targets.now slots.now.count) n flags.old }
 {
-    let mut turned = [0u32; HEADS];
-    let mut back = [0u32; SLOTS];
-    graph_neighbours::group(targets, sources, m, n, &mut turned, &mut back);
-    graph_components::only_cyclic_component(
-        heads, list, &turned, &back, n, order, label, stack, flags,
-    );
+    let turned = Slots {
+        sources: slots.targets,
+        targets: slots.sources,
+        count: slots.count,
+    };
+    let mut starts = [0u32; HEADS];
+    let mut list = [0u32; SLOTS];
+    graph_neighbours::group(&turned, n, &mut starts, &mut list);
+    let back = Neighbours {
+        direction: Direction::Dependents,
+        starts: &starts,
+        dependencies: &list,
+        dependents: &list,
+    };
+    graph_components::only_cyclic_component(graph, &back, n, order, label, stack, flags);
 }
 
-// One search tells whether there is a cycle, and puts the nodes into the order in which the component is found.
-fn search(
-    sources: &[u32],
-    targets: &[u32],
-    m: usize,
+// One search tells whether there is a cycle, and puts the nodes into the order in which the component is found; with lists for N nodes.
+fn search_within<const N: usize>(
+    slots: &Slots,
     n: usize,
-    heads: &[u32],
-    list: &[u32],
-    colour: &mut [u32],
-    cursor: &mut [u32],
-    stack: &mut [u32],
-    low: &mut [u32],
-    order: &mut [u32],
+    graph: &Neighbours,
     flags: &mut [u32],
 ) -> bool
-    requires { CanFlagSlots sources.now targets.now m n heads.now list.now flags.old × Scratch n colour.old cursor.old stack.old low.old order.old }
-    ensures value { result ≡ cyclic (slot_edge sources.now targets.now m) (below n) }
-    ensures flags_after { flags.new ≡ flagged (slot_edge sources.now targets.now m) n flags.old }
+    requires { CanFlagSlots slots.now.sources.now slots.now.targets.now slots.now.count n graph.now.starts.now (followed graph.now) flags.old × (n ≤ N) × (N ≤ 1024) }
+    ensures value { result ≡ cyclic (slot_edge slots.now.sources.now slots.now.targets.now slots.now.count) (below n) }
+    ensures flags_after { flags.new ≡ flagged (slot_edge slots.now.sources.now slots.now.targets.now slots.now.count) n flags.old }
 {
-    if graph_depth_first::first_walk(
-        Direction::Dependencies,
-        heads,
-        list,
-        list,
-        n,
-        colour,
-        cursor,
-        stack,
-        low,
-        order,
-    ) {
+    let mut search = DepthFirst::<N>::new();
+    if search.first_walk(graph, n) {
         flag_component(
-            sources, targets, m, n, heads, list, order, colour, stack, flags,
+            slots,
+            n,
+            graph,
+            &search.order,
+            &mut search.cursors,
+            &mut search.stack,
+            flags,
         );
         return true;
     }
-    graph_neighbours::clear(flags, n);
+    flags[..n].fill(0);
     false
-}
-
-// The same for up to SMALL_NODES nodes.
-fn search_small(
-    sources: &[u32],
-    targets: &[u32],
-    m: usize,
-    n: usize,
-    heads: &[u32],
-    list: &[u32],
-    flags: &mut [u32],
-) -> bool
-    requires { CanFlagSlots sources.now targets.now m n heads.now list.now flags.old × (n ≤ 128) }
-    ensures value { result ≡ cyclic (slot_edge sources.now targets.now m) (below n) }
-    ensures flags_after { flags.new ≡ flagged (slot_edge sources.now targets.now m) n flags.old }
-{
-    let mut colour = [0u32; SMALL_NODES];
-    let mut cursor = [0u32; SMALL_NODES];
-    let mut stack = [0u32; SMALL_NODES];
-    let mut low = [0u32; SMALL_NODES];
-    let mut order = [0u32; SMALL_NODES];
-    search(
-        sources,
-        targets,
-        m,
-        n,
-        heads,
-        list,
-        &mut colour,
-        &mut cursor,
-        &mut stack,
-        &mut low,
-        &mut order,
-        flags,
-    )
-}
-
-// The same for up to NODES nodes.
-fn search_large(
-    sources: &[u32],
-    targets: &[u32],
-    m: usize,
-    n: usize,
-    heads: &[u32],
-    list: &[u32],
-    flags: &mut [u32],
-) -> bool
-    requires { CanFlagSlots sources.now targets.now m n heads.now list.now flags.old }
-    ensures value { result ≡ cyclic (slot_edge sources.now targets.now m) (below n) }
-    ensures flags_after { flags.new ≡ flagged (slot_edge sources.now targets.now m) n flags.old }
-{
-    let mut colour = [0u32; NODES];
-    let mut cursor = [0u32; NODES];
-    let mut stack = [0u32; NODES];
-    let mut low = [0u32; NODES];
-    let mut order = [0u32; NODES];
-    search(
-        sources,
-        targets,
-        m,
-        n,
-        heads,
-        list,
-        &mut colour,
-        &mut cursor,
-        &mut stack,
-        &mut low,
-        &mut order,
-        flags,
-    )
 }
 
 // Whether there is a cycle, and the flags of the only component with a closed walk: none where there are two such components, or none.
 pub fn cyclic_component(
-    sources: &[u32],
-    targets: &[u32],
-    m: usize,
+    slots: &Slots,
     n: usize,
     heads: &[u32],
     list: &[u32],
     flags: &mut [u32],
 ) -> bool
-    requires { CanFlagSlots sources.now targets.now m n heads.now list.now flags.old }
-    ensures value { result ≡ cyclic (slot_edge sources.now targets.now m) (below n) }
-    ensures flags_after { flags.new ≡ flagged (slot_edge sources.now targets.now m) n flags.old }
+    requires { CanFlagSlots slots.now.sources.now slots.now.targets.now slots.now.count n heads.now list.now flags.old }
+    ensures value { result ≡ cyclic (slot_edge slots.now.sources.now slots.now.targets.now slots.now.count) (below n) }
+    ensures flags_after { flags.new ≡ flagged (slot_edge slots.now.sources.now slots.now.targets.now slots.now.count) n flags.old }
 {
+    let graph = Neighbours {
+        direction: Direction::Dependencies,
+        starts: heads,
+        dependencies: list,
+        dependents: list,
+    };
     if n <= SMALL_NODES {
-        return search_small(sources, targets, m, n, heads, list, flags);
+        search_within::<SMALL_NODES>(slots, n, &graph, flags)
+    } else {
+        search_within::<NODES>(slots, n, &graph, flags)
     }
-    search_large(sources, targets, m, n, heads, list, flags)
 }

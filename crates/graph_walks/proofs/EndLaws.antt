@@ -2,53 +2,20 @@
 use Prim.Native.Nat.{ℕ, zero, suc, ◌+◌, ◌*◌, ◌/◌, ◌%◌, ◌<◌, ◌≤◌}
 use native.Mathlib.Omega.{arith}
 use native.Mathlib.Numerals.{add-one}
-use native.Mathlib.Decide.{ℕ_discrete, dec_lt}
-use mathlib.Core.Path.{◌≡◌, refl, sym, ap, ap₂, subst, ◌∙◌}
-use mathlib.Core.Bool.{Bool, true, false, not, ◌&&◌, true≢false}
+use native.Mathlib.Decide.{dec_lt}
+use mathlib.Core.Path.{◌≡◌, refl, sym, ap, subst, ◌∙◌}
+use mathlib.Core.Bool.{Bool, true, false, true≢false}
 use mathlib.Core.List.{List}
-use lib.ListN.{get_or, length}
-use lib.Dec.{eqb}
+use lib.ListN.{get_or}
 use borrow.Author.Tests.{eq-eqb, ne_eqb}
-use Rattle.graphs.specs.Bools.{and_left}
 use Rattle.graphs.specs.Square.{row_in}
-use Rattle.graph_walks.specs.Closed.{flag_edge, closed}
+use Rattle.graph_walks.specs.Closed.{flag_edge}
 use Rattle.graph_walks.specs.ClosedLaws.{flag_is}
-use Rattle.graph_walks.specs.Marks.{marking}
-use Rattle.graph_walks.specs.Counted.{counted, without, counted-take}
 use Rattle.graph_walks.specs.Places.{square, reached, holds, passes, at_row, at_column, next_row, offers_without}
 use Rattle.graph_walks.proofs.Places.{offers}
-use Rattle.graph_walks.specs.Spread.{Offers, Ready, CanLook, Looked, Scanned, Done}
-use Rattle.graph_walks.specs.Ends.{end_at, end_edge, end_place, looked_at, LookedEnd, EndRows, CanScanEnds, CanScanEndRow, ScannedTo, Swept, DoneEnds, CanCloseEnds}
+use Rattle.graph_walks.specs.Spread.{Offers, Ready, Looked, LookedWhere}
+use Rattle.graph_walks.specs.Ends.{end_at, end_edge, end_place, looked_at, EndRows, CanScanEndRow, ScannedTo, Swept}
 use Rattle.graph_walks.proofs.Layer.{push_ready, scan_none, turn_skip, turn_more}
-use Rattle.graph_walks.proofs.Ends.{union-done}
-
--- a look's four ways out
-module _ (flag s t x y : ℕ) where
-  pub unset : flag ≡ 0 → looked_at flag s t x y ≡ false
-  unfolding looked_at
-  unset h = rw (eq-eqb flag 0 h)
-
-  pub itself : (flag ≡ 0 → ⊥) → y ≡ x → looked_at flag s t x y ≡ false
-  unfolding looked_at
-  itself h q = rw (ne_eqb flag 0 h, eq-eqb y x q)
-
-  pub left_out : (flag ≡ 0 → ⊥) → (y ≡ x → ⊥) → x ≡ s → y ≡ t → looked_at flag s t x y ≡ false
-  unfolding looked_at
-  left_out h q a b = rw (ne_eqb flag 0 h, ne_eqb y x q, eq-eqb x s a, eq-eqb y t b)
-
-  pub other-target : (flag ≡ 0 → ⊥) → (y ≡ x → ⊥) → x ≡ s → (y ≡ t → ⊥) → looked_at flag s t x y ≡ true
-  unfolding looked_at
-  other-target h q a b = rw (ne_eqb flag 0 h, ne_eqb y x q, eq-eqb x s a, ne_eqb y t b)
-
-  pub other-source : (flag ≡ 0 → ⊥) → (y ≡ x → ⊥) → (x ≡ s → ⊥) → looked_at flag s t x y ≡ true
-  unfolding looked_at
-  other-source h q a = rw (ne_eqb flag 0 h, ne_eqb y x q, ne_eqb x s a)
-
-pub passed_over : {b : Bool} {l s : List ℕ} {mark sp y : ℕ} → b ≡ false → LookedEnd b l s mark sp y l s sp
-passed_over e = record { skipped = λ h. (refl, refl, refl); looked = λ h. absurd (true≢false (sym h ∙ e)) }
-
-pub seen : {b : Bool} {l s l' s' : List ℕ} {mark sp y sp' : ℕ} → b ≡ true → Looked l s mark sp y l' s' sp' → LookedEnd b l s mark sp y l' s' sp'
-seen e w = record { skipped = λ h. absurd (true≢false (sym e ∙ h)); looked = λ h. w }
 
 -- the stack has room after a look
 looked_ready : {n mark : ℕ} {l s : List ℕ} {sp y : ℕ} → Ready n mark l s sp → y < n → {l' s' : List ℕ} {sp' : ℕ} → Looked l s mark sp y l' s' sp' → Ready n mark l' s' sp'
@@ -57,17 +24,13 @@ looked_ready {n} {mark} {l} {s} {sp} {y} v b w = elim (dec_lt (get_or l y 0) mar
   | no k ↦ let q = w.old (omega arith) in rw (q.0, q.1, q.2) v
 ]
 
-end-ready : {n mark : ℕ} {l s : List ℕ} {sp y : ℕ} → Ready n mark l s sp → y < n → {l' s' : List ℕ} {sp' : ℕ} (b : Bool) → LookedEnd b l s mark sp y l' s' sp' → Ready n mark l' s' sp'
+end-ready : {n mark : ℕ} {l s : List ℕ} {sp y : ℕ} → Ready n mark l s sp → y < n → {l' s' : List ℕ} {sp' : ℕ} (b : Bool) → LookedWhere b l s mark sp y l' s' sp' → Ready n mark l' s' sp'
 end-ready v b true w = looked_ready v b (w.looked refl)
 end-ready v b false w = let q = w.skipped refl in rw (q.0, q.1, q.2) v
 
 module _ {l : List ℕ} {c n : ℕ} {ends : List ℕ} (s t : ℕ) (r : EndRows l c n ends) where
   pub offers_ends : Offers (end_edge l c n ends s t) n (square n) (reached (end_at ends) n) (end_place l c n ends s t)
   offers_ends = offers_without (offers (flag_edge l c n) (end_at ends) n r.each) s t
-
-  ends-to : (x y : ℕ) → end_edge l c n ends s t x y ≡ true → y < n
-  unfolding without
-  ends-to x y h = let k = counted-take (flag_edge l c n) (end_at ends) n x y (and_left (counted (flag_edge l c n) (end_at ends) n x y) _ h) in subst (λ v. v < n) k.to (r.each k.target k.target_in)
 
   module _ (i j x : ℕ) (a : i < n) (b : j < n) where
     abbrev row_at : (i * n + j) / n ≡ i
@@ -94,11 +57,11 @@ module _ {l : List ℕ} {c n : ℕ} {ends : List ℕ} (s t : ℕ) (r : EndRows l
     pub place_skip : (end_at ends i ≡ x → ⊥) → ScannedTo l c n ends s t mark l₀ s₀ sp₀ x (i * n + (j + 1)) l₁ s₁ sp₁
     place_skip q = next (turn_skip offers_ends v (λ h. absurd (place-off i j x a b q h)))
 
-    pub place-more : x < n → end_at ends i ≡ x → {l₂ s₂ : List ℕ} {sp₂ : ℕ} → LookedEnd (looked_at (get_or l (i * c + j) 0) s t x (end_at ends j)) l₁ s₁ mark sp₁ (end_at ends j) l₂ s₂ sp₂
+    pub place-more : x < n → end_at ends i ≡ x → {l₂ s₂ : List ℕ} {sp₂ : ℕ} → LookedWhere (looked_at (get_or l (i * c + j) 0) s t x (end_at ends j)) l₁ s₁ mark sp₁ (end_at ends j) l₂ s₂ sp₂
         → ScannedTo l c n ends s t mark l₀ s₀ sp₀ x (i * n + (j + 1)) l₂ s₂ sp₂
     place-more xn q {l₂} {s₂} {sp₂} w = go (looked_at (get_or l (i * c + j) 0) s t x (end_at ends j)) refl w
       where
-        go : (p : Bool) → looked_at (get_or l (i * c + j) 0) s t x (end_at ends j) ≡ p → LookedEnd p l₁ s₁ mark sp₁ (end_at ends j) l₂ s₂ sp₂
+        go : (p : Bool) → looked_at (get_or l (i * c + j) 0) s t x (end_at ends j) ≡ p → LookedWhere p l₁ s₁ mark sp₁ (end_at ends j) l₂ s₂ sp₂
             → ScannedTo l c n ends s t mark l₀ s₀ sp₀ x (i * n + (j + 1)) l₂ s₂ sp₂
         go true e w = next (turn_more offers_ends v xn (Rattle.graph_walks.specs.Places.inside (flag_edge l c n) (end_at ends) n r.each i j a b) (place_on i j x a b q ∙ e) (ap (end_at ends) (sym (column_at i j x a b))) (w.looked refl))
         go false e w = let k = w.skipped refl in rw (k.0, k.1, k.2) (next (turn_skip offers_ends v (λ h. absurd (true≢false (sym h ∙ place_on i j x a b q ∙ e)))))
@@ -108,7 +71,7 @@ module _ {l : List ℕ} {c n : ℕ} {ends : List ℕ} (s t : ℕ) (r : EndRows l
   swept_none {mark} {l₁} {s₁} {sp₁} x i v = record { ready = v; more = λ l₀ s₀ sp₀. subst (λ k. ScannedTo l c n ends s t mark l₀ s₀ sp₀ x k l₁ s₁ sp₁) (omega arith) }
 
   pub swept_more : {mark : ℕ} {l₁ s₁ l₂ s₂ l₃ s₃ : List ℕ} {sp₁ sp₂ sp₃ x i j : ℕ} → Swept l c n ends s t mark l₁ s₁ sp₁ x i j l₂ s₂ sp₂ → x < n → i < n → j < n → end_at ends i ≡ x
-      → LookedEnd (looked_at (get_or l (i * c + j) 0) s t x (end_at ends j)) l₂ s₂ mark sp₂ (end_at ends j) l₃ s₃ sp₃ → Swept l c n ends s t mark l₁ s₁ sp₁ x i (j + 1) l₃ s₃ sp₃
+      → LookedWhere (looked_at (get_or l (i * c + j) 0) s t x (end_at ends j)) l₂ s₂ mark sp₂ (end_at ends j) l₃ s₃ sp₃ → Swept l c n ends s t mark l₁ s₁ sp₁ x i (j + 1) l₃ s₃ sp₃
   swept_more {i} {j} v xn a b q w = record { ready = end-ready v.ready (r.each j b) _ w; more = λ l₀ s₀ sp₀ k. place-more a b (v.more l₀ s₀ sp₀ k) xn q w }
 
   -- a row that isn't x's
@@ -132,10 +95,4 @@ module _ {l : List ℕ} {c n : ℕ} {ends : List ℕ} (s t : ℕ) (r : EndRows l
       subst (λ k. ScannedTo l c n ends s t mark l₀ s₀ sp₀ x k l₂ s₂ sp₂) (sym (next_row (flag_edge l c n) (end_at ends) n r.each i)) (w.more l₀ s₀ sp₀ v)
 
 pub end-row_can : {q : List ℕ} {c n : ℕ} {ends : List ℕ} {mark : ℕ} {l s : List ℕ} {sp t i : ℕ} → EndRows q c n ends → Ready n mark l s sp → t < n → i < n → CanScanEndRow q c n ends mark l s sp t i
-end-row_can {c} {n} {i} r v h b = record { can = record { rows = r; ready = v; node = h }; row = b; inside = omega (arith, row_in n c i b, r.rows.narrow, r.rows.cells) }
-
--- `closure_ends`
-pub ends-done : {q : List ℕ} {c n : ℕ} {ends : List ℕ} {source target mark : ℕ} {l s : List ℕ} → CanCloseEnds q c n ends source target mark l s → {l₁ s₁ l₂ s₂ l₃ s₃ : List ℕ} {sp₁ sp₂ : ℕ}
-    → ScannedTo q c n ends source target mark l s 0 source (n * n) l₁ s₁ sp₁ → ScannedTo q c n ends source target mark l₁ s₁ sp₁ target (n * n) l₂ s₂ sp₂
-    → DoneEnds q c n ends source target mark l₂ s₂ sp₂ l₃ s₃ 0 → length l₃ ≡ length l → l₃ ≡ marking (closed (end_edge q c n ends source target) n source target) mark l
-ends-done {source} {target} can v v₂ w long = union-done (offers_ends source target can.rows) (ends-to source target can.rows) source target can.fresh v v₂ w long
+end-row_can {c} {n} {i} r v h b = record { rows = r; ready = v; node = h; row = b; inside = omega (arith, row_in n c i b, r.rows.narrow, r.rows.cells) }

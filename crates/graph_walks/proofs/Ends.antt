@@ -1,13 +1,14 @@
 -- What the marks are at the end of a walk. Assumes nothing.
-use Prim.Native.Nat.{ℕ, ◌+◌, ◌*◌, ◌<◌}
+use Prim.Native.Nat.{ℕ, ◌+◌, ◌-◌, ◌*◌, ◌<◌}
 use native.Mathlib.Omega.{arith}
-use native.Mathlib.Decide.{ℕ_discrete, dec_lt}
-use mathlib.Core.Path.{◌≡◌, refl, sym, ap, ◌∙◌}
+use native.Mathlib.Decide.{dec_lt}
+use mathlib.Core.Path.{◌≡◌, refl, sym, ◌∙◌}
 use mathlib.Core.Logic.{◌⊎◌, inl, inr, ⊎_elim}
 use mathlib.Core.Bool.{Bool, true, false, not, cond, true≢false}
 use mathlib.Core.List.{List}
-use lib.ListN.{get_or, length}
-use borrow.Author.Tests.{eq-eqb, ne_eqb}
+use lib.ListN.{get_or, length, take, drop}
+use lib.Dec.{eqb}
+use Rattle.std.proofs.lemmas.List.{get_or-take, get_or-drop, length-drop, length-take-le}
 use Rattle.graphs.specs.Lists.{below}
 use Rattle.graphs.specs.Tab.{is_tab}
 use Rattle.graphs.specs.Walk.{Walk, one, more, via}
@@ -17,7 +18,7 @@ use Rattle.graph_neighbours.specs.Lists.{deg, nb, edge, Graph, listed, listed-to
 use Rattle.graph_walks.specs.Closed.{flag_edge, closed}
 use Rattle.graph_walks.specs.ClosedLaws.{flag_from, flag-to, flag_is, closed-first, closed-next, closed_all}
 use Rattle.graph_walks.specs.Marks.{marking}
-use Rattle.graph_walks.specs.Spread.{met, stk, every, wide, itself, Offers, Spread, Ready, Kept, CanLook, LookedFlag, HandsOn, Scanned, Done, CanReach, Rows, CanScanRow, CanClose}
+use Rattle.graph_walks.specs.Spread.{met, stk, every, wide, itself, Offers, Spread, Kept, CanLook, LookedWhere, HandsOn, Scanned, Done, CanReach, Rows, CanCloseOver}
 use Rattle.graph_walks.proofs.Layer.{met-yes, met_no, yes-met, kept_trans, kept-met, look_can, turn_skip, turn_more}
 use Rattle.graph_walks.proofs.Moves as moves
 
@@ -113,63 +114,65 @@ module _ {starts list : List ℕ} {n mark root : ℕ} {l s : List ℕ} (can : Ca
         (λ x q. from_root (sound e (below n) root x q))
 
 -- the closed union of two nodes' edges, after a scan of each and of all that goes on the stack
-module _ {deps : ℕ → ℕ → Bool} {n : ℕ} {d : ℕ → ℕ} {f : ℕ → ℕ → ℕ} {h : ℕ → ℕ → Bool} (G : Offers deps n d f h) (to : (x y : ℕ) → deps x y ≡ true → y < n) (source target : ℕ) where
+module _ {deps : ℕ → ℕ → Bool} {n : ℕ} {d : ℕ → ℕ} {f : ℕ → ℕ → ℕ} {h : ℕ → ℕ → Bool} (G : Offers deps n d f h) {source target mark : ℕ} {l s : List ℕ} (can : CanCloseOver n source target mark l s) where
+  next-in : (x y : ℕ) → deps x y ≡ true → y < n
+  next-in x y k = let q = G.find x y k in rw q.3 at (G.ends x q.0 (G.from x y k) q.1 q.2)
+
   abbrev in_closed : ℕ → Bool
   in_closed = closed deps n source target
 
-  given : (y : ℕ) → (deps source y ≡ true) ⊎ (deps target y ≡ true) → in_closed y ≡ true
-  given y k = closed-first deps n source target y (⊎_elim (to source y) (to target y) k) k
+  given_by : (y : ℕ) → (deps source y ≡ true) ⊎ (deps target y ≡ true) → in_closed y ≡ true
+  given_by y k = closed-first deps n source target y (⊎_elim (next-in source y) (next-in target y) k) k
 
-  handed : HandsOn deps none in_closed
-  handed x y w k u = closed-next deps n source target G.from x y w k
+  handed-on : HandsOn deps none in_closed
+  handed-on x y w k u = closed-next deps n source target G.from x y w k
 
-  module _ {mark : ℕ} {l s l₁ s₁ l₂ s₂ l₃ s₃ : List ℕ} {sp₁ sp₂ : ℕ} (fresh : (x : ℕ) → x < n → get_or l x 0 < mark) (v : Scanned deps n d f h mark l s 0 source (d source) l₁ s₁ sp₁) (v₂ : Scanned deps n d f h mark l₁ s₁ sp₁ target (d target) l₂ s₂ sp₂)
+  module _ {l₁ s₁ l₂ s₂ l₃ s₃ : List ℕ} {sp₁ sp₂ : ℕ} (v : Scanned deps n d f h mark l s 0 source (d source) l₁ s₁ sp₁) (v₂ : Scanned deps n d f h mark l₁ s₁ sp₁ target (d target) l₂ s₂ sp₂)
       (w : Done deps n d f h mark l₂ s₂ sp₂ l₃ s₃ 0) where
     one_row : Spread n d f h none in_closed (met mark l₁) (stk s₁) sp₁ n 0
-    one_row = scan_done G in_closed v (start mark l s fresh) (λ y k. given y (inl k))
+    one_row = scan_done G in_closed v (start mark l s can.fresh) (λ y k. given_by y (inl k))
 
     ended : Spread n d f h none in_closed (met mark l₃) (stk s₃) 0 n 0
-    ended = w.state none in_closed handed (scan_done G in_closed v₂ one_row (λ y k. given y (inr k)))
+    ended = w.state none in_closed handed-on (scan_done G in_closed v₂ one_row (λ y k. given_by y (inr k)))
 
     seeds : (y : ℕ) → (deps source y ≡ true) ⊎ (deps target y ≡ true) → met mark l₃ y ≡ 1
     seeds y k = kept-met w.kept y (⊎_elim
-        (λ a. kept-met v₂.kept y (scan_met G in_closed v (start mark l s fresh) (λ y k. given y (inl k)) y a))
-        (λ a. scan_met G in_closed v₂ one_row (λ y k. given y (inr k)) y a)
+        (λ a. kept-met v₂.kept y (scan_met G in_closed v (start mark l s can.fresh) (λ y k. given_by y (inl k)) y a))
+        (λ a. scan_met G in_closed v₂ one_row (λ y k. given_by y (inr k)) y a)
         k)
 
-    reached : (x : ℕ) → in_closed x ≡ true → (x < n) × (met mark l₃ x ≡ 1)
-    reached = closed_all deps n source target (λ x. (x < n) × (met mark l₃ x ≡ 1))
-        (λ x k. (⊎_elim (to source x) (to target x) k, seeds x k))
-        (λ x y m k. (to x y k, moves.step-out G ended x y m.0 m.1 refl k))
+    closed-met : (x : ℕ) → in_closed x ≡ true → (x < n) × (met mark l₃ x ≡ 1)
+    closed-met = closed_all deps n source target (λ x. (x < n) × (met mark l₃ x ≡ 1))
+        (λ x k. (⊎_elim (next-in source x) (next-in target x) k, seeds x k))
+        (λ x y m k. (next-in x y k, moves.step-out G ended x y m.0 m.1 refl k))
 
     pub union-done : length l₃ ≡ length l → l₃ ≡ marking in_closed mark l
-    union-done long = marking_is l (kept_trans (kept_trans v.kept v₂.kept) w.kept) long fresh
-        (λ x k. (reached x k).0)
+    union-done long = marking_is l (kept_trans (kept_trans v.kept v₂.kept) w.kept) long can.fresh
+        (λ x k. (closed-met x k).0)
         (λ x b m. ended.from x b m refl)
-        (λ x k. (reached x k).1)
-
--- `closure`
-pub closure_done : {q : List ℕ} {c n source target mark : ℕ} {l s : List ℕ} → CanClose q c n source target mark l s → {l₁ s₁ l₂ s₂ l₃ s₃ : List ℕ} {sp₁ sp₂ : ℕ}
-    → Scanned (flag_edge q c n) n (wide n) itself (flag_edge q c n) mark l s 0 source n l₁ s₁ sp₁ → Scanned (flag_edge q c n) n (wide n) itself (flag_edge q c n) mark l₁ s₁ sp₁ target n l₂ s₂ sp₂
-    → Done (flag_edge q c n) n (wide n) itself (flag_edge q c n) mark l₂ s₂ sp₂ l₃ s₃ 0 → length l₃ ≡ length l → l₃ ≡ marking (closed (flag_edge q c n) n source target) mark l
-closure_done {q} {c} {n} {source} {target} can v v₂ w long = union-done (offers_rows q c n) (flag-to q c n) source target can.fresh v v₂ w long
+        (λ x k. (closed-met x k).1)
 
 -- one flag of row t
-module _ {q : List ℕ} {c n mark : ℕ} {l₀ s₀ l s : List ℕ} {sp₀ sp t j : ℕ} (can : CanScanRow q c n mark l₀ s₀ sp₀ t)
+module _ (q : List ℕ) (c : ℕ) {n mark : ℕ} {l₀ s₀ l s : List ℕ} {sp₀ sp t j : ℕ} (tn : t < n)
     (v : Scanned (flag_edge q c n) n (wide n) itself (flag_edge q c n) mark l₀ s₀ sp₀ t j l s sp) (jn : j < n) where
-  tn : t < n
-  tn = can.node
-
   pub flag_can : CanLook l s mark sp j
   flag_can = look_can v.ready jn
 
-  pub flag-more : {l' s' : List ℕ} {sp' : ℕ} → LookedFlag (get_or q (t * c + j) 0) l s mark sp j l' s' sp'
+  pub flag-more : (b : Bool) → b ≡ not (eqb (get_or q (t * c + j) 0) 0) → {l' s' : List ℕ} {sp' : ℕ} → LookedWhere b l s mark sp j l' s' sp'
       → Scanned (flag_edge q c n) n (wide n) itself (flag_edge q c n) mark l₀ s₀ sp₀ t (j + 1) l' s' sp'
-  flag-more {l'} {s'} {sp'} w = go (ℕ_discrete (get_or q (t * c + j) 0) 0)
-    where
-      go : Dec (get_or q (t * c + j) 0 ≡ 0) → Scanned (flag_edge q c n) n (wide n) itself (flag_edge q c n) mark l₀ s₀ sp₀ t (j + 1) l' s' sp'
-      go (yes h) = let k = w.unset h in rw (k.0, k.1, k.2) (turn_skip (offers_rows q c n) v (λ z. absurd (true≢false (sym z ∙ flag_is q c n t j tn jn ∙ ap not (eq-eqb _ _ h)))))
-      go (no h) = turn_more (offers_rows q c n) v tn jn (flag_is q c n t j tn jn ∙ ap not (ne_eqb _ _ h)) refl (w.looked h)
+  flag-more true is w = turn_more (offers_rows q c n) v tn jn (flag_is q c n t j tn jn ∙ sym is) refl (w.looked refl)
+  flag-more false is w = let k = w.skipped refl in rw (k.0, k.1, k.2) (turn_skip (offers_rows q c n) v (λ z. absurd (true≢false (sym z ∙ flag_is q c n t j tn jn ∙ sym is))))
 
-pub row_can : {q : List ℕ} {c n mark : ℕ} {l s : List ℕ} {sp t : ℕ} → Rows q c n → Ready n mark l s sp → t < n → CanScanRow q c n mark l s sp t
-row_can {c} {n} {t} r v h = record { rows = r; ready = v; node = h; inside = omega (arith, row_in n c t h, r.narrow, r.cells) }
+-- row t, of the first n flags
+module _ {q : List ℕ} {c n t : ℕ} (r : Rows q c n) (tn : t < n) where
+  abbrev row : List ℕ
+  row = take (t * c + n - t * c) (drop (t * c) q)
+
+  pub length-row : length row ≡ n
+  length-row = length-take-le _ (drop (t * c) q) (rw length-drop (omega (arith, row_in n c t tn, r.narrow, r.cells))) ∙ width
+    where
+      width : t * c + n - t * c ≡ n
+      width = omega arith
+
+  pub get_or-row : (j : ℕ) → j < n → get_or row j 0 ≡ get_or q (t * c + j) 0
+  get_or-row j h = get_or-take (t * c + n - t * c) (drop (t * c) q) j 0 (omega arith) ∙ get_or-drop (t * c) q j 0

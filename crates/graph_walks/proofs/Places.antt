@@ -1,14 +1,13 @@
 -- Theorems on the definitions of specs/Places: they stand here, so that the crate can be read with a definition changed. Assumes nothing.
-use Rattle.std.specs.Prelude.{ℕ, zero, suc, ◌+◌, ◌*◌, ◌/◌, ◌%◌, ◌<◌, ◌≤◌, ◌≡◌, refl, Bool, true, false, ◌&&◌}
-use Rattle.std.proofs.Common.{arith, mod-lt, div-lt_iff_lt-mul, mod-eq_of_lt, add-mul, mul-le-mul_right, sym, ap₂, ◌∙◌}
-use Rattle.std.proofs.Math.Nat.{mul-add-mod_self_right, div-eq_of_lt-le}
+use Rattle.std.specs.Prelude.{ℕ, zero, suc, ◌+◌, ◌*◌, ◌/◌, ◌%◌, ◌<◌, ◌≡◌, Bool, true, ◌&&◌}
+use Rattle.std.proofs.Common.{arith, mod-lt, div-lt_iff_lt-mul, sym, ap₂, ◌∙◌}
 use Rattle.std.proofs.Math.Path.{ap, subst}
 use Rattle.std.proofs.Math.Bool.{not}
 use Rattle.std.proofs.Math.Dec.{eqb}
 use borrow.Author.Tests.{eqb-true, eqb-false, eq-eqb, ne_eqb, not-true}
 use Rattle.graphs.specs.Bools.{and_left, and_right, and_both}
 use Rattle.graph_walks.specs.Spread.{Offers}
-use Rattle.graph_walks.specs.Counted.{counted, without, counted_give, counted-take}
+use Rattle.graph_walks.specs.Counted.{counted, counted_give, counted-take}
 use Rattle.graph_walks.specs.Places.{square, reached, holds, at_row, at_column, inside}
 use Rattle.graph_walks.specs.Places as places_here
 

@@ -1,9 +1,9 @@
 -- A walk over rows of flags whose nodes stand for their ends. Assumes nothing.
-use Rattle.std.specs.Prelude.{ℕ, ◌+◌, ◌*◌, ◌<◌, ◌≤◌, ◌≡◌, Bool, true, false, not, ◌&&◌, List, get_or, length, eqb}
+use Rattle.std.specs.Prelude.{ℕ, ◌+◌, ◌*◌, ◌<◌, ◌≤◌, Bool, not, ◌&&◌, List, get_or, length, eqb}
 use Rattle.graph_walks.specs.Closed.{flag_edge}
 use Rattle.graph_walks.specs.Counted.{counted, without}
 use Rattle.graph_walks.specs.Places.{square, reached, holds, passes}
-use Rattle.graph_walks.specs.Spread.{Ready, Looked, Scanned, Done, Rows}
+use Rattle.graph_walks.specs.Spread.{Ready, Scanned, Rows}
 
 -- a node's end
 abbrev pub end_at : List ℕ → ℕ → ℕ
@@ -20,23 +20,16 @@ end_place l c n ends s t = passes (holds (flag_edge l c n) (end_at ends) n) (rea
 unfoldable pub looked_at : ℕ → ℕ → ℕ → ℕ → ℕ → Bool
 looked_at flag s t x y = (not (eqb flag 0) && not (eqb y x)) && not (eqb x s && eqb y t)
 
-pub record LookedEnd (b : Bool) (marks stack : List ℕ) (mark sp y : ℕ) (marks' stack' : List ℕ) (sp' : ℕ) : Type 0 where
-  pub skipped : b ≡ false → (marks' ≡ marks) × (stack' ≡ stack) × (sp' ≡ sp)
-  pub looked : b ≡ true → Looked marks stack mark sp y marks' stack' sp'
-
 -- n rows of c flags, and the ends of n nodes
 pub record EndRows (l : List ℕ) (c n : ℕ) (ends : List ℕ) : Type 0 where
   pub rows : Rows l c n
   pub long : n ≤ length ends
   pub each : (x : ℕ) → x < n → get_or ends x 0 < n
 
-pub record CanScanEnds (l : List ℕ) (c n : ℕ) (ends : List ℕ) (mark : ℕ) (marks stack : List ℕ) (sp t : ℕ) : Type 0 where
+pub record CanScanEndRow (l : List ℕ) (c n : ℕ) (ends : List ℕ) (mark : ℕ) (marks stack : List ℕ) (sp t i : ℕ) : Type 0 where
   pub rows : EndRows l c n ends
   pub ready : Ready n mark marks stack sp
   pub node : t < n
-
-pub record CanScanEndRow (l : List ℕ) (c n : ℕ) (ends : List ℕ) (mark : ℕ) (marks stack : List ℕ) (sp t i : ℕ) : Type 0 where
-  pub can : CanScanEnds l c n ends mark marks stack sp t
   pub row : i < n
   pub inside : i * c + n ≤ length l
 
@@ -49,14 +42,6 @@ ScannedTo l c n ends s t mark marks stack sp x k marks' stack' sp' =
 pub record Swept (l : List ℕ) (c n : ℕ) (ends : List ℕ) (s t mark : ℕ) (marks stack : List ℕ) (sp x i j : ℕ) (marks' stack' : List ℕ) (sp' : ℕ) : Type 0 where
   pub ready : Ready n mark marks' stack' sp'
   pub more : (l₀ s₀ : List ℕ) (sp₀ : ℕ) → ScannedTo l c n ends s t mark l₀ s₀ sp₀ x (i * n) marks stack sp → ScannedTo l c n ends s t mark l₀ s₀ sp₀ x (i * n + j) marks' stack' sp'
-
-pub record CanSpreadEnds (l : List ℕ) (c n : ℕ) (ends : List ℕ) (mark : ℕ) (marks stack : List ℕ) (sp : ℕ) : Type 0 where
-  pub rows : EndRows l c n ends
-  pub ready : Ready n mark marks stack sp
-
-abbrev pub DoneEnds : List ℕ → ℕ → ℕ → List ℕ → ℕ → ℕ → ℕ → List ℕ → List ℕ → ℕ → List ℕ → List ℕ → ℕ → Type 0
-DoneEnds l c n ends s t mark marks stack sp marks' stack' sp' =
-    Done (end_edge l c n ends s t) n (square n) (reached (end_at ends) n) (end_place l c n ends s t) mark marks stack sp marks' stack' sp'
 
 pub record CanCloseEnds (l : List ℕ) (c n : ℕ) (ends : List ℕ) (source target mark : ℕ) (marks stack : List ℕ) : Type 0 where
   pub rows : EndRows l c n ends

@@ -1,14 +1,13 @@
 -- Counted edges as a walk reads them: of node x it looks at n × n places, row i and column j at i × n + j. Assumes nothing.
-use Rattle.std.specs.Prelude.{ℕ, zero, suc, ◌+◌, ◌*◌, ◌/◌, ◌%◌, ◌<◌, ◌≤◌, ◌≡◌, refl, Bool, true, false, ◌&&◌}
-use Rattle.std.proofs.Common.{arith, mod-lt, div-lt_iff_lt-mul, mod-eq_of_lt, add-mul, mul-le-mul_right, sym, ap₂, ◌∙◌}
+use Rattle.std.specs.Prelude.{ℕ, ◌+◌, ◌*◌, ◌/◌, ◌%◌, ◌<◌, ◌≤◌, ◌≡◌, Bool, true, ◌&&◌}
+use Rattle.std.proofs.Common.{arith, mod-eq_of_lt, add-mul, mul-le-mul_right, sym, ◌∙◌}
 use Rattle.std.proofs.Math.Nat.{mul-add-mod_self_right, div-eq_of_lt-le}
 use Rattle.std.proofs.Math.Path.{ap, subst}
 use Rattle.std.proofs.Math.Bool.{not}
 use Rattle.std.proofs.Math.Dec.{eqb}
-use borrow.Author.Tests.{eqb-true, eqb-false, eq-eqb, ne_eqb, not-true}
 use Rattle.graphs.specs.Bools.{and_left, and_right, and_both}
 use Rattle.graph_walks.specs.Spread.{Offers}
-use Rattle.graph_walks.specs.Counted.{counted, without, counted_give, counted-take}
+use Rattle.graph_walks.specs.Counted.{without}
 
 abbrev pub square : ℕ → ℕ → ℕ
 square n x = n * n

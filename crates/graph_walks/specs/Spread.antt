@@ -58,9 +58,10 @@ pub record Looked (marks stack : List ℕ) (mark sp y : ℕ) (marks' stack' : Li
   pub old : mark ≤ get_or marks y 0 → (marks' ≡ marks) × (stack' ≡ stack) × (sp' ≡ sp)
   pub new : get_or marks y 0 < mark → (marks' ≡ set marks y mark) × (stack' ≡ set stack sp y) × (sp' ≡ sp + 1)
 
-pub record LookedFlag (flag : ℕ) (marks stack : List ℕ) (mark sp y : ℕ) (marks' stack' : List ℕ) (sp' : ℕ) : Type 0 where
-  pub unset : flag ≡ 0 → (marks' ≡ marks) × (stack' ≡ stack) × (sp' ≡ sp)
-  pub looked : (flag ≡ 0 → ⊥) → Looked marks stack mark sp y marks' stack' sp'
+-- y is looked at where b says so
+pub record LookedWhere (b : Bool) (marks stack : List ℕ) (mark sp y : ℕ) (marks' stack' : List ℕ) (sp' : ℕ) : Type 0 where
+  pub skipped : b ≡ false → (marks' ≡ marks) × (stack' ≡ stack) × (sp' ≡ sp)
+  pub looked : b ≡ true → Looked marks stack mark sp y marks' stack' sp'
 
 -- what the walk may mark, it may mark the neighbours of
 abbrev pub HandsOn : (ℕ → ℕ → Bool) → (o r : ℕ → Bool) → Type 0
@@ -84,11 +85,6 @@ pub record Done (e : ℕ → ℕ → Bool) (n : ℕ) (d : ℕ → ℕ) (f : ℕ 
 -- every place of a neighbour list holds
 abbrev pub every : ℕ → ℕ → Bool
 every x i = true
-
-pub record CanScan (starts list : List ℕ) (n mark : ℕ) (marks stack : List ℕ) (sp t : ℕ) : Type 0 where
-  pub graph : Graph starts list n
-  pub ready : Ready n mark marks stack sp
-  pub node : t < n
 
 pub record CanSpread (starts list : List ℕ) (n mark : ℕ) (marks stack : List ℕ) (sp : ℕ) : Type 0 where
   pub graph : Graph starts list n
@@ -114,15 +110,13 @@ pub record Rows (l : List ℕ) (c n : ℕ) : Type 0 where
   pub narrow : n ≤ c
   pub few : n < 2 ^ 32
 
-pub record CanScanRow (l : List ℕ) (c n mark : ℕ) (marks stack : List ℕ) (sp t : ℕ) : Type 0 where
-  pub rows : Rows l c n
-  pub ready : Ready n mark marks stack sp
-  pub node : t < n
-  pub inside : t * c + n ≤ length l
-
-pub record CanSpreadRows (l : List ℕ) (c n mark : ℕ) (marks stack : List ℕ) (sp : ℕ) : Type 0 where
-  pub rows : Rows l c n
-  pub ready : Ready n mark marks stack sp
+-- a walk from the edges of source and target, in which no node is marked yet
+pub record CanCloseOver (n source target mark : ℕ) (marks stack : List ℕ) : Type 0 where
+  pub cells : n ≤ length marks
+  pub room : n ≤ length stack
+  pub first : source < n
+  pub second : target < n
+  pub fresh : (x : ℕ) → x < n → get_or marks x 0 < mark
 
 pub record CanClose (l : List ℕ) (c n source target mark : ℕ) (marks stack : List ℕ) : Type 0 where
   pub rows : Rows l c n

@@ -1,10 +1,10 @@
--- What the loops of `src/lib.rt` keep. Assumes nothing.
+-- What a loop keeps that copies a part, one number at a time. Assumes nothing.
 use mathlib.Core.Path.{◌≡◌, refl, sym, ap, ◌∙◌}
 use mathlib.Core.List.{List}
 use Prim.Native.Nat.{ℕ, suc, ◌+◌, ◌-◌, ◌≤◌, ◌<◌}
 use native.Mathlib.Omega.{arith}
 use native.Mathlib.Nat.{add-zero, sub-zero}
-use lib.ListN.{length, get_or, set, length-set, replicate}
+use lib.ListN.{length, get_or, set, length-set}
 use Rattle.layout.specs.Patch.{patch, part, patch-none, patch-set, part_none, part-more}
 
 -- copying: what is still to be written over l gives the patch of the whole over l₀
@@ -33,28 +33,3 @@ module _ {l₀ : List ℕ} {at : ℕ} {from : List ℕ} {start k i : ℕ} {l : L
   copy_done h =
       let e : k - i ≡ 0 = omega arith in
       sym (patch-none (at + i) l) ∙ ap (λ (u : List ℕ). patch (at + i) u l) (sym (part_none (start + i) from)) ∙ ap (λ (j : ℕ). patch (at + i) (part (start + i) j from) l) (sym e) ∙ v.whole
-
--- filling: the same with one number
-pub record Filling (l₀ : List ℕ) (at k v i : ℕ) (l : List ℕ) : Type 0 where
-  pub within : i ≤ k
-  pub long : length l ≡ length l₀
-  pub whole : patch (at + i) (replicate (k - i) v) l ≡ patch at (replicate k v) l₀
-
-pub fill_none : {l : List ℕ} {at k v : ℕ} → Filling l at k v 0 l
-fill_none = record { within = omega arith; long = refl; whole = simp (add-zero, sub-zero) refl }
-
-module _ {l₀ : List ℕ} {at k v i : ℕ} {l : List ℕ} (f : Filling l₀ at k v i l) where
-  pub fill_more : i < k → at + k ≤ length l₀ → Filling l₀ at k v (i + 1) (set l (at + i) v)
-  fill_more h b =
-      let e : k - i ≡ suc (k - (i + 1)) = omega arith in
-      let g : at + (i + 1) ≡ at + i + 1 = omega arith in
-      record {
-        within = omega arith;
-        long = length-set l (at + i) v ∙ f.long;
-        whole = rw g (patch-set (at + i) v (replicate (k - (i + 1)) v) l (omega (arith, f.long)) ∙ ap (λ (j : ℕ). patch (at + i) (replicate j v) l) (sym e) ∙ f.whole);
-      }
-
-  pub fill_done : k ≤ i → l ≡ patch at (replicate k v) l₀
-  fill_done h =
-      let e : k - i ≡ 0 = omega arith in
-      sym (patch-none (at + i) l) ∙ ap (λ (j : ℕ). patch (at + i) (replicate j v) l) (sym e) ∙ f.whole

@@ -1,4 +1,4 @@
-// Tests on every number of a part of a list. None has an early exit, so that each compiles to vector code.
+// Tests on every number of a part of a list, compiled to vector code.
 ghost use Rattle.graphs.specs.Bools.{Decides};
 ghost use Rattle.layout.specs.Compare.{Within, CanCompare, SamePart, PartUpTo, PartBelow};
 
@@ -7,13 +7,7 @@ pub fn same_numbers(a: &[u32], at: usize, b: &[u32], from: usize, n: usize) -> b
     requires { CanCompare a.now at b.now from n }
     ensures { Decides (SamePart a.now at b.now from n) result }
 {
-    let mut same = true;
-    let mut i = 0;
-    while i < n {
-        same = same & (a[at + i] == b[from + i]);
-        i += 1;
-    }
-    same
+    a[at..at + n] == b[from..from + n]
 }
 
 // Each of the k numbers from `at` on is at most `bound`.
@@ -22,10 +16,9 @@ pub fn none_above(list: &[u32], at: usize, k: usize, bound: u32) -> bool
     ensures { Decides (PartUpTo list.now at k bound) result }
 {
     let mut fits = true;
-    let mut i = 0;
-    while i < k {
-        fits = fits & (list[at + i] <= bound);
-        i += 1;
+    // no early exit, so that this is vector code
+    for &x in &list[at..at + k] {
+        fits &= x <= bound;
     }
     fits
 }

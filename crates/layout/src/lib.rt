@@ -14,11 +14,7 @@ pub fn copy(area: &mut [u32], at: usize, from: &[u32], start: usize, k: usize)
     requires { CanCopy area.old at from.now start k }
     ensures { area.new ≡ patch at (part start k from.now) area.old }
 {
-    let mut i = 0;
-    while i < k {
-        area[at + i] = from[start + i];
-        i += 1;
-    }
+    area[at..at + k].copy_from_slice(&from[start..start + k]);
 }
 
 // v is written k times from `at` on.
@@ -26,9 +22,5 @@ pub fn fill_with(area: &mut [u32], at: usize, k: usize, v: u32)
     requires { at + k ≤ length area.old }
     ensures { area.new ≡ patch at (replicate k v) area.old }
 {
-    let mut i = 0;
-    while i < k {
-        area[at + i] = v;
-        i += 1;
-    }
+    area[at..at + k].fill(v);
 }

@@ -1,25 +1,22 @@
 -- Laws of the loops that follow merges to their ends. Assumes nothing.
-use Prim.Native.Nat.{ℕ, ◌+◌, ◌-◌, ◌^◌, ◌<◌, ◌≤◌}
+use Prim.Native.Nat.{ℕ, ◌+◌, ◌^◌, ◌<◌, ◌≤◌}
 use native.Mathlib.Omega.{arith}
 use native.Mathlib.Decide.{ℕ_discrete}
 use native.Mathlib.Nat.{pow-suc}
 use mathlib.Core.Path.{◌≡◌, refl, sym, ap, subst, ◌∙◌}
-use mathlib.Core.Bool.{Bool, true, false, not, cond, ◌&&◌}
+use mathlib.Core.Bool.{true, cond}
 use mathlib.Core.List.{List}
 use lib.ListN.{get_or, length, set, length-set}
 use lib.Seq.{get_or-set_same, get_or-set_other}
-use lib.Dec.{eqb, ltb}
-use borrow.Author.Tests.{eq-eqb, ne_eqb, lt-ltb, le-ltb}
-use Rattle.graphs.specs.Lists.{below}
-use Rattle.graphs.specs.Walk.{cyclic}
+use lib.Dec.{eqb}
+use borrow.Author.Tests.{eq-eqb, ne_eqb}
 use Rattle.merge_state.specs.declared.Sizes.{Sizes}
 use Rattle.merge_state.specs.State.{None}
-use Rattle.merge_state.specs.Merges.{ending, merged_into, gone, waits}
-use Rattle.merge_area.specs.Layout.{cell, head, need, into}
-use Rattle.merge_area.specs.Read.{read, needs_in, mode_in, into_in}
-use Rattle.merge_area.specs.Consistent.{faults, lane_faults, merges_fault}
+use Rattle.merge_area.specs.Layout.{cell, head, into}
+use Rattle.merge_area.specs.Read.{mode_in, into_in}
+use Rattle.merge_area.specs.Consistent.{lane_faults}
 use Rattle.merge_area.specs.Within.{Headed}
-use Rattle.merge_area.specs.Merged.{Range, Far, Inside, Led, Doubled, CanFollow, into-at, into-off, into_past, lane_range, first_far, far_on, far_less}
+use Rattle.merge_area.specs.Merged.{Range, Far, Inside, Led, Doubled, CanFollow, into-at, lane_range, first_far, far_on, far_less}
 
 -- one step is taken from the first k chunks
 pub record Stepped (f : ℕ → ℕ) (n k : ℕ) (l₀ l : List ℕ) : Type 0 where
@@ -126,43 +123,8 @@ module _ (n : ℕ) where
 pub left_at : {z : Sizes} {a : List ℕ} {n x p : ℕ} → CanFollow z a n → x < n → p ≡ into z x → get_or a p 0 ≡ into_in z a x
 left_at {z} {a} {n} {x} can b e = ap (cell a) e ∙ sym (into-at z a x can.on (omega (arith, can.few)))
 
--- a chunk that was merged away, and one that waits
-module _ (z : Sizes) (a : List ℕ) (x : ℕ) where
-  pub not_gone-off : mode_in z a ≡ false → false ≡ gone (read z a) x
-  not_gone-off m = rw (into-off z a m x)
-
-  pub not_gone_past : z.chunks ≤ x → false ≡ gone (read z a) x
-  not_gone_past h = rw (into_past z a x h)
-
-  pub gone_at : {p : ℕ} → mode_in z a ≡ true → x < z.chunks → p ≡ into z x → not (eqb (cell a p) None) ≡ gone (read z a) x
-  gone_at m b e = ap (λ v. not (eqb v None)) (ap (cell a) e ∙ sym (into-at z a x m b))
-
-  pub needless : {p : ℕ} → p ≡ need z x → x < z.chunks → cell a p ≡ 0 → false ≡ waits (read z a) x
-  unfolding needs_in
-  needless e b h = rw (lt-ltb x z.chunks b, sym (ap (cell a) e) ∙ h)
-
-  pub waits-at : {p : ℕ} {r : Bool} → p ≡ need z x → x < z.chunks → (cell a p ≡ 0 → ⊥) → r ≡ gone (read z a) x → not r ≡ waits (read z a) x
-  unfolding needs_in
-  waits-at e b h q = rw (lt-ltb x z.chunks b, ne_eqb (cell a (need z x)) 0 (λ k. h (ap (cell a) e ∙ k))) (ap not q)
-
--- the tests of `merges_fault`, in order
+-- recorded merges without a fault
 module _ (z : Sizes) (a : List ℕ) where
-  pub lane_sum : {p q m r s : ℕ} → m ≡ cell a (head z 1) → p ≡ into z 0 → q ≡ into z m → r ≡ faults a p m m true → s ≡ faults a q (z.chunks - m) 0 true → r + s ≡ lane_faults z a
-  unfolding lane_faults
-  lane_sum e f g h i = rw (h, i, f, g, e)
-
-  pub mode_is : {v : ℕ} → v ≡ cell a (head z 5) → not (eqb v 0) ≡ mode_in z a
-  unfolding mode_in
-  mode_is e = rw e
-
-  pub no_merges : mode_in z a ≡ false → false ≡ merges_fault z a
-  unfolding merges_fault
-  no_merges h = rw h
-
-  pub odd_lane : mode_in z a ≡ true → 0 < lane_faults z a → true ≡ merges_fault z a
-  unfolding merges_fault
-  odd_lane h k = rw (h, lt-ltb 0 (lane_faults z a) k)
-
   pub can_follow : {n : ℕ} → Headed z a → mode_in z a ≡ true → lane_faults z a ≤ 0 → n ≡ cell a (head z 1) → CanFollow z a n
   can_follow {n} h m k e =
       record {
@@ -172,7 +134,3 @@ module _ (z : Sizes) (a : List ℕ) where
         on = m;
         range = rw e (lane_range z a m h.fits (omega arith));
       }
-
-  pub odd_ring : {n : ℕ} {r : Bool} → mode_in z a ≡ true → lane_faults z a ≤ 0 → n ≡ cell a (head z 1) → r ≡ cyclic (merged_into (into_in z a)) (below n) → r ≡ merges_fault z a
-  unfolding merges_fault
-  odd_ring h k e q = q ∙ ap (λ n. cyclic (merged_into (into_in z a)) (below n)) e ∙ (rw (h, le-ltb 0 (lane_faults z a) k))

@@ -1,4 +1,4 @@
--- The table on the area: what a call answers and leaves, and lists of calls. Sentences quoted are document 01's. Assumes nothing.
+-- The table on the area: what a call answers and leaves, and lists of calls. Assumes nothing.
 use Rattle.std.specs.Prelude.{ℕ, ◌≡◌, Bool, ◌||◌, List, [], ◌∷◌, length}
 use Rattle.merge_state.specs.declared.Sizes.{Sizes}
 use Rattle.merge_state.specs.Table.{Answer, done, refused, says, chunk, nothing, lists, Call, first_fitting, over_lists, bad_lists, later, acted, turned}
@@ -6,11 +6,11 @@ use Rattle.merge_area.specs.Read.{read}
 use Rattle.merge_area.specs.Writes.{write}
 use Rattle.merge_area.specs.Consistent.{over, short, inconsistent}
 
--- "Merge calls check 14, 15; .. later 21": many and faulty are what the call's own lists say to 14 and 15
+-- Every call checks 14, 15 and 21 first: many and faulty are what the call's own lists say to 14 and 15
 unfoldable pub standing : Sizes → Bool → Bool → List ℕ → ℕ
 standing z many faulty a = first_fitting ((over z || many, 14) ∷ (faulty || short z a, 15) ∷ (inconsistent z a, 21) ∷ [])
 
--- "The first fitting row wins"
+-- The first fitting row wins
 unfoldable pub refusal : Sizes → List ℕ → Call → ℕ
 refusal z a c = first_fitting ((over z || over_lists c, 14) ∷ (bad_lists z c || short z a, 15) ∷ (inconsistent z a, 21) ∷ later z (read z a) c)
 
@@ -32,7 +32,7 @@ lists_after (chunk x) l = l
 lists_after nothing l = l
 lists_after (lists k n) l = (k, n)
 
--- how many candidates an answer assigns: "Two answer lists, one entry per candidate"
+-- how many candidates an answer assigns: its two lists have one entry for each
 unfoldable pub candidates : Answer → ℕ
 candidates done = 0
 candidates (refused n) = 0
@@ -47,7 +47,7 @@ pub record PassCalled (z : Sizes) (a : List ℕ) (c : Call) (before : List ℕ �
   pub counted : count ≡ candidates (step z a c).0
   pub lists : left ≡ lists_after (step z a c).0 before
 
--- Lists of calls: "each call is lent the area as the last one left it"
+-- Lists of calls: each call is lent the area as the last one left it
 unfoldable pub ends : Sizes → List ℕ → List Call → List ℕ
 ends z a [] = a
 ends z a (c ∷ l) = ends z (step z a c).1 l

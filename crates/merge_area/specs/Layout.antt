@@ -2,7 +2,7 @@
 use Rattle.std.specs.Prelude.{ℕ, ◌+◌, ◌*◌, List, get_or}
 use Rattle.merge_state.specs.declared.Sizes.{Sizes}
 
--- "area below C×C + 32×(C + M + L + 1)": the length that an area has at least
+-- the length that an area has at least
 abbrev pub room : Sizes → ℕ
 room z = z.chunks * z.chunks + 32 * (z.chunks + z.modules + z.entries + 1)
 

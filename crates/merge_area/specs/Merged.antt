@@ -1,15 +1,15 @@
 -- Merges of an area followed to their ends, by doubling. Assumes nothing.
-use Rattle.std.specs.Prelude.{ℕ, ◌+◌, ◌-◌, ◌*◌, ◌<◌, ◌≤◌, ◌≡◌, Bool, not, ◌&&◌, List, get_or, length, set, eqb}
+use Rattle.std.specs.Prelude.{ℕ, ◌+◌, ◌-◌, ◌<◌, ◌≤◌, ◌≡◌, Bool, not, ◌&&◌, List, get_or, length, eqb}
 use native.Mathlib.Omega.{arith}
-use Rattle.std.proofs.Math.Decide.{ℕ_discrete, dec_lt}
+use Rattle.std.proofs.Math.Decide.{dec_lt}
 use Rattle.std.proofs.Math.Path.{refl, ap}
 use Rattle.std.proofs.Common.{sym, ◌∙◌}
 use Rattle.std.proofs.Math.Bool.{true, false, cond}
 use Rattle.std.proofs.Math.Dec.{ltb}
 use borrow.Author.Tests.{eqb-false, ne_eqb, lt-ltb, le-ltb, not-true}
-use Rattle.graphs.specs.Bools.{alike, fails}
+use Rattle.graphs.specs.Bools.{alike}
 use Rattle.graphs.specs.Lists.{some_below, below, some_give, some_take}
-use Rattle.graphs.specs.Walk.{Walk, one, more, cyclic}
+use Rattle.graphs.specs.Walk.{Walk, cyclic}
 use Rattle.graphs.specs.Walks.{cyclic_walk, acyclic_walk, sources-below, walk_from}
 use Rattle.merge_state.specs.declared.Sizes.{Sizes}
 use Rattle.merge_state.specs.State.{None}
@@ -18,7 +18,7 @@ use Rattle.merge_state.specs.Ends.{step-take, further, settled, ended, ring_goes
 use Rattle.merge_area.specs.Layout.{room, cell, head, into}
 use Rattle.merge_area.specs.Read.{mode_in, into_in}
 use Rattle.merge_area.specs.Within.{Within}
-use Rattle.merge_area.specs.Consistent.{faults, lane_faults}
+use Rattle.merge_area.specs.Consistent.{lane_faults}
 use Rattle.merge_area.specs.Faults.{part_free}
 
 -- a merge is one of the first n chunks, into one of them

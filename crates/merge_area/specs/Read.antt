@@ -33,7 +33,7 @@ home_in z a m = cond (ltb m z.modules) (cell a (home z m)) None
 unfoldable pub keys_in : Sizes → List ℕ → ℕ → ℕ
 keys_in z a k = cond (ltb k z.chunks) (cell a (key z k)) None
 
--- "chosen at loading by a nonzero number" (document 02, (vii))
+-- chosen at loading by a nonzero number
 unfoldable pub mode_in : Sizes → List ℕ → Bool
 mode_in z a = yes (cell a (head z 5))
 

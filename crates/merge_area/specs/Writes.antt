@@ -33,7 +33,7 @@ open_area z a v =
 unfoldable pub init_area : Sizes → List ℕ → ℕ → ℕ → Bool → ℕ → List ℕ
 init_area z a m v e x = cond (eqb x None) (append_area z (open_area z a v) (cell a (head z 1)) m e) (append_area z a x m e)
 
--- chunk x depends on y, "if assigned and different"
+-- chunk x depends on y, if assigned and different
 unfoldable pub link : Sizes → List ℕ → ℕ → ℕ → List ℕ
 link z a x y = cond (eqb y None || eqb x y) a (set a (x * z.chunks + y) 1)
 
@@ -50,7 +50,7 @@ calc_area z starts deps a (suc n) =
     let m = cell r (entry_module z n) in
     linked z deps (cell r (entry_chunk z n)) (get_or starts m 0) r (get_or starts (m + 1) 0 - get_or starts m 0)
 
--- a number of the merged row, from the two rows' numbers there: "the union without itself"
+-- a number of the merged row, from the two rows' numbers there: the union without itself
 unfoldable pub union_cell : ℕ → ℕ → ℕ → ℕ → ℕ
 union_cell a b y t = ind ((yes a || yes b) && not (eqb y t))
 
@@ -62,7 +62,7 @@ within b k i = leb b i && ltb i (b + k)
 unfoldable pub merging : List ℕ → ℕ → ℕ → ℕ → ℕ → ℕ → ℕ
 merging l c t s k i = cond (within (t * c) k i) (union_cell (get_or l i 0) (get_or l (s * c + (i - t * c)) 0) (i - t * c) t) (cond (within (s * c) k i) 0 (get_or l i 0))
 
--- "target gets the union without itself, source's set empties"; every other number as it was
+-- target gets the union without itself, source's set empties; every other number as it was
 unfoldable pub merged_rows : List ℕ → ℕ → ℕ → ℕ → List ℕ
 merged_rows l c t s = tab (merging l c t s c) (length l)
 

@@ -1,50 +1,46 @@
-// The merge area: its limits and length, its header, its sets, and the first of rows 14, 15 and 21 that fits.
+// The merge area: its limits and length, its header, its sets, and whether an area and its sizes stand.
 #![tactic(auto)]
 
 pub mod merges; // merges.rt: recorded merges and their ends
 pub mod places; // places.rt: where the numbers of the area stand
 
-ghost use Rattle.std.specs.Prelude.{◌≡◌, false, ℕ, ◌+◌, ◌-◌, ◌*◌, ◌<◌, ◌≤◌, length};
-ghost use Rattle.graphs.specs.Count.{ind};
+ghost use Rattle.std.specs.Prelude.{◌≡◌, false, ℕ, ◌+◌, ◌-◌, ◌*◌, ◌<◌, ◌≤◌, length, IfOk};
+ghost use Rattle.refusals.specs.Rows.{row_of};
 ghost use Rattle.graphs.specs.Lists.{some_below};
 ghost use Rattle.entry_set.specs.Sets.{number, Holds};
 ghost use Rattle.entry_set.specs.Lanes.{lanes};
 ghost use Rattle.merge_state.specs.State.{chunk_of, misfit, pairs};
+ghost use Rattle.merge_state.specs.Named.{named};
 ghost use Rattle.merge_state.specs.Loading.{twice};
 ghost use Rattle.merge_area.specs.Layout.{room, cell, head, set_place};
-ghost use Rattle.merge_area.specs.Read.{named_set};
-ghost use Rattle.merge_area.specs.Consistent.{over, short, Faults, row_fault, flags_fault, head_fault, index_faults, out_of_range, inconsistent};
+ghost use Rattle.merge_area.specs.Read.{named_set, sets-in};
+ghost use Rattle.merge_area.specs.Consistent.{over, short, Faults, row_fault, flags_fault, head_fault, index_faults, out_of_range, body_fault, inconsistent};
 ghost use Rattle.merge_area.specs.Calls.{standing};
 ghost use Rattle.merge_area.specs.Within.{Within, Headed, Tabled};
 
 use crate::places::{
-    entry_chunk_place, entry_module_place, head_place, home_place, key_place, need_place,
-    set_chunk_place, set_place,
+    INITIAL, MADE, SETS, USED, entry_chunk_place, entry_module_place, head_place, home_place,
+    key_place, need_place, set_chunk_place, set_place,
 };
 use entry_set::EntrySet;
 use equal_sets::row_is_distinct;
-use merge_state::{NONE, Sizes};
+use merge_state::{ChunkIdx, NONE, Sizes};
+use refusals::Refusal;
 
 // Row 14, as far as the sizes tell.
+#[tactic(auto, unfolding(crate::specs::Consistent::over))]
 pub fn over_limits(sizes: Sizes) -> bool
     ensures { result ≡ over sizes }
 {
-    if sizes.chunks == 0 {
-        return true;
-    }
-    if 1024 < sizes.chunks {
-        return true;
-    }
-    if 4096 < sizes.modules {
-        return true;
-    }
-    if 8192 < sizes.entries {
-        return true;
-    }
-    256 < sizes.bits
+    sizes.chunks == 0
+        || 1024 < sizes.chunks
+        || 4096 < sizes.modules
+        || 8192 < sizes.entries
+        || 256 < sizes.bits
 }
 
 // Row 15, as far as the area's length tells.
+#[tactic(auto, unfolding(crate::specs::Consistent::short))]
 pub fn too_short(sizes: Sizes, area: &[u32]) -> bool
     requires { Within sizes }
     ensures { result ≡ short sizes area.now }
@@ -53,227 +49,222 @@ pub fn too_short(sizes: Sizes, area: &[u32]) -> bool
         < sizes.chunks * sizes.chunks + 32 * (sizes.chunks + sizes.modules + sizes.entries + 1)
 }
 
-// Number k of the header.
+// Number k of the header: INITIAL, MADE, CREATED, SETS, USED or MODE.
 pub fn header(sizes: Sizes, area: &[u32], k: usize) -> u32
     requires { Within sizes × (room sizes ≤ length area.now) × (k < 32) }
     ensures { result ≡ cell area.now (head sizes k) }
 {
-    let at = head_place(sizes, k);
-    area[at]
+    area[head_place(sizes, k)]
 }
 
-// How many of the one number v misfit: 1 where it isn't below top, nor None where that is allowed.
-fn count_misfit(v: u32, top: usize, free: bool) -> usize
-    ensures { result ≡ ind (misfit top free v) }
+// The number isn't below top, nor NONE where that is allowed.
+#[tactic(auto, unfolding(merge_state::specs::State::misfit))]
+fn is_misfit(number: u32, top: usize, free: bool) -> bool
+    ensures { result ≡ misfit top free number }
 {
-    if (v as usize) < top {
-        return 0;
-    }
-    if free {
-        if v == NONE {
-            return 0;
-        }
-    }
-    1
+    top <= number as usize && !(free && number == NONE)
 }
 
 // How many of the n numbers from `at` on misfit.
-pub fn count_faults(l: &[u32], at: usize, n: usize, top: usize, free: bool) -> usize
-    requires { at + n ≤ length l.now }
-    ensures { Faults l.now at n top free result }
+pub fn count_faults(list: &[u32], at: usize, n: usize, top: usize, free: bool) -> usize
+    requires { at + n ≤ length list.now }
+    ensures { Faults list.now at n top free result }
 {
-    let mut bad = 0;
-    let mut i = 0;
-    while i < n {
-        bad += count_misfit(l[at + i], top, free);
-        i += 1;
+    let mut faults = 0;
+    // a sum with no branch, which is vector code; a filter's count is not
+    for &number in &list[at..at + n] {
+        faults += usize::from(is_misfit(number, top, free));
     }
-    bad
-}
-
-// Row x of the flags, n of the c chunks made.
-fn row_has_fault(area: &[u32], c: usize, n: usize, x: usize) -> bool
-    requires { (x < n) × (n ≤ c) × (c ≤ 1024) × (c * c ≤ length area.now) }
-    ensures { result ≡ row_fault area.now c n x }
-{
-    let own = count_faults(area, x * c + x, 1, 1, false);
-    let beyond = count_faults(area, x * c + n, c - n, 1, false);
-    0 < own + beyond
-}
-
-// Some flag is set that no made chunk can have.
-fn flags_have_fault(area: &[u32], c: usize, n: usize) -> bool
-    requires { (n ≤ c) × (c ≤ 1024) × (c * c ≤ length area.now) }
-    ensures { result ≡ flags_fault area.now c n }
-{
-    let mut x = 0;
-    while x < n {
-        if row_has_fault(area, c, n, x) {
-            return true;
-        }
-        x += 1;
-    }
-    0 < count_faults(area, n * c, (c - n) * c, 1, false)
+    faults
 }
 
 // The header has a number out of range.
+#[tactic(auto, unfolding(crate::specs::Consistent::head_fault))]
 fn head_has_fault(sizes: Sizes, area: &[u32]) -> bool
     requires { Within sizes × (room sizes ≤ length area.now) }
     ensures { result ≡ head_fault sizes area.now }
 {
-    let made = header(sizes, area, 1) as usize;
-    if made < header(sizes, area, 0) as usize {
-        return true;
-    }
-    if sizes.chunks < made {
-        return true;
-    }
-    if sizes.chunks + made < header(sizes, area, 3) as usize {
-        return true;
-    }
-    sizes.entries < header(sizes, area, 4) as usize
-}
-
-// How many indices are out of range, and initial chunks need creation.
-fn count_index_faults(sizes: Sizes, area: &[u32]) -> usize
-    requires { Headed sizes area.now }
-    ensures { result ≡ index_faults sizes area.now }
-{
-    let initial = header(sizes, area, 0) as usize;
-    let made = header(sizes, area, 1) as usize;
-    let sets = header(sizes, area, 3) as usize;
-    let used = header(sizes, area, 4) as usize;
-    let a = count_faults(area, set_chunk_place(sizes, 0), sets, made, false);
-    let b = count_faults(area, key_place(sizes, 0), sizes.chunks, made, true);
-    let c = count_faults(area, home_place(sizes, 0), sizes.modules, made, true);
-    let d = count_faults(area, entry_chunk_place(sizes, 0), used, made, false);
-    let e = count_faults(
-        area,
-        entry_module_place(sizes, 0),
-        used,
-        sizes.modules,
-        false,
-    );
-    let f = count_faults(area, need_place(sizes, 0), initial, 1, false);
-    a + b + c + d + e + f
+    let made = header(sizes, area, MADE) as usize;
+    made < header(sizes, area, INITIAL) as usize
+        || sizes.chunks < made
+        || sizes.chunks + made < header(sizes, area, SETS) as usize
+        || sizes.entries < header(sizes, area, USED) as usize
 }
 
 // Set i of the table.
-pub fn set_of(sizes: Sizes, area: &[u32], i: usize) -> EntrySet
-    requires { Within sizes × (room sizes ≤ length area.now) × (i < 2 * sizes.chunks) }
-    ensures { Holds (lanes area.now (set_place sizes i) 1) result }
+pub fn set_of(sizes: Sizes, numbers: &[u32], i: usize) -> EntrySet
+    requires { Within sizes × (room sizes ≤ length numbers.now) × (i < 2 * sizes.chunks) }
+    ensures { Holds (lanes numbers.now (set_place sizes i) 1) result }
 {
-    entry_set::read_lanes(area, set_place(sizes, i), 1)
+    EntrySet::read_lanes(numbers, set_place(sizes, i), 1)
 }
 
-// One of the first n sets has a bit at or above E.
-fn sets_out_of_range(sizes: Sizes, area: &[u32], n: usize) -> bool
-    requires { Tabled sizes area.now n }
-    ensures { result ≡ some_below (out_of_range sizes area.now) n }
+// The chunk named with a set among the first n.
+pub fn chunk_of_set(sizes: Sizes, numbers: &[u32], n: usize, set: EntrySet) -> Option<ChunkIdx>
+    requires { Tabled sizes numbers.now n }
+    ensures { result ≡ named (chunk_of (number set) (pairs (named_set sizes numbers.now) n)) }
 {
-    let mut i = 0;
-    while i < n {
-        if !entry_set::in_range(set_of(sizes, area, i), sizes.bits) {
-            return true;
+    for i in 0..n {
+        if set_of(sizes, numbers, i) == set {
+            return ChunkIdx::named(numbers[set_chunk_place(sizes, i)]);
         }
-        i += 1;
     }
-    false
+    None
 }
 
-// Two of the first n sets are equal, where these are few; then the local arrays are short.
-fn few_repeat(sizes: Sizes, area: &[u32], n: usize) -> bool
-    requires { Tabled sizes area.now n × (n ≤ 128) }
-    ensures { result ≡ twice (λ (i : ℕ). lanes area.now (set_place sizes i) 1) n }
-{
-    let mut lanes = [0u32; 1024];
-    let mut order = [0u32; 128];
-    let mut scratch = [0u32; 128];
-    let at = set_place(sizes, 0);
-    !row_is_distinct(area, at, n, 128, &mut lanes, &mut order, &mut scratch)
+// A merge area that is long enough for its sizes, and whose header is in range; lent for reading.
+#[derive(Clone, Copy)]
+pub struct Area<'a> {
+    pub sizes: Sizes,
+    pub numbers: &'a [u32],
+    ghost headed: { Headed sizes numbers.now },
 }
 
-// The same of up to 2,048 sets.
-fn many_repeat(sizes: Sizes, area: &[u32], n: usize) -> bool
-    requires { Tabled sizes area.now n }
-    ensures { result ≡ twice (λ (i : ℕ). lanes area.now (set_place sizes i) 1) n }
-{
-    let mut lanes = [0u32; 16384];
-    let mut order = [0u32; 2048];
-    let mut scratch = [0u32; 2048];
-    let at = set_place(sizes, 0);
-    !row_is_distinct(area, at, n, 2048, &mut lanes, &mut order, &mut scratch)
-}
-
-// Two of the first n sets are equal.
-fn sets_repeat(sizes: Sizes, area: &[u32], n: usize) -> bool
-    requires { Tabled sizes area.now n }
-    ensures { result ≡ twice (λ (i : ℕ). lanes area.now (set_place sizes i) 1) n }
-{
-    if n <= 128 {
-        return few_repeat(sizes, area, n);
+impl<'a> Area<'a> {
+    // Number k of the header.
+    pub fn header(&self, k: usize) -> u32
+        requires { k < 32 }
+        ensures { result ≡ cell self.now.numbers.now (head self.now.sizes k) }
+    {
+        header(self.sizes, self.numbers, k)
     }
-    many_repeat(sizes, area, n)
+
+    // Row x of the flags has one that no made chunk can have.
+    #[tactic(auto, unfolding(crate::specs::Consistent::row_fault))]
+    fn row_has_fault(&self, x: usize) -> bool
+        requires { x < cell self.now.numbers.now (head self.now.sizes 1) }
+        ensures { result ≡ row_fault self.now.numbers.now self.now.sizes.chunks (cell self.now.numbers.now (head self.now.sizes 1)) x }
+    {
+        let from = x * self.sizes.chunks;
+        let made = self.header(MADE) as usize;
+        let unmade = self.sizes.chunks - made;
+        let own = count_faults(self.numbers, from + x, 1, 1, false);
+        let beyond = count_faults(self.numbers, from + made, unmade, 1, false);
+        0 < own + beyond
+    }
+
+    // Some flag is set that no made chunk can have.
+    fn flags_have_fault(&self) -> bool
+        ensures { result ≡ flags_fault self.now.numbers.now self.now.sizes.chunks (cell self.now.numbers.now (head self.now.sizes 1)) }
+    {
+        let chunks = self.sizes.chunks;
+        let made = self.header(MADE) as usize;
+        for x in 0..made {
+            if self.row_has_fault(x) {
+                return true;
+            }
+        }
+        0 < count_faults(
+            self.numbers,
+            made * chunks,
+            (chunks - made) * chunks,
+            1,
+            false,
+        )
+    }
+
+    // How many indices are out of range, and initial chunks need creation.
+    #[tactic(auto, unfolding(crate::specs::Consistent::index_faults))]
+    fn count_index_faults(&self) -> usize
+        ensures { result ≡ index_faults self.now.sizes self.now.numbers.now }
+    {
+        let sizes = self.sizes;
+        let initial = self.header(INITIAL) as usize;
+        let made = self.header(MADE) as usize;
+        let sets = self.header(SETS) as usize;
+        let used = self.header(USED) as usize;
+        let count = |at, n, top, free| count_faults(self.numbers, at, n, top, free);
+        count(set_chunk_place(sizes, 0), sets, made, false)
+            + count(key_place(sizes, 0), sizes.chunks, made, true)
+            + count(home_place(sizes, 0), sizes.modules, made, true)
+            + count(entry_chunk_place(sizes, 0), used, made, false)
+            + count(entry_module_place(sizes, 0), used, sizes.modules, false)
+            + count(need_place(sizes, 0), initial, 1, false)
+    }
+
+    // One of the sets has a bit at or above E.
+    fn sets_out_of_range(&self) -> bool
+        ensures { result ≡ some_below (out_of_range self.now.sizes self.now.numbers.now) (cell self.now.numbers.now (head self.now.sizes 3)) }
+    {
+        for i in 0..self.header(SETS) as usize {
+            if !set_of(self.sizes, self.numbers, i).in_range(self.sizes.bits) {
+                return true;
+            }
+        }
+        false
+    }
+
+    // Two of the sets are equal, told apart in local arrays for so many of them and their words.
+    fn repeat_among<const ROOM: usize, const WORDS: usize>(&self) -> bool
+        requires { (cell self.now.numbers.now (head self.now.sizes 3) ≤ ROOM) × (ROOM ≤ 2048) × (WORDS ≡ 8 * ROOM) }
+        ensures { result ≡ twice (λ (i : ℕ). lanes self.now.numbers.now (set_place self.now.sizes i) 1) (cell self.now.numbers.now (head self.now.sizes 3)) }
+    {
+        let mut lanes = [0u32; WORDS];
+        let mut order = [0u32; ROOM];
+        let at = set_place(self.sizes, 0);
+        let n = self.header(SETS) as usize;
+        !row_is_distinct(self.numbers, at, n, ROOM, &mut lanes, &mut order)
+    }
+
+    // Two of the sets are equal. Where they are few the local arrays are short, which is quicker.
+    fn sets_repeat(&self) -> bool
+        ensures { result ≡ twice (λ (i : ℕ). lanes self.now.numbers.now (set_place self.now.sizes i) 1) (cell self.now.numbers.now (head self.now.sizes 3)) }
+    {
+        if self.header(SETS) <= 128 {
+            self.repeat_among::<128, 1024>()
+        } else {
+            self.repeat_among::<2048, 16384>()
+        }
+    }
+
+    // Row 21, the header apart.
+    #[tactic(auto, unfolding(crate::specs::Consistent::sets_fault))]
+    fn has_fault(&self) -> bool
+        ensures { result ≡ body_fault self.now.sizes self.now.numbers.now }
+    {
+        self.flags_have_fault()
+            || 0 < self.count_index_faults()
+            || self.merges_have_fault()
+            || self.sets_out_of_range()
+            || self.sets_repeat()
+    }
+
+    // The chunk named with a set.
+    pub fn chunk_of_set(&self, set: EntrySet) -> Option<ChunkIdx>
+        ensures { result ≡ named (chunk_of (number set) (sets-in self.now.sizes self.now.numbers.now)) }
+    {
+        chunk_of_set(self.sizes, self.numbers, self.header(SETS) as usize, set)
+    }
 }
 
 // Row 21.
-pub fn is_inconsistent(sizes: Sizes, area: &[u32]) -> bool
-    requires { Within sizes × (room sizes ≤ length area.now) }
-    ensures { result ≡ inconsistent sizes area.now }
+#[tactic(auto, unfolding(crate::specs::Consistent::inconsistent))]
+pub fn is_inconsistent(sizes: Sizes, numbers: &[u32]) -> bool
+    requires { Within sizes × (room sizes ≤ length numbers.now) }
+    ensures { result ≡ inconsistent sizes numbers.now }
 {
-    if head_has_fault(sizes, area) {
-        return true;
-    }
-    if flags_have_fault(area, sizes.chunks, header(sizes, area, 1) as usize) {
-        return true;
-    }
-    if 0 < count_index_faults(sizes, area) {
-        return true;
-    }
-    if crate::merges::merges_have_fault(sizes, area) {
-        return true;
-    }
-    let sets = header(sizes, area, 3) as usize;
-    if sets_out_of_range(sizes, area, sets) {
-        return true;
-    }
-    sets_repeat(sizes, area, sets)
+    head_has_fault(sizes, numbers) || Area { sizes, numbers }.has_fault()
 }
 
-// The chunk named with a set among the first n, or None.
-pub fn chunk_of_set(sizes: Sizes, area: &[u32], n: usize, set: EntrySet) -> u32
-    requires { Tabled sizes area.now n }
-    ensures { result ≡ chunk_of (number set) (pairs (named_set sizes area.now) n) }
+// The area, if none of rows 14, 15 and 21 fits, or the first that does; many and faulty are what the call's own lists say to 14 and 15.
+#[tactic(auto, unfolding(crate::specs::Calls::standing, merge_state::specs::Table::first_fitting, crate::specs::Consistent::over))]
+pub fn standing_row<'a>(
+    sizes: Sizes,
+    many: bool,
+    faulty: bool,
+    numbers: &'a [u32],
+) -> Result<Area<'a>, Refusal>
+    ensures row { row_of result ≡ standing sizes many faulty numbers.now }
+    ensures area { IfOk result (λ a. (a.sizes ≡ sizes) × (a.numbers.now ≡ numbers.now)) }
 {
-    let mut i = 0;
-    while i < n {
-        if entry_set::equal(set_of(sizes, area, i), set) {
-            let at = set_chunk_place(sizes, i);
-            return area[at];
-        }
-        i += 1;
+    if over_limits(sizes) || many {
+        return Err(Refusal::MergeOverLimits);
     }
-    NONE
-}
-
-// The first of rows 14, 15 and 21 that fits, 0 where none does; many and faulty are what the call's own lists say to 14 and 15.
-pub fn standing_row(sizes: Sizes, many: bool, faulty: bool, area: &[u32]) -> u32
-    ensures { result ≡ standing sizes many faulty area.now }
-{
-    if over_limits(sizes) {
-        return 14;
+    if faulty || too_short(sizes, numbers) {
+        return Err(Refusal::MergeLists);
     }
-    if many {
-        return 14;
+    if is_inconsistent(sizes, numbers) {
+        return Err(Refusal::MergeAreaInconsistent);
     }
-    if faulty {
-        return 15;
-    }
-    if too_short(sizes, area) {
-        return 15;
-    }
-    if is_inconsistent(sizes, area) {
-        return 21;
-    }
-    0
+    Ok(Area { sizes, numbers })
 }

@@ -5,6 +5,20 @@ ghost use Rattle.merge_area.specs.Within.{Within};
 
 use merge_state::Sizes;
 
+// The numbers of the header: how many chunks are initial, how many are made, how many the passes created, how many sets are named, how many list
+// entries are in use, and whether merged chunks stand for their target.
+pub const INITIAL: usize = 0;
+
+pub const MADE: usize = 1;
+
+pub const CREATED: usize = 2;
+
+pub const SETS: usize = 3;
+
+pub const USED: usize = 4;
+
+pub const MODE: usize = 5;
+
 // Number k of the header.
 pub fn head_place(sizes: Sizes, k: usize) -> usize
     requires { Within sizes × (k < 2 ^ 32) }

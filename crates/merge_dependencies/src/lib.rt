@@ -5,38 +5,33 @@ ghost use Rattle.std.specs.Prelude.{◌≡◌, ◌+◌, ◌*◌, ◌<◌, length
 ghost use Rattle.merge_area.specs.Writes.{link, linked, calc_area, union_cell, merged_rows, absorb_area, record_area, merge_area};
 ghost use Rattle.merge_laws.specs.Can.{CanLink, CanLinked, CanCalc, CanMerge, CanMergeArea};
 
+use merge_area::header;
 use merge_area::places::{
-    entry_chunk_place, entry_module_place, home_place, into_place, side_place,
+    MODE, entry_chunk_place, entry_module_place, home_place, into_place, side_place,
 };
 use merge_state::{ChunkIdx, NONE, Sizes};
 use merge_writes::or_flag;
 
-// Chunk x depends on chunk y, if y isn't None nor x.
+// Chunk x depends on chunk y, if y isn't NONE nor x.
+#[tactic(auto, unfolding(merge_area::specs::Writes::link))]
 fn add_link(sizes: Sizes, area: &mut [u32], x: u32, y: u32)
     requires { CanLink sizes area.old x y }
     ensures { area.new ≡ link sizes area.old x y }
 {
-    if y == NONE {
-        return;
+    if y != NONE && x != y {
+        let at = x as usize * sizes.chunks + y as usize;
+        area[at] = 1;
     }
-    if x == y {
-        return;
-    }
-    let at = x as usize * sizes.chunks + y as usize;
-    area[at] = 1;
 }
 
-// Chunk x depends on the chunks of the n dependencies from `from` on.
-fn add_links(sizes: Sizes, area: &mut [u32], dependencies: &[u32], x: u32, from: usize, n: usize)
-    requires { CanLinked sizes area.old dependencies.now x from n }
-    ensures { area.new ≡ linked sizes dependencies.now x from area.old n }
+// Chunk x depends on the chunks of the dependencies.
+fn add_links(sizes: Sizes, area: &mut [u32], x: u32, dependencies: &[u32])
+    requires { CanLinked sizes area.old dependencies.now x 0 (length dependencies.now) }
+    ensures { area.new ≡ linked sizes dependencies.now x 0 area.old (length dependencies.now) }
 {
-    let mut j = 0;
-    while j < n {
-        let m = dependencies[from + j] as usize;
-        let y = area[home_place(sizes, m)];
+    for &m in dependencies {
+        let y = area[home_place(sizes, m as usize)];
         add_link(sizes, area, x, y);
-        j += 1;
     }
 }
 
@@ -45,31 +40,21 @@ pub fn calculate(sizes: Sizes, area: &mut [u32], starts: &[u32], dependencies: &
     requires { CanCalc sizes area.old starts.now dependencies.now used }
     ensures { area.new ≡ calc_area sizes starts.now dependencies.now area.old used }
 {
-    let mut i = 0;
-    while i < used {
+    for i in 0..used {
         let m = area[entry_module_place(sizes, i)] as usize;
-        let from = starts[m] as usize;
-        let n = starts[m + 1] as usize - from;
         let x = area[entry_chunk_place(sizes, i)];
-        add_links(sizes, area, dependencies, x, from, n);
-        i += 1;
+        let from = starts[m] as usize;
+        let end = starts[m + 1] as usize;
+        add_links(sizes, area, x, &dependencies[from..end]);
     }
 }
 
 // One number of the union of two rows, without the target itself.
+#[tactic(auto, unfolding(merge_area::specs::Writes::union_cell))]
 fn union_of(a: u32, b: u32, y: usize, target: usize) -> u32
     ensures { result ≡ union_cell a b y target }
 {
-    if y == target {
-        return 0;
-    }
-    if a != 0 {
-        return 1;
-    }
-    if b != 0 {
-        return 1;
-    }
-    0
+    u32::from(y != target && (a != 0 || b != 0))
 }
 
 // Number y of both rows.
@@ -87,14 +72,13 @@ fn merge_rows(flags: &mut [u32], c: usize, target: usize, source: usize)
     requires { CanMerge flags.old c target source }
     ensures { flags.new ≡ merged_rows flags.old c target source }
 {
-    let mut y = 0;
-    while y < c {
+    for y in 0..c {
         merge_cell(flags, c, target, source, y);
-        y += 1;
     }
 }
 
 // The two rows, and the target's side effects.
+#[tactic(auto, unfolding(merge_area::specs::Writes::absorb_area))]
 fn absorb(sizes: Sizes, area: &mut [u32], target: ChunkIdx, source: ChunkIdx)
     requires { CanMergeArea sizes area.old target.0 source.0 }
     ensures { area.new ≡ absorb_area sizes area.old target.0 source.0 }
@@ -107,17 +91,18 @@ fn absorb(sizes: Sizes, area: &mut [u32], target: ChunkIdx, source: ChunkIdx)
 }
 
 // Where merged chunks stand for their target, the source is recorded as merged into it.
+#[tactic(auto, unfolding(merge_area::specs::Writes::record_area, merge_area::specs::Read::mode_in))]
 fn record_merge(sizes: Sizes, area: &mut [u32], target: ChunkIdx, source: ChunkIdx)
     requires { CanMergeArea sizes area.old target.0 source.0 }
     ensures { area.new ≡ record_area sizes area.old target.0 source.0 }
 {
-    if merge_area::header(sizes, area, 5) == 0 {
-        return;
+    if header(sizes, area, MODE) != 0 {
+        area[into_place(sizes, source.0 as usize)] = target.0;
     }
-    area[into_place(sizes, source.0 as usize)] = target.0;
 }
 
 // The target takes over the source's dependencies and side effects.
+#[tactic(auto, unfolding(merge_area::specs::Writes::merge_area))]
 pub fn merge(sizes: Sizes, area: &mut [u32], target: ChunkIdx, source: ChunkIdx)
     requires { CanMergeArea sizes area.old target.0 source.0 }
     ensures { area.new ≡ merge_area sizes area.old target.0 source.0 }

@@ -22,7 +22,7 @@ use Rattle.merge_state.specs.Methods.{warns, warn, reachable}
 use Rattle.merge_state.specs.Table.{says, chunk, nothing, init_module_assignment, add_module_to_chunk, to_temp_idx, calc_chunk_dependencies, would_create_circular_dependency, is_reachable, merge_chunk_dependencies, falling, bad_starts, bad_lists, over_lists, later, acted, full}
 use Rattle.merge_state.specs.Ordered.{seen}
 use Rattle.merge_state.specs.Kept.{none-fits, no_misfit}
-use Rattle.merge_area.specs.Layout.{room, cell, head, key}
+use Rattle.merge_area.specs.Layout.{cell, head, key}
 use Rattle.merge_area.specs.Read.{read, sets-in, keys_in, entry, named_set, depends_in, mode_in, into_in}
 use Rattle.merge_area.specs.Merged.{Led, led_end}
 use Rattle.merge_state.specs.Pairs.{pairs-length, pairs-at}

@@ -1,14 +1,13 @@
 -- An area that row 21 doesn't refuse holds a graph in order. Assumes nothing.
-use Rattle.std.specs.Prelude.{ℕ, ◌+◌, ◌-◌, ◌*◌, ◌^◌, ◌<◌, ◌≤◌, ◌≡◌, ◌⊎◌, Bool, not, cond, ◌&&◌, ◌||◌, get_or}
+use Rattle.std.specs.Prelude.{ℕ, ◌+◌, ◌-◌, ◌*◌, ◌^◌, ◌<◌, ◌≤◌, ◌≡◌, ◌⊎◌, Bool, cond, ◌&&◌, ◌||◌}
 use Rattle.std.proofs.Common.{arith, sym, ◌∙◌, inl, inr, true≢false}
 use Rattle.std.proofs.Math.Decide.{ℕ_discrete, dec_lt}
 use Rattle.std.proofs.Math.Path.{refl, ap, fun_ext}
 use Rattle.std.proofs.Math.Bool.{true, false}
 use mathlib.Core.List.{List}
 use Rattle.std.proofs.Math.Dec.{eqb, ltb}
-use borrow.Author.Tests.{eqb-false, ne_eqb, leb-false, ltb-true, ltb-false, lt-ltb, le-ltb, not-true, not-false}
+use borrow.Author.Tests.{eqb-false, ltb-true, ltb-false, lt-ltb, le-ltb, not-true, not-false}
 use Rattle.graphs.specs.Bools.{alike, fails, and_left, and_right, and_both, or_false_left, or_false_right}
-use Rattle.graphs.specs.Count.{count_pos}
 use Rattle.graphs.specs.Lists.{some_below, below, some_none}
 use Rattle.graphs.specs.Walk.{Walk, one, more, cyclic}
 use Rattle.graphs.specs.Walks.{sources-below, acyclic_walk}
@@ -17,14 +16,14 @@ use Rattle.graph_walks.specs.ClosedLaws.{flag_from, flag-to, flag_is}
 use Rattle.entry_set.specs.Lanes.{lanes}
 use Rattle.entry_set.specs.SetLaws.{sets-room}
 use Rattle.merge_state.specs.declared.Sizes.{Sizes}
-use Rattle.merge_state.specs.State.{None, misfit, at}
+use Rattle.merge_state.specs.State.{None, at}
 use Rattle.merge_state.specs.Loading.{came_before, twice}
 use Rattle.merge_state.specs.Warning.{Sound}
 use Rattle.merge_state.specs.Merges.{merged_into}
 use Rattle.merge_state.specs.Ends.{Merges, step-take}
 use Rattle.merge_state.specs.Ordered.{Ordered}
 use Rattle.merge_area.specs.FlagRows.{rows-rest}
-use Rattle.merge_area.specs.Layout.{room, cell, head, set_place, set_chunk, need, key, home, entry_chunk, entry_module}
+use Rattle.merge_area.specs.Layout.{cell, head, set_place, set_chunk, need, key, home, entry_chunk, entry_module}
 use Rattle.merge_area.specs.Read.{read, named_set, entry, depends_in, needs_in, home_in, keys_in, mode_in, into_in}
 use Rattle.merge_state.specs.Pairs.{pairs-length, pairs-at}
 use Rattle.merge_area.specs.Consistent.{faults, row_fault, flags_fault, index_faults, lane_faults, merges_fault, out_of_range, sets_fault, inconsistent, head_fault}

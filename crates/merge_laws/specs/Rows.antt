@@ -4,6 +4,8 @@ use Rattle.std.proofs.Common.{arith, ◌∙◌}
 use Rattle.std.proofs.Math.Path.{refl, sym, ap}
 use Rattle.std.proofs.Math.Bool.{true, false}
 use Rattle.graphs.specs.Bools.{or_false_left, or_false_right}
+use Rattle.refusals.specs.declared.Refusal.{Refusal}
+use Rattle.refusals.specs.Rows.{row}
 use Rattle.merge_state.specs.declared.Sizes.{Sizes}
 use borrow.Author.Tests.{leb-false}
 use Rattle.merge_state.specs.Table.{register_chunk_graph_index, Answer, refused, Call, first_fitting, over_lists, bad_lists, later, acted, turned}
@@ -45,11 +47,18 @@ module _ (l : List (Bool × ℕ)) where
   go_on false false true h = absurd (omega arith)
   go_on false false false h = refl
 
+-- no row has number 0
+pub row_some : (r : Refusal) → row r ≡ 0 → ⊥
+row_some r h = grind arith
+
 module _ (z : Sizes) (a : List ℕ) (c : Call) where
   -- rows 14, 15 and 21 refuse the call
   pub early : {q : ℕ} → q ≡ standing z (over_lists c) (bad_lists z c) a → (q ≡ 0 → ⊥) → q ≡ refusal z a c
   unfolding standing refusal
   early e h = e ∙ stop (later z (read z a) c) (over z || over_lists c) (bad_lists z c || short z a) (inconsistent z a) (λ k. h (e ∙ k))
+
+  pub early-row : (r : Refusal) → row r ≡ standing z (over_lists c) (bad_lists z c) a → row r ≡ refusal z a c
+  early-row r e = early e (row_some r)
 
   -- they don't: the later rows decide
   pub late : (q r : ℕ) → q ≡ standing z (over_lists c) (bad_lists z c) a → q ≡ 0 → r ≡ first_fitting (later z (read z a) c) → r ≡ refusal z a c

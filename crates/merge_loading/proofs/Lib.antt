@@ -1,2 +1,3 @@
 -- The laws that the proofs of `merge_loading` cite. Assumes nothing.
 pub mod Laws
+pub mod Chunks

@@ -3,7 +3,7 @@ use Prim.Native.Nat.{ℕ, zero, suc, ◌+◌, ◌-◌, ◌≤◌, ◌<◌}
 use native.Mathlib.Omega.{arith}
 use Rattle.std.proofs.Math.Numerals.{add-one}
 use native.Mathlib.Decide.{ℕ_discrete}
-use Rattle.std.specs.Prelude.{◌≡◌, true, false, List, get_or, length}
+use Rattle.std.specs.Prelude.{◌≡◌, true, false, List, get_or, length, take, drop}
 use Rattle.std.proofs.Math.Path.{refl, sym, ap}
 use Rattle.std.proofs.Common.{◌∙◌, le-leb}
 use Rattle.std.proofs.Math.Bool.{Bool}
@@ -167,3 +167,21 @@ module _ {z : Sizes} {i : ℕ} {starts modules effects a₀ : List ℕ} (can : C
 
     pub list_done : k ≡ length modules → a ≡ listed_area z i starts modules effects a₀ (length modules)
     list_done e = l.area ∙ ap (listed_area z i starts modules effects a₀) e
+
+-- chunk x's part of the module list can be read
+pub record CanPart (starts modules : List ℕ) (x : ℕ) : Type 0 where
+  pub next : x + 1 < length starts
+  pub rising : get_or starts x 0 ≤ get_or starts (x + 1) 0
+  pub ends : get_or starts (x + 1) 0 ≤ length modules
+
+abbrev pub modules_of : List ℕ → List ℕ → ℕ → List ℕ
+modules_of starts modules x = take (get_or starts (x + 1) 0 - get_or starts x 0) (drop (get_or starts x 0) modules)
+
+-- the first k modules of a list, each listed with chunk x
+unfoldable pub with_area : Sizes → ℕ → List ℕ → List ℕ → List ℕ → ℕ → List ℕ
+with_area z x modules effects a zero = a
+with_area z x modules effects a (suc k) = append_area z (with_area z x modules effects a k) x (get_or modules k 0) (flag effects (get_or modules k 0))
+
+pub record CanListWith (z : Sizes) (x : ℕ) (modules effects a : List ℕ) : Type 0 where
+  pub append : (j : ℕ) → j < length modules → CanAppend z (with_area z x modules effects a j) x (get_or modules j 0)
+  pub told : (j : ℕ) → j < length modules → get_or modules j 0 < length effects

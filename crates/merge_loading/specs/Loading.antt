@@ -9,6 +9,7 @@ use Rattle.merge_state.specs.declared.Sizes.{Sizes}
 use Rattle.merge_state.specs.State.{None, yes, flag}
 use Rattle.merge_state.specs.Table.{Answer, done, first_fitting, turned}
 use Rattle.merge_state.specs.Loading.{Lent, lister, set_at, over_load, bad_load, later_load}
+use Rattle.merge_loading.specs.declared.Loading.{Loading}
 use Rattle.merge_area.specs.Layout.{head, set_place, set_chunk, side, key, into, home}
 use Rattle.merge_area.specs.Writes.{append_area}
 use Rattle.merge_area.specs.Consistent.{over, short}
@@ -16,6 +17,9 @@ use Rattle.merge_area.specs.Consistent.{over, short}
 abbrev pub lent : ℕ → List ℕ → List ℕ → List ℕ → List ℕ → List ℕ → ℕ → Lent
 lent initial starts modules flat chunks effects mode =
     record { initial = initial; starts = starts; modules = modules; flat = flat; chunks = chunks; effects = effects; mode = mode }
+
+abbrev pub lent_by : Loading → Lent
+lent_by l = lent l.initial l.starts.now l.modules.now l.sets.now l.chunks.now l.effects.now (ind l.follows_merges)
 
 -- the mode, 1 or 0, and no merge
 unfoldable pub mode_area : Sizes → ℕ → List ℕ → List ℕ

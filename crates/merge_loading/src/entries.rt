@@ -1,67 +1,43 @@
 // The list entries of a loading, and the whole.
 ghost use Rattle.std.specs.Prelude.{◌≡◌, length};
-ghost use Rattle.merge_loading.specs.Loading.{lent, listed_area, loaded_area};
-ghost use Rattle.merge_loading.specs.Listing.{CanSeek, Sought, CanList};
+ghost use Rattle.merge_loading.specs.Loading.{lent_by, listed_area, loaded_area};
+ghost use Rattle.merge_loading.specs.Listing.{CanList, CanListWith, with_area};
 ghost use Rattle.merge_loading.specs.Rows.{CanLoad};
 
+use crate::Loading;
 use crate::bare::{write_bare, write_mode};
 use merge_state::{ChunkIdx, ModuleIdx, Sizes};
 
-// The chunk that lists entry k, from x on; n of the chunks are initial.
-fn lister_from(starts: &[u32], n: usize, x: usize, k: usize) -> usize
-    requires { CanSeek starts.now n x k }
-    ensures { Sought starts.now n k result }
+// Each module of a list is listed with the chunk.
+#[tactic(auto, unfolding(crate::specs::Listing::with_area))]
+fn list_with(sizes: Sizes, area: &mut [u32], chunk: ChunkIdx, modules: &[u32], effects: &[u32])
+    requires { CanListWith sizes chunk.0 modules.now effects.now area.old }
+    ensures { area.new ≡ with_area sizes chunk.0 modules.now effects.now area.old (length modules.now) }
 {
-    let mut y = x;
-    while y < n {
-        if k < starts[y + 1] as usize {
-            return y;
-        }
-        y += 1;
+    for &m in modules {
+        merge_writes::append(sizes, area, ModuleIdx(m), chunk, effects[m as usize] != 0);
     }
-    y
 }
 
 // Each entry of the module list is listed with its chunk.
-fn list_modules(
-    sizes: Sizes,
-    area: &mut [u32],
-    initial: usize,
-    starts: &[u32],
-    modules: &[u32],
-    effects: &[u32],
-)
-    requires { CanList sizes initial starts.now modules.now effects.now area.old }
-    ensures { area.new ≡ listed_area sizes initial starts.now modules.now effects.now area.old (length modules.now) }
+#[tactic(auto, using(crate::proofs::Chunks::first_listed, crate::proofs::Chunks::can_part, crate::proofs::Chunks::can_list_with, crate::proofs::Chunks::next_listed, crate::specs::Listing::list_done))]
+fn list_modules(sizes: Sizes, area: &mut [u32], loading: &Loading)
+    requires { CanList sizes loading.now.initial loading.now.starts.now loading.now.modules.now loading.now.effects.now area.old }
+    ensures { area.new ≡ listed_area sizes loading.now.initial loading.now.starts.now loading.now.modules.now loading.now.effects.now area.old (length loading.now.modules.now) }
 {
-    let mut x = 0;
-    let mut k = 0;
-    while k < modules.len() {
-        x = lister_from(starts, initial, x, k);
-        let m = modules[k];
-        let at = m as usize;
-        let chunk = x as u32;
-        merge_writes::append(sizes, area, ModuleIdx(m), ChunkIdx(chunk), effects[at] != 0);
-        k += 1;
+    for x in 0..loading.initial {
+        let modules = loading.modules_of(x);
+        list_with(sizes, area, ChunkIdx(x as u32), modules, loading.effects);
     }
 }
 
 // The area of a loading that no row refuses.
-pub fn load(
-    sizes: Sizes,
-    area: &mut [u32],
-    initial: usize,
-    starts: &[u32],
-    modules: &[u32],
-    sets: &[u64],
-    chunks: &[u32],
-    effects: &[u32],
-    mode: u32,
-)
-    requires { CanLoad sizes (lent initial starts.now modules.now sets.now chunks.now effects.now mode) area.old }
-    ensures { area.new ≡ loaded_area sizes (lent initial starts.now modules.now sets.now chunks.now effects.now mode) area.old }
+#[tactic(auto, unfolding(crate::specs::Loading::loaded_area))]
+pub fn load(sizes: Sizes, area: &mut [u32], loading: &Loading)
+    requires { CanLoad sizes (lent_by loading.now) area.old }
+    ensures { area.new ≡ loaded_area sizes (lent_by loading.now) area.old }
 {
-    write_mode(sizes, area, mode);
-    write_bare(sizes, area, initial, sets, chunks);
-    list_modules(sizes, area, initial, starts, modules, effects);
+    write_mode(sizes, area, loading.follows_merges);
+    write_bare(sizes, area, loading);
+    list_modules(sizes, area, loading);
 }

@@ -6,30 +6,28 @@ ghost use Rattle.merge_state.specs.Loading.{set_at, twice};
 ghost use Rattle.equal_sets.specs.Laid.{nth_set};
 ghost use Rattle.merge_loading.specs.Sets.{CanTest};
 
-use entry_set::{in_range, set_at};
+use entry_set::EntrySet;
 
 // One of the first p sets has a bit at or above e.
 pub fn any_illegal(sets: &[u64], w: usize, p: usize, e: usize) -> bool
     requires { CanTest sets.now w p e }
     ensures { result ≡ some_below (λ (i : ℕ). not (legal e (set_at w sets.now i))) p }
 {
-    let mut i = 0;
-    while i < p {
-        if !in_range(set_at(sets, w, i), e) {
+    for i in 0..p {
+        if !EntrySet::at(sets, w, i).in_range(e) {
             return true;
         }
-        i += 1;
     }
     false
 }
 
 // Two of the first p sets are equal.
+#[tactic(auto, using(merge_area::specs::Twice::twice_is))]
 pub fn any_twice(sets: &[u64], w: usize, p: usize) -> bool
     requires { (w ≤ 4) × (p * w ≤ length sets.now) × (p ≤ 1024) }
     ensures { result ≡ twice (nth_set sets.now w) p }
 {
     let mut lanes = [0u32; 8192];
     let mut order = [0u32; 1024];
-    let mut scratch = [0u32; 1024];
-    !equal_sets::are_distinct(sets, w, p, 1024, &mut lanes, &mut order, &mut scratch)
+    !equal_sets::are_distinct(sets, w, p, 1024, &mut lanes, &mut order)
 }

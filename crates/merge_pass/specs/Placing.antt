@@ -14,7 +14,7 @@ use Rattle.merge_area.specs.Read.{read}
 use Rattle.merge_area.specs.Writes.{merge_area, create_area, candidate_area}
 use Rattle.merge_reads.specs.Pass.{CanPlace}
 use Rattle.merge_pass.specs.declared.Placed.{Placed}
-use Rattle.merge_pass.specs.Turns.{kind_of, number_of, PlacedIn, CanAnswer, CanTurn, TurnedIn}
+use Rattle.merge_pass.specs.Turns.{kind_of, number_of, kind_in, number_in, PlacedIn, CanAnswer, CanTurn, TurnedIn}
 
 -- "Merged if proposed, unwarned and unbarred", test by test
 module _ (g : Graph) (x p b : ℕ) where
@@ -32,13 +32,13 @@ module _ (g : Graph) (x p b : ℕ) where
 
 -- the two ways to place a candidate
 module _ (z : Sizes) (a : List ℕ) (x p b : ℕ) {t : Bool} (e : t ≡ merges (read z a) x p b) (r : Placed) {after : List ℕ} where
-  pub placed-merged : t ≡ true → r.kind ≡ 0 → r.number ≡ p → after ≡ merge_area z a p x → PlacedIn z a x p b r after
+  pub placed-merged : t ≡ true → kind_in r ≡ 0 → number_in r ≡ p → after ≡ merge_area z a p x → PlacedIn z a x p b r after
   unfolding kind_of number_of candidate_area
   placed-merged h k n d =
       let f : merges (read z a) x p b ≡ true = sym e ∙ h in
       record { kind = rw f k; number = rw f n; area = rw f d }
 
-  pub placed_created : t ≡ false → r.kind ≡ 1 → r.number ≡ cell a (head z 0) + cell a (head z 2) → after ≡ create_area z a x → PlacedIn z a x p b r after
+  pub placed_created : t ≡ false → kind_in r ≡ 1 → number_in r ≡ cell a (head z 0) + cell a (head z 2) → after ≡ create_area z a x → PlacedIn z a x p b r after
   unfolding kind_of number_of candidate_area
   placed_created h k n d =
       let f : merges (read z a) x p b ≡ false = sym e ∙ h in
@@ -56,7 +56,7 @@ module _ {z : Sizes} {a ps bs ks ns : List ℕ} {k j : ℕ} (c : CanTurn z a ps 
     pub turn-place : CanPlace z a k (get_or ps j 0)
     turn-place = rw (← default_in ps j None can_answer.proposals) can_answer.place
 
-    pub turn-done : {r : Placed} {after : List ℕ} → PlacedIn z a k (get_or ps j 0) (get_or bs j 0) r after → TurnedIn z a ps bs ks ns k j (j + 1) after (set ks j r.kind) (set ns j r.number)
+    pub turn-done : {r : Placed} {after : List ℕ} → PlacedIn z a k (get_or ps j 0) (get_or bs j 0) r after → TurnedIn z a ps bs ks ns k j (j + 1) after (set ks j (kind_in r)) (set ns j (number_in r))
     turn-done {r} v =
         let d = default_in ps j None can_answer.proposals in
         record { next = rw f refl; area = rw (f, d) v.area; kinds = rw (f, d) (ap (set ks j) v.kind); numbers = rw (f, d) (ap (set ns j) v.number) }

@@ -12,6 +12,7 @@ use Rattle.merge_area.specs.Writes.{candidate_area, pass_area}
 use Rattle.merge_laws.specs.Rows.{Stood}
 use Rattle.merge_reads.specs.Pass.{CanPlace}
 use Rattle.merge_pass.specs.declared.Placed.{Placed}
+use Rattle.merge_pass.specs.declared.Placed.TheVariants.{Merged, Created}
 
 -- "kind (0 merged, 1 created) and number" of candidate x with proposal p and bar b
 unfoldable pub kind_of : Graph → ℕ → ℕ → ℕ → ℕ
@@ -20,9 +21,18 @@ kind_of g x p b = cond (merges g x p b) 0 1
 unfoldable pub number_of : Graph → ℕ → ℕ → ℕ → ℕ
 number_of g x p b = cond (merges g x p b) p (g.initial + g.created)
 
+-- the kind that is answered, and the number
+abbrev pub kind_in : Placed → ℕ
+kind_in (Merged x) = 0
+kind_in (Created n) = 1
+
+abbrev pub number_in : Placed → ℕ
+number_in (Merged x) = x.0
+number_in (Created n) = n
+
 pub record PlacedIn (z : Sizes) (a : List ℕ) (x p b : ℕ) (r : Placed) (after : List ℕ) : Type 0 where
-  pub kind : r.kind ≡ kind_of (read z a) x p b
-  pub number : r.number ≡ number_of (read z a) x p b
+  pub kind : kind_in r ≡ kind_of (read z a) x p b
+  pub number : number_in r ≡ number_of (read z a) x p b
   pub area : after ≡ candidate_area z a x p b
 
 -- candidate j, if chunk k is one, can be placed and its answers written; ps and bs are proposals and bars, ks and ns the answer lists

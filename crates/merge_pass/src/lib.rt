@@ -1,70 +1,83 @@
 // The pass that commits merges: each chunk that needs creation is merged into its proposal, or created.
 #![tactic(auto)]
 
-ghost use Rattle.std.specs.Prelude.{◌≡◌};
-ghost use Rattle.merge_state.specs.Methods.{merges};
+ghost use Rattle.std.specs.Prelude.{◌≡◌, not, ◌&&◌};
+ghost use Rattle.graphs.specs.Count.{ind};
+ghost use Rattle.merge_state.specs.Methods.{warn};
+ghost use Rattle.merge_state.specs.State.{None};
+ghost use Rattle.merge_state.specs.Named.{number_of, Proper};
 ghost use Rattle.merge_area.specs.Read.{read};
 ghost use Rattle.merge_reads.specs.Pass.{CanPlace};
-ghost use Rattle.merge_pass.specs.Turns.{PlacedIn, CanTurn, TurnedIn, CanPass, PassedIn};
+ghost use Rattle.merge_pass.specs.Turns.{kind_in, number_in, PlacedIn, CanPass, PassedIn};
 
-use merge_state::{ChunkIdx, NONE, Sizes};
+use merge_area::places::{CREATED, INITIAL, MADE};
+use merge_area::{Area, header};
+use merge_questions::warns;
+use merge_state::{ChunkIdx, Sizes};
 
-// What a candidate is given: its kind (0 merged, 1 created) and its number.
-#[derive(Clone, Copy)]
-pub struct Placed {
-    pub kind: u32,
-    pub number: u32,
+// What a candidate is given: the chunk that it is merged into, or the number that it is created with.
+#[derive(Clone, Copy, PartialEq, Eq, Debug)]
+pub enum Placed {
+    Merged(ChunkIdx),
+    Created(u32),
 }
 
-// Chunk x is merged into p: proposed, unbarred and unwarned.
-fn may_merge(sizes: Sizes, area: &[u32], x: ChunkIdx, p: u32, b: u32) -> bool
-    requires { CanPlace sizes area.now x.0 p }
-    ensures { result ≡ merges (read sizes area.now) x.0 p b }
+impl Placed {
+    // 0 merged, 1 created.
+    pub fn kind(self) -> u32
+        ensures { result ≡ kind_in self }
+    {
+        match self {
+            Placed::Merged(_) => 0,
+            Placed::Created(_) => 1,
+        }
+    }
+
+    // The chunk's number, or the one that it is created with.
+    pub fn number(self) -> u32
+        ensures { result ≡ number_in self }
+    {
+        match self {
+            Placed::Merged(target) => target.0,
+            Placed::Created(number) => number,
+        }
+    }
+}
+
+// Chunk x may be merged into the proposal p: it is unbarred and unwarned.
+fn may_merge(area: &Area, x: ChunkIdx, p: ChunkIdx, barred: bool) -> bool
+    requires { CanPlace area.now.sizes area.now.numbers.now x.0 p.0 × (p.0 ≡ None → ⊥) }
+    ensures { result ≡ (not barred && not (warn (read area.now.sizes area.now.numbers.now) x.0 p.0)) }
 {
-    if p == NONE {
-        return false;
-    }
-    if b != 0 {
-        return false;
-    }
-    !merge_questions::warns(sizes, area, x, ChunkIdx(p))
+    !barred && !warns(area, x, p)
 }
 
-// Candidate x with proposal p and bar b.
-fn place(sizes: Sizes, area: &mut [u32], x: ChunkIdx, p: u32, b: u32) -> Placed
-    requires { CanPlace sizes area.old x.0 p }
-    ensures { PlacedIn sizes area.old x.0 p b result area.new }
-{
-    if may_merge(sizes, area, x, p, b) {
-        merge_dependencies::merge(sizes, area, ChunkIdx(p), x);
-        return Placed { kind: 0, number: p };
-    }
-    let number = merge_area::header(sizes, area, 0) + merge_area::header(sizes, area, 2);
-    merge_writes::create(sizes, area, x);
-    Placed { kind: 1, number }
-}
-
-// Chunk k, if it waits for creation, as candidate j; and how many candidates there are so far.
-fn turn(
+// Candidate x is merged into its proposal, or created.
+fn place(
     sizes: Sizes,
     area: &mut [u32],
-    proposals: &[u32],
-    bars: &[u32],
-    kinds: &mut [u32],
-    numbers: &mut [u32],
-    k: usize,
-    j: usize,
-) -> usize
-    requires { CanTurn sizes area.old proposals.now bars.now kinds.old numbers.old k j }
-    ensures { TurnedIn sizes area.old proposals.now bars.now kinds.old numbers.old k j result area.new kinds.new numbers.new }
+    x: ChunkIdx,
+    proposal: Option<ChunkIdx>,
+    barred: bool,
+) -> Placed
+    requires { CanPlace sizes area.old x.0 (number_of proposal) × Proper proposal }
+    ensures { PlacedIn sizes area.old x.0 (number_of proposal) (ind barred) result area.new }
 {
-    if !merge_area::merges::is_waiting(sizes, area, k) {
-        return j;
+    let standing = Area {
+        sizes,
+        numbers: area,
+    };
+    match proposal {
+        Some(p) if may_merge(&standing, x, p, barred) => {
+            merge_dependencies::merge(sizes, area, p, x);
+            Placed::Merged(p)
+        }
+        _ => {
+            let number = header(sizes, area, INITIAL) + header(sizes, area, CREATED);
+            merge_writes::create(sizes, area, x);
+            Placed::Created(number)
+        }
     }
-    let placed = place(sizes, area, ChunkIdx(k as u32), proposals[j], bars[j]);
-    kinds[j] = placed.kind;
-    numbers[j] = placed.number;
-    j + 1
 }
 
 // Every chunk that waits for creation, in rising index.
@@ -79,11 +92,19 @@ pub fn commit(
     requires { CanPass sizes area.old proposals.now bars.now kinds.old numbers.old }
     ensures { PassedIn sizes area.old proposals.now bars.now area.new kinds.new numbers.new }
 {
-    let made = merge_area::header(sizes, area, 1) as usize;
+    let made = header(sizes, area, MADE) as usize;
     let mut j = 0;
-    let mut k = 0;
-    while k < made {
-        j = turn(sizes, area, proposals, bars, kinds, numbers, k, j);
-        k += 1;
+    for k in 0..made {
+        let standing = Area {
+            sizes,
+            numbers: area,
+        };
+        if standing.is_waiting(k) {
+            let proposal = ChunkIdx::named(proposals[j]);
+            let placed = place(sizes, area, ChunkIdx(k as u32), proposal, bars[j] != 0);
+            kinds[j] = placed.kind();
+            numbers[j] = placed.number();
+            j += 1;
+        }
     }
 }

@@ -1,44 +1,81 @@
 // The two questions about an area's graph, whether or not merged chunks stand for their target there.
 #![tactic(auto)]
 
-ghost use Rattle.std.specs.Prelude.{◌≡◌, ◌<◌};
+ghost use Rattle.std.specs.Prelude.{◌≡◌, ◌<◌, ◌≤◌, length, true};
 ghost use Rattle.merge_state.specs.Methods.{warn, reachable};
 ghost use Rattle.merge_area.specs.Layout.{cell, head};
-ghost use Rattle.merge_area.specs.Read.{read};
+ghost use Rattle.merge_area.specs.Read.{read, mode_in};
 ghost use Rattle.merge_laws.specs.Rows.{Stood};
+ghost use Rattle.merge_questions.specs.Lent.{FlagsOf, EndsOf};
 
-use merge_area::header;
-use merge_area::merges::{find_ends, is_mode};
+use graph_walks::FlagRows;
+use graph_walks::end_rows::EndRows;
+use merge_area::merges::find_ends;
+use merge_area::places::MADE;
+use merge_area::{Area, header};
 use merge_state::{ChunkIdx, Sizes};
 
-// The warning about merging source into target.
-pub fn warns(sizes: Sizes, area: &[u32], source: ChunkIdx, target: ChunkIdx) -> bool
-    requires { Stood sizes area.now × (source.0 < cell area.now (head sizes 1)) × (target.0 < cell area.now (head sizes 1)) }
-    ensures { result ≡ warn (read sizes area.now) source.0 target.0 }
+// The flags of the chunks that are made.
+fn flag_rows<'a>(area: &Area<'a>) -> FlagRows<'a>
+    ensures { FlagsOf area.now.sizes area.now.numbers.now result }
 {
-    let made = header(sizes, area, 1) as usize;
-    let s = source.0 as usize;
-    let t = target.0 as usize;
-    if !is_mode(sizes, area) {
-        return merge_warning::warn(area, sizes.chunks, made, s, t);
+    FlagRows {
+        flags: area.numbers,
+        stride: area.sizes.chunks,
+        count: area.header(MADE) as usize,
     }
-    let mut ends = [0u32; 1024];
-    find_ends(sizes, area, made, &mut ends);
-    merge_warning::counted::warn_counted(area, sizes.chunks, made, &ends, s, t)
+}
+
+// The same with the ends of merges, and the two chunks that are asked about.
+fn end_rows<'a>(
+    sizes: Sizes,
+    numbers: &'a [u32],
+    source: ChunkIdx,
+    target: ChunkIdx,
+    ends: &'a mut [u32],
+) -> EndRows<'a>
+    requires { Stood sizes numbers.now × (mode_in sizes numbers.now ≡ true) × (length ends.old ≡ 1024) }
+    ensures { EndsOf sizes numbers.now source.0 target.0 result }
+{
+    let count = header(sizes, numbers, MADE) as usize;
+    let ends = &mut ends[..count];
+    find_ends(sizes, numbers, ends);
+    EndRows {
+        flags: numbers,
+        stride: sizes.chunks,
+        count,
+        ends,
+        source: source.0 as usize,
+        target: target.0 as usize,
+    }
+}
+
+// The warning about merging source into target.
+pub fn warns(area: &Area, source: ChunkIdx, target: ChunkIdx) -> bool
+    requires { Stood area.now.sizes area.now.numbers.now × (source.0 < cell area.now.numbers.now (head area.now.sizes 1)) × (target.0 < cell area.now.numbers.now (head area.now.sizes 1)) }
+    ensures { result ≡ warn (read area.now.sizes area.now.numbers.now) source.0 target.0 }
+{
+    if area.is_mode() {
+        let mut ends = [0u32; 1024];
+        let rows = end_rows(area.sizes, area.numbers, source, target, &mut ends);
+        merge_warning::counted::warn_counted(&rows)
+    } else {
+        let rows = flag_rows(area);
+        merge_warning::warn(&rows, source.0 as usize, target.0 as usize)
+    }
 }
 
 // `from` reaches `to` in one step or more.
-pub fn reaches(sizes: Sizes, area: &[u32], from: ChunkIdx, to: ChunkIdx) -> bool
-    requires { Stood sizes area.now × (from.0 < cell area.now (head sizes 1)) × (to.0 < cell area.now (head sizes 1)) }
-    ensures { result ≡ reachable (read sizes area.now) from.0 to.0 }
+pub fn reaches(area: &Area, from: ChunkIdx, to: ChunkIdx) -> bool
+    requires { Stood area.now.sizes area.now.numbers.now × (from.0 < cell area.now.numbers.now (head area.now.sizes 1)) × (to.0 < cell area.now.numbers.now (head area.now.sizes 1)) }
+    ensures { result ≡ reachable (read area.now.sizes area.now.numbers.now) from.0 to.0 }
 {
-    let made = header(sizes, area, 1) as usize;
-    let x = from.0 as usize;
-    let y = to.0 as usize;
-    if !is_mode(sizes, area) {
-        return merge_warning::reaches(area, sizes.chunks, made, x, y);
+    if area.is_mode() {
+        let mut ends = [0u32; 1024];
+        let rows = end_rows(area.sizes, area.numbers, from, to, &mut ends);
+        merge_warning::counted::reaches_counted(&rows)
+    } else {
+        let rows = flag_rows(area);
+        merge_warning::reaches(&rows, from.0 as usize, to.0 as usize)
     }
-    let mut ends = [0u32; 1024];
-    find_ends(sizes, area, made, &mut ends);
-    merge_warning::counted::reaches_counted(area, sizes.chunks, made, &ends, x, y)
 }

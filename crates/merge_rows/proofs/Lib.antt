@@ -1,2 +1,1 @@
--- The laws that the proofs of `merge_rows` cite. Assumes nothing.
 pub mod Laws

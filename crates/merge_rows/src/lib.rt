@@ -2,4 +2,4 @@
 #![tactic(auto)]
 
 pub mod checks; // checks.rt: single tests of the rows
-pub mod rows; // rows.rt: the row that refuses a call, 0 where none does
+pub mod rows; // rows.rt: whether a row refuses a call, and which

@@ -1,15 +1,13 @@
 -- Theorems on the definitions of specs/Counted: they stand here, so that the crate can be read with a definition changed. Assumes nothing.
-use Rattle.std.specs.Prelude.{ℕ, ◌<◌, ◌≡◌, ◌⊎◌, ◌↔◌, Bool, cond, ◌&&◌, ◌||◌, []}
+use Rattle.std.specs.Prelude.{ℕ, ◌<◌, ◌≡◌, ◌↔◌, Bool, ◌&&◌, ◌||◌, []}
 use Rattle.std.proofs.Math.Decide.{ℕ_discrete}
-use Rattle.std.proofs.Math.Path.{refl, sym, ap, fun_ext}
-use Rattle.std.proofs.Common.{ap₂, subst, ◌∙◌, inl, inr, ⊎_elim, eqb-true, eq-eqb, ne_eqb}
+use Rattle.std.proofs.Math.Path.{refl, sym, ap}
+use Rattle.std.proofs.Common.{subst, ◌∙◌, inr, ⊎_elim, eq-eqb, ne_eqb}
 use Rattle.std.proofs.Math.Bool.{true, false, not, true≢false}
 use Rattle.std.proofs.Math.Dec.{eqb}
-use Rattle.std.proofs.lemmas.Bool.{eqb-false, not-true}
 use Rattle.graphs.specs.Bools.{or_cases, or_left, or_right, and_left, and_right, and_both, alike}
 use Rattle.graphs.specs.Walk.{Walk, one, more}
 use Rattle.graphs.specs.Walks.{join}
-use Rattle.graphs.specs.Walks as walks
 use Rattle.merge_state.specs.State.{None, Graph, put, put_same, put_other}
 use Rattle.graph_walks.specs.Counted.{counted, without, counted_give, counted-take}
 use Rattle.merge_state.specs.Methods.{absorbed, warns}

@@ -5,15 +5,14 @@ use Rattle.std.proofs.Math.Decide.{dec_lt}
 use Rattle.std.specs.Prelude.{◌≡◌, ◌⊎◌, Bool, cond, ◌&&◌, List, [], ◌∷◌, ◌++◌, length, leb}
 use Rattle.std.proofs.Math.Path.{refl, ap}
 use Rattle.std.proofs.Math.Bool.{true, false, not}
-use Rattle.std.proofs.Math.ListN.{get_or, get_or-eq_default}
+use Rattle.std.proofs.Math.ListN.{get_or}
 use Rattle.std.proofs.Math.Dec.{eqb}
-use borrow.Author.Tests.{eqb-true, eqb-false, ne_eqb, leb-false, ltb-true, ltb-false, not-true, not-false}
-use Rattle.graphs.specs.Bools.{and_left, and_right, and_both, or_false_left, or_false_right, fails}
+use borrow.Author.Tests.{eqb-true, eqb-false, leb-false, ltb-true, ltb-false, not-true, not-false}
+use Rattle.graphs.specs.Bools.{and_left, and_right, or_false_left, or_false_right}
 use Rattle.graphs.specs.Count.{count, count_yes, count_mono}
-use Rattle.graphs.specs.Lists.{some_none}
 use Rattle.entry_set.specs.Sets.{value, width}
 use Rattle.merge_state.specs.declared.Sizes.{Sizes}
-use Rattle.merge_state.specs.State.{None, Graph, put, put_other, misfit}
+use Rattle.merge_state.specs.State.{None, Graph, put, put_other}
 use Rattle.merge_state.specs.Merges.{gone, waits}
 use Rattle.merge_state.specs.Methods.{Passed, merged, created_chunk, warn, merges, candidate, passed}
 use Rattle.merge_state.specs.Table.{Call, init_module_assignment, add_module_to_chunk, register_chunk_graph_index, to_temp_idx, calc_chunk_dependencies, would_create_circular_dependency, is_reachable, merge_chunk_dependencies, pass, first_fitting, any_misfit, any_gone, later, acted}

@@ -1,18 +1,16 @@
 -- Theorems on the definitions of specs/Warning: they stand here, so that the crate can be read with a definition changed. Assumes nothing.
-use Rattle.std.specs.Prelude.{ℕ, ◌<◌, ◌≡◌, ◌⊎◌, ◌↔◌, Bool, false, ◌&&◌, ◌||◌, eqb}
+use Rattle.std.specs.Prelude.{ℕ, ◌≡◌, ◌⊎◌, ◌↔◌, ◌&&◌}
 use Rattle.std.proofs.Math.Decide.{ℕ_discrete}
 use Rattle.std.proofs.Math.Path.{refl, sym}
-use Rattle.std.proofs.Common.{ap, ◌∙◌, true≢false}
+use Rattle.std.proofs.Common.{◌∙◌}
 use Rattle.std.proofs.Math.Logic.{inl, inr, ⊎_elim}
-use Rattle.std.proofs.Math.Bool.{true, not}
-use borrow.Author.Tests.{eqb-true, eqb-false, eq-eqb, ne_eqb, not-true}
-use Rattle.graphs.specs.Bools.{or_cases, or_left, or_right, and_left, and_right, and_both}
-use Rattle.graphs.specs.Lists.{some_below, some_give, some_take}
+use Rattle.std.proofs.Math.Bool.{true}
+use Rattle.graphs.specs.Bools.{or_left, or_right, and_both}
+use Rattle.graphs.specs.Lists.{some_give}
 use Rattle.graphs.specs.Walk.{Walk, one, more}
 use Rattle.graphs.specs.Walks.{join}
 use Rattle.merge_state.specs.State.{Graph}
-use Rattle.graph_walks.specs.Closed.{closed}
-use Rattle.graph_walks.specs.ClosedLaws.{closed-first, closed-next, closed_all}
+use Rattle.graph_walks.specs.ClosedLaws.{closed-first, closed-next}
 use Rattle.merge_state.specs.Methods.{warns}
 use Rattle.merge_state.specs.Warning.{fused, Sound, Looped, fuse_ends, fuse_cases, First, In, Bad, warned}
 use Rattle.merge_state.specs.Warning as warning_here

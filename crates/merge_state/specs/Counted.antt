@@ -1,20 +1,15 @@
--- Counted dependencies: what a merge makes of them, and what the warning says of them. Sentences quoted are document 02's, (vii) and (xiii). Assumes nothing.
-use Rattle.std.specs.Prelude.{ℕ, ◌<◌, ◌≡◌, ◌⊎◌, ◌↔◌, Bool, cond, ◌&&◌, ◌||◌, []}
-use Rattle.std.proofs.Math.Decide.{ℕ_discrete}
+-- Counted dependencies: what a merge makes of them, and what the warning says of them. Assumes nothing.
+use Rattle.std.specs.Prelude.{ℕ, ◌<◌, ◌≡◌, Bool, ◌&&◌}
 use Rattle.std.proofs.Math.Path.{refl, sym, ap, fun_ext}
-use Rattle.std.proofs.Common.{ap₂, subst, ◌∙◌, inl, inr, ⊎_elim, eqb-true, eq-eqb, ne_eqb}
-use Rattle.std.proofs.Math.Bool.{true, false, not, true≢false}
+use Rattle.std.proofs.Common.{ap₂, ◌∙◌, ⊎_elim, eqb-true}
+use Rattle.std.proofs.Math.Bool.{true, false, not}
 use Rattle.std.proofs.Math.Dec.{eqb}
-use Rattle.std.proofs.lemmas.Bool.{eqb-false, not-true}
-use Rattle.graphs.specs.Bools.{or_cases, or_left, or_right, and_left, and_right, and_both, alike}
-use Rattle.graphs.specs.Walk.{Walk, one, more}
+use Rattle.graphs.specs.Bools.{and_both, alike}
+use Rattle.graphs.specs.Walk.{Walk}
 use Rattle.graphs.specs.Walks.{join}
 use Rattle.graphs.specs.Walks as walks
-use Rattle.merge_state.specs.State.{None, Graph, put, put_same, put_other}
 use Rattle.graph_walks.specs.Counted.{counted, without, counted_give, counted-take}
-use Rattle.merge_state.specs.Methods.{absorbed, warns}
-use Rattle.merge_state.specs.Warning.{fused, fuse, fuse_ends, fuse_cases, Sound, Looped}
-use Rattle.merge_state.specs.Absorbed.{union, absorbed-source, absorbed-target, absorbed-other}
+use Rattle.merge_state.specs.Warning.{fused, fuse_cases}
 
 -- an edge between equal nodes
 pub moved : (f : ℕ → ℕ → Bool) {a b x y : ℕ} → a ≡ x → b ≡ y → f a b ≡ true → f x y ≡ true

@@ -1,13 +1,13 @@
 -- Following merges to their end. Assumes nothing.
 use Prim.Native.Nat.{ℕ, zero, suc, ◌+◌, ◌<◌, ◌≤◌}
-use Rattle.std.proofs.Common.{arith, sym, ap₂, subst, ◌∙◌, inl, inr, ⊎_elim, true≢false}
+use Rattle.std.proofs.Common.{arith, sym, subst, ◌∙◌, ⊎_elim, true≢false}
 use Rattle.std.proofs.Math.Decide.{ℕ_discrete}
-use Rattle.std.specs.Prelude.{◌≡◌, ◌⊎◌, Bool, true, false, ◌&&◌, eqb}
+use Rattle.std.specs.Prelude.{◌≡◌, Bool, true, false, eqb}
 use Rattle.std.proofs.Math.Path.{refl, ap}
 use Rattle.std.proofs.Math.Bool.{not, cond}
 use borrow.Author.Tests.{eqb-true, eqb-false, eq-eqb, ne_eqb, not-true}
 use Rattle.graphs.specs.Bools.{and_left, and_right, and_both}
-use Rattle.graphs.specs.Total.{total, is0, whites, total_change, total-at, total_le}
+use Rattle.graphs.specs.Total.{is0, whites, total_change, total_le}
 use Rattle.graphs.specs.Walk.{Walk, one, more}
 use Rattle.graphs.specs.Walks.{join}
 use Rattle.graphs.specs.Walks as walks
@@ -85,7 +85,7 @@ module _ (into : ℕ → ℕ) where
       | no q ↦ ap into (go_on k x q) ∙ ended_from k (into x) (put c x 1) (carried c x passed q) (omega (arith, fewer-whites n x c (range x q).0 (unmet c x passed)))
     ]
 
-    -- "the chunk at the end of its merges" isn't merged
+    -- the chunk at the end of its merges isn't merged
     pub ended : (x : ℕ) → into (ending into n x) ≡ None
     unfolding whites
     ended x = ended_from n x (λ y. 0) (λ y h. absurd (h refl)) (total_le (λ y. 1) n (λ i. omega arith))

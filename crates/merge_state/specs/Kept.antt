@@ -1,23 +1,21 @@
 -- Every call leaves the graph in order. Assumes nothing.
 use Prim.Native.Nat.{ℕ, zero, suc, ◌+◌, ◌<◌, ◌≤◌}
-use Rattle.std.proofs.Common.{arith, add-one, sym, ◌∙◌, inl, inr, ⊎_elim}
+use Rattle.std.proofs.Common.{arith}
 use Rattle.std.proofs.Math.Decide.{dec_lt}
-use Rattle.std.specs.Prelude.{◌≡◌, ◌⊎◌, Bool, cond, ◌&&◌, List, [], ◌∷◌, ◌++◌, length, leb}
+use Rattle.std.specs.Prelude.{◌≡◌, ◌⊎◌, Bool, List, [], ◌∷◌, length}
 use Rattle.std.proofs.Math.Path.{refl, ap}
 use Rattle.std.proofs.Math.Bool.{true, false, not}
 use Rattle.std.proofs.Math.ListN.{get_or, get_or-eq_default}
-use Rattle.std.proofs.Math.Dec.{eqb}
-use borrow.Author.Tests.{eqb-true, eqb-false, ne_eqb, leb-false, ltb-true, ltb-false, not-true, not-false}
-use Rattle.graphs.specs.Bools.{and_left, and_right, and_both, or_false_left, or_false_right, fails}
-use Rattle.graphs.specs.Count.{count, count_yes, count_mono}
+use borrow.Author.Tests.{eqb-true, ne_eqb, leb-false, not-false}
+use Rattle.graphs.specs.Bools.{and_both, fails}
+use Rattle.graphs.specs.Count.{count}
 use Rattle.graphs.specs.Lists.{some_none}
-use Rattle.entry_set.specs.Sets.{value, width}
 use Rattle.merge_state.specs.declared.Sizes.{Sizes}
-use Rattle.merge_state.specs.State.{None, Graph, put, put_other, misfit}
+use Rattle.merge_state.specs.State.{None, Graph, misfit}
 use Rattle.merge_state.specs.Merges.{gone, waits}
-use Rattle.merge_state.specs.Methods.{Passed, merged, created_chunk, warn, merges, candidate, passed}
-use Rattle.merge_state.specs.Table.{Call, init_module_assignment, add_module_to_chunk, register_chunk_graph_index, to_temp_idx, calc_chunk_dependencies, would_create_circular_dependency, is_reachable, merge_chunk_dependencies, pass, first_fitting, any_misfit, any_gone, later, acted}
-use Rattle.merge_state.specs.Ordered.{Ordered, never, appended-kept, registered-kept, created_chunk-kept, merged-kept, calculated-kept, assigned-kept}
+use Rattle.merge_state.specs.Methods.{Passed}
+use Rattle.merge_state.specs.Table.{first_fitting, any_misfit, any_gone}
+use Rattle.merge_state.specs.Ordered.{Ordered, never}
 
 -- no row fits: the first doesn't, nor a later one
 pub none-fits : (b : Bool) (n : ℕ) (l : List (Bool × ℕ)) → 0 < n → first_fitting ((b, n) ∷ l) ≡ 0 → (b ≡ false) × (first_fitting l ≡ 0)

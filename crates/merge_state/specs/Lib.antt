@@ -1,5 +1,6 @@
 -- The state of a merge graph, its methods and its table, and their laws. Assumes nothing.
 pub mod State
+pub mod Named
 pub mod Merges
 pub mod Methods
 pub mod Table

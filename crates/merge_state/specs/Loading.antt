@@ -1,4 +1,4 @@
--- `new`: the merge graph after a loading. Sentences quoted are document 01's. Assumes nothing.
+-- `new`: the merge graph after a loading. Assumes nothing.
 use Rattle.std.specs.Prelude.{ℕ, zero, suc, ◌+◌, ◌*◌, Bool, false, not, cond, ◌||◌, List, [], ◌∷◌, get_or, length, take, drop, ltb, leb, eqb}
 use Rattle.graphs.specs.Count.{count}
 use Rattle.graphs.specs.Lists.{some_below}
@@ -9,7 +9,7 @@ use Rattle.merge_state.specs.Methods.{appended}
 use Rattle.merge_state.specs.Table.{bad_starts, other_length, any_misfit}
 
 -- What `new` is lent: how many chunks are initial, their modules by starts, the sets of the pairs one after the other, the pairs' chunks,
--- the modules' side effects, and the mode ((vii) of document 02: "chosen at loading by a nonzero number")
+-- the modules' side effects, and the mode, chosen at loading by a nonzero number
 pub record Lent : Type 0 where
   pub initial : ℕ
   pub starts : List ℕ
@@ -33,7 +33,7 @@ lent_pair w flat homes i = (value (set_at w flat i), get_or homes i 0)
 abbrev pub lent_pairs : Sizes → Lent → List (ℕ × ℕ)
 lent_pairs z n = pairs (lent_pair (width z.bits) n.flat n.chunks) (length n.chunks)
 
--- "`new` takes each initial chunk's modules and pairs (set, chunk)": the first k list entries are in
+-- `new` takes each initial chunk's modules and pairs (set, chunk): the first k list entries are in
 unfoldable pub loaded : Sizes → Lent → ℕ → Graph
 loaded z n zero = record {
   initial = n.initial;
@@ -58,7 +58,7 @@ came_before f j = some_below (λ i. eqb (f i) (f j)) j
 unfoldable pub twice : (ℕ → ℕ) → ℕ → Bool
 twice f n = some_below (came_before f) n
 
--- The rows of the lists: "at loading then 16, 17, 19"
+-- The rows of the lists, after 14 and 15: 16, 17, 19
 unfoldable pub over_load : Sizes → Lent → Bool
 over_load z n = ltb z.chunks n.initial || ltb z.chunks (length n.chunks)
 

@@ -1,4 +1,4 @@
--- What each method does to the merge graph, and the pass. Sentences quoted are document 01's, (vii) is document 02's. Assumes nothing.
+-- What each method does to the merge graph, and the pass. Assumes nothing.
 use Rattle.std.specs.Prelude.{ℕ, zero, suc, ◌+◌, Bool, true, false, not, cond, ◌&&◌, ◌||◌, List, [], ◌∷◌, ◌++◌, get_or, length, ltb, leb, eqb}
 use Rattle.graphs.specs.Count.{count}
 use Rattle.graphs.specs.Lists.{some_below, below}
@@ -8,7 +8,7 @@ use Rattle.graph_walks.specs.Counted.{without}
 use Rattle.merge_state.specs.State.{None, Graph, put, chunk_of, flag, at}
 use Rattle.merge_state.specs.Merges.{end, counts, waits}
 
--- Module m is listed with chunk x: "appends to the named chunk and or-s its side effects"; "assigned where it was put last".
+-- Module m is listed with chunk x: it is appended to the chunk's modules, its side effects are or-ed in, and it is assigned where it was put last.
 unfoldable pub appended : List ℕ → Graph → ℕ → ℕ → Graph
 appended effs g x m = record {
   initial = g.initial;
@@ -25,7 +25,7 @@ appended effs g x m = record {
   into = g.into;
 }
 
--- "or makes a chunk that needs creation": number `made`, named with set v, with no module, dependency or side effect yet
+-- A chunk that needs creation is made: number `made`, named with set v, with no module, dependency or side effect yet
 unfoldable pub opened : Graph → ℕ → Graph
 opened g v = record {
   initial = g.initial;
@@ -42,11 +42,11 @@ opened g v = record {
   into = g.into;
 }
 
--- `init_module_assignment`: "appends to the chunk of that set, or makes a chunk that needs creation"
+-- `init_module_assignment`: appends to the chunk of that set, or makes a chunk that needs creation
 unfoldable pub assigned_to : List ℕ → Graph → ℕ → ℕ → Graph
 assigned_to effs g m v = cond (eqb (chunk_of v g.sets) None) (appended effs (opened g v) g.made m) (appended effs g (chunk_of v g.sets) m)
 
--- "`register_chunk_graph_index` replaces"
+-- `register_chunk_graph_index` replaces
 unfoldable pub registered : Graph → ℕ → ℕ → Graph
 registered g k x = record {
   initial = g.initial;
@@ -71,7 +71,7 @@ module_on g starts deps m y = some_below (λ k. (leb (get_or starts m 0) k && lt
 unfoldable pub listed_on : Graph → List ℕ → List ℕ → ℕ → ℕ → Bool
 listed_on g starts deps x y = some_below (λ i. eqb (at g.log i).0 x && module_on g starts deps (at g.log i).1 y) (length g.log)
 
--- "`calc_chunk_dependencies` adds to existing sets the chunks of dependency modules, if assigned and different"
+-- `calc_chunk_dependencies` adds to existing sets the chunks of dependency modules, if assigned and different
 unfoldable pub calculated : Graph → List ℕ → List ℕ → Graph
 calculated g starts deps = record {
   initial = g.initial;
@@ -88,24 +88,24 @@ calculated g starts deps = record {
   into = g.into;
 }
 
--- "`is_reachable` needs one step or more"; (vii): "follows the counted dependencies too, each of its two chunks standing for the end of its merges"
+-- `is_reachable` needs one step or more; in the mode it follows the dependencies that count, each of its two chunks standing for the end of its merges
 unfoldable pub reachable : Graph → ℕ → ℕ → Bool
 reachable g x y = cond g.mode (via (counts g) (below g.made) (end g x) (end g y)) (via g.depends (below g.made) x y)
 
--- `would_create_circular_dependency`: "from the union of source's and target's dependencies, closed under dependency, yes if the target is
--- in it or a member depends on the source", for dependencies d of the chunks below n
+-- `would_create_circular_dependency`: from the union of source's and target's dependencies, closed under dependency, yes if the target is
+-- in it or a member depends on the source, for dependencies d of the chunks below n
 unfoldable pub warns : (ℕ → ℕ → Bool) → ℕ → ℕ → ℕ → Bool
 warns d n s t = closed d n s t t || some_below (λ x. closed d n s t x && d x s) n
 
--- (vii): "The warning is then yes exactly when the fused chunk lies on a cycle with another; a direct dependency alone no longer warns."
+-- In the mode the warning is yes exactly when the fused chunk lies on a cycle with another; a direct dependency alone doesn't warn.
 unfoldable pub warn : Graph → ℕ → ℕ → Bool
 warn g s t = cond g.mode (warns (without (counts g) s t) g.made s t) (warns g.depends g.made s t)
 
--- "target gets the union without itself, source's set empties"
+-- The target gets the union without itself, the source's set empties
 unfoldable pub absorbed : (ℕ → ℕ → Bool) → ℕ → ℕ → ℕ → ℕ → Bool
 absorbed d t s = put (put d t (λ y. (d t y || d s y) && not (eqb y t))) s (λ y. false)
 
--- `merge_chunk_dependencies`: the same, and "side effects are or-ed". "Others still name the source, also the target if it did." In the mode the
+-- `merge_chunk_dependencies`: the same, and side effects are or-ed. Others still name the source, also the target if it did. In the mode the
 -- merge is recorded.
 unfoldable pub merged : Graph → ℕ → ℕ → Graph
 merged g t s = record {
@@ -123,7 +123,7 @@ merged g t s = record {
   into = cond g.mode (put g.into s t) g.into;
 }
 
--- "created with number initial + created so far, and registered"
+-- Created with number initial + created so far, and registered
 unfoldable pub created_chunk : Graph → ℕ → Graph
 created_chunk g x = record {
   initial = g.initial;
@@ -146,11 +146,11 @@ pub record Passed : Type 0 where
   pub kinds : List ℕ
   pub numbers : List ℕ
 
--- candidate x with proposal p and bar b: "Merged if proposed, unwarned and unbarred"
+-- candidate x with proposal p and bar b: merged if proposed, unwarned and unbarred
 unfoldable pub merges : Graph → ℕ → ℕ → ℕ → Bool
 merges g x p b = (not (eqb p None) && eqb b 0) && not (warn g x p)
 
--- "and dependencies merge; else created"
+-- then dependencies merge; else it is created
 unfoldable pub candidate : Passed → ℕ → ℕ → ℕ → Passed
 candidate r x p b =
     let g = r.graph in
@@ -158,7 +158,7 @@ candidate r x p b =
     (record { graph = merged g p x; kinds = r.kinds ++ (0 ∷ []); numbers = r.numbers ++ (p ∷ []) })
     (record { graph = created_chunk g x; kinds = r.kinds ++ (1 ∷ []); numbers = r.numbers ++ ((g.initial + g.created) ∷ []) })
 
--- "per chunk needing creation in rising index, a proposed initial chunk or None and a signature bar": after the chunks below k
+-- Per chunk needing creation in rising index there are a proposed initial chunk or None and a bar: after the chunks below k
 unfoldable pub passed : Graph → List ℕ → List ℕ → ℕ → Passed
 passed g props bars zero = record { graph = g; kinds = []; numbers = [] }
 passed g props bars (suc k) =

@@ -18,8 +18,8 @@ use Rattle.merge_state.specs.Warning.{Sound}
 use Rattle.merge_state.specs.Ends.{Merges, merges_grown, merges-more}
 use Rattle.merge_state.specs.Absorbed.{absorbed-source, absorbed-target, absorbed-other}
 
--- "A merge area: every index in range, no self-dependency, sets distinct, no initial chunk needing creation, used entries within L." And (vii) of
--- document 02: "an area whose merges run in a ring is inconsistent"
+-- A merge area: every index in range, no self-dependency, sets distinct, no initial chunk needing creation, used entries within L, and no
+-- merges that run in a ring
 pub record Ordered (z : Sizes) (g : Graph) : Type 0 where
   pub small : z.chunks ≤ 1024
   pub begun : g.initial ≤ g.made

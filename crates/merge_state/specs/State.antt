@@ -1,8 +1,8 @@
--- The merge graph's state. Sentences quoted are document 01's. Assumes nothing.
+-- The merge graph's state. Assumes nothing.
 use Rattle.std.specs.Prelude.{ℕ, zero, suc, ◌≡◌, refl, Bool, not, cond, ◌&&◌, List, [], ◌∷◌, ◌++◌, get_or, leb, eqb}
 use Rattle.std.proofs.Common.{ap, eq-eqb, ne_eqb}
 
--- "None" is 4,294,967,295
+-- None, in a list of numbers, is 4,294,967,295
 abbrev pub None : ℕ
 None = 4294967295
 
@@ -25,7 +25,7 @@ pub record Graph : Type 0 where
   pub home : ℕ → ℕ
   -- the chunk registered for a key, or None
   pub keys : ℕ → ℕ
-  -- merged chunks stand for their target (document 02, (vii): "a mode, chosen at loading by a nonzero number")
+  -- merged chunks stand for their target: a mode, chosen at loading by a nonzero number
   pub mode : Bool
   -- in the mode, the chunk that a chunk was merged into, or None
   pub into : ℕ → ℕ
@@ -47,7 +47,7 @@ unfoldable pub chunk_of : ℕ → List (ℕ × ℕ) → ℕ
 chunk_of v [] = None
 chunk_of v (e ∷ l) = cond (eqb e.0 v) e.1 (chunk_of v l)
 
--- "nonzero means yes"
+-- nonzero means yes
 abbrev pub yes : ℕ → Bool
 yes v = not (eqb v 0)
 

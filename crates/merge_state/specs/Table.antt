@@ -30,7 +30,7 @@ pub data Call : Type 0 where
   merge_chunk_dependencies : (target source : ℕ) → Call
   pass : (props bars kinds numbers : List ℕ) → Call
 
--- "The first fitting row wins": its number, 0 where none fits
+-- The first fitting row wins: its number, 0 where none fits
 unfoldable pub first_fitting : List (Bool × ℕ) → ℕ
 first_fitting [] = 0
 first_fitting (r ∷ l) = cond r.0 r.1 (first_fitting l)
@@ -39,16 +39,16 @@ first_fitting (r ∷ l) = cond r.0 r.1 (first_fitting l)
 unfoldable pub falling : ℕ → List ℕ → Bool
 falling n l = some_below (λ i. ltb (get_or l (i + 1) 0) (get_or l i 0)) n
 
--- row 4's fault: "not from 0, falling, or not ending at D", of n + 1 starts
+-- the fault of starts: not n + 1 of them, not from 0, falling, or not ending at d
 unfoldable pub bad_starts : ℕ → List ℕ → ℕ → Bool
 bad_starts n starts d =
     not (eqb (length starts) (n + 1)) || (not (eqb (get_or starts 0 0) 0) || (not (eqb (get_or starts n 0) d) || falling n starts))
 
--- "chunk .. not yet made"
+-- the chunk isn't made yet
 abbrev pub unmade : Graph → ℕ → Bool
 unmade g x = leb g.made x
 
--- "module ≥ M"; "a list entry is needed and L are in use"
+-- there is no such module; a list entry is needed and L are in use
 abbrev pub no_module : Sizes → ℕ → Bool
 no_module z m = leb z.modules m
 
@@ -62,7 +62,7 @@ other_length l n = not (eqb (length l) n)
 unfoldable pub any_misfit : ℕ → Bool → List ℕ → Bool
 any_misfit top free l = some_below (λ i. misfit top free (get_or l i 0)) (length l)
 
--- Row 14 by the call's own lists: "over 8,192 module dependencies"
+-- Row 14 by the call's own lists: over 8,192 module dependencies
 unfoldable pub over_lists : Call → Bool
 over_lists (init_module_assignment m set effs) = false
 over_lists (add_module_to_chunk m x effs) = false
@@ -74,7 +74,7 @@ over_lists (is_reachable x y) = false
 over_lists (merge_chunk_dependencies t s) = false
 over_lists (pass props bars kinds numbers) = false
 
--- Row 15 by the call's own lists, those of the pass apart: "wrong list length; starts (M + 1 of them) faulty as in 4"
+-- Row 15 by the call's own lists, those of the pass apart: a wrong length, or faulty starts, of which there are M + 1
 unfoldable pub bad_lists : Sizes → Call → Bool
 bad_lists z (init_module_assignment m set effs) = other_length effs z.modules
 bad_lists z (add_module_to_chunk m x effs) = other_length effs z.modules
@@ -86,11 +86,11 @@ bad_lists z (is_reachable x y) = false
 bad_lists z (merge_chunk_dependencies t s) = false
 bad_lists z (pass props bars kinds numbers) = false
 
--- (vii): "a pass's proposed chunk, has already been merged away"; None is none's
+-- a proposed chunk has already been merged away; None is no chunk
 abbrev pub any_gone : Graph → List ℕ → Bool
 any_gone g l = some_below (λ i. gone g (get_or l i 0)) (length l)
 
--- The rows after 21: "the pass's own four lists by 15, then 16, 20, 18, 19"; in a proposal "chunk not initial". (vii): 28 "right after 20"
+-- The rows after 21: the pass's own four lists by 15, then 16 (for a proposal, that it isn't an initial chunk), 20, 28, 18, 19
 unfoldable pub later : Sizes → Graph → Call → List (Bool × ℕ)
 later z g (init_module_assignment m set effs) =
     (no_module z m || not (legal z.bits set), 16) ∷ (eqb (chunk_of (value set) g.sets) None && leb z.chunks g.made, 18) ∷ (full z g, 19) ∷ []
@@ -118,7 +118,7 @@ acted z g (is_reachable x y) = (says (reachable g x y), g)
 acted z g (merge_chunk_dependencies t s) = (done, merged g t s)
 acted z g (pass props bars kinds numbers) = let r = passed g props bars g.made in (lists r.kinds r.numbers, r.graph)
 
--- row n of the table fits, or none where n is 0: "A refusal is its number and no lent number changes."
+-- row n of the table fits, or none where n is 0: a refusal is its number, and no lent number changes
 unfoldable pub turned : {A : Type 0} → ℕ → A → Answer × A → Answer × A
 turned zero g r = r
 turned (suc n) g r = (refused (suc n), g)

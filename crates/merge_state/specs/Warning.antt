@@ -1,5 +1,5 @@
--- `warning_exactly`: what the warning says of the fused graph (demand 2), where merged chunks don't stand for their target. Assumes nothing.
-use Rattle.std.specs.Prelude.{ℕ, ◌<◌, ◌≡◌, ◌⊎◌, ◌↔◌, Bool, false, ◌&&◌, ◌||◌, eqb}
+-- `warning_exactly`: what the warning says of the fused graph, where merged chunks don't stand for their target. Assumes nothing.
+use Rattle.std.specs.Prelude.{ℕ, ◌<◌, ◌≡◌, ◌⊎◌, Bool, false, ◌&&◌, ◌||◌, eqb}
 use Rattle.std.proofs.Math.Decide.{ℕ_discrete}
 use Rattle.std.proofs.Math.Path.{refl, sym}
 use Rattle.std.proofs.Common.{ap, ◌∙◌, true≢false}
@@ -7,12 +7,12 @@ use Rattle.std.proofs.Math.Logic.{inl, inr, ⊎_elim}
 use Rattle.std.proofs.Math.Bool.{true, not}
 use borrow.Author.Tests.{eqb-true, eqb-false, eq-eqb, ne_eqb, not-true}
 use Rattle.graphs.specs.Bools.{or_cases, or_left, or_right, and_left, and_right, and_both}
-use Rattle.graphs.specs.Lists.{some_below, some_give, some_take}
-use Rattle.graphs.specs.Walk.{Walk, one, more}
+use Rattle.graphs.specs.Lists.{some_below, some_take}
+use Rattle.graphs.specs.Walk.{Walk, one}
 use Rattle.graphs.specs.Walks.{join}
 use Rattle.merge_state.specs.State.{Graph}
 use Rattle.graph_walks.specs.Closed.{closed}
-use Rattle.graph_walks.specs.ClosedLaws.{closed-first, closed-next, closed_all}
+use Rattle.graph_walks.specs.ClosedLaws.{closed_all}
 use Rattle.merge_state.specs.Methods.{warns}
 
 -- The fused graph: the source's place is taken by the target. An edge between two different nodes, neither of them the source, where a

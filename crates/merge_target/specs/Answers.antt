@@ -1,8 +1,14 @@
--- What the calls answer, in document 01's terms. Assumes nothing.
+-- What the calls answer, in the terms of the definitions. Assumes nothing.
+use Rattle.std.specs.Prelude.{Option, None, Some, Result, Ok, Err}
+use Rattle.refusals.specs.declared.Refusal.{Refusal}
+use Rattle.refusals.specs.Rows.{row}
+use Rattle.merge_state.specs.declared.ChunkIdx.{ChunkIdx}
 use Rattle.merge_state.specs.Table.{Answer, refused, chunk, nothing}
-use Rattle.merge_target.specs.declared.TargetAnswer as a
 
-abbrev pub target_told : a.TargetAnswer → Answer
-target_told (a.TheVariants.Into x) = chunk x.0
-target_told a.TheVariants.Nothing = nothing
-target_told (a.TheVariants.Refused n) = refused n
+abbrev pub found_told : Option ChunkIdx → Answer
+found_told (Some x) = chunk x.0
+found_told None = nothing
+
+abbrev pub target_told : Result (Option ChunkIdx) Refusal → Answer
+target_told (Ok x) = found_told x
+target_told (Err r) = refused (row r)

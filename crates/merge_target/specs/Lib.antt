@@ -1,2 +1,5 @@
--- What the calls answer, in document 01's terms. Assumes nothing.
+-- What the calls are lent and answer. Assumes nothing.
 pub mod Answers
+pub mod Lent
+pub mod Roles
+pub mod Sound

@@ -1,219 +1,159 @@
-// The choice of the chunk that a candidate may be merged into. Of lists of lists each is lent with its starts: the modules of each chunk (mstarts,
-// modules), who imports each module statically (istarts, importers) and dynamically (dstarts, dynamics), the dynamic entries that each chunk
-// reaches (rstarts, reached).
+// The choice of the chunk that a candidate may be merged into, over lent lists.
 #![tactic(auto)]
 
 mod classes; // classes.rt: the row that refuses a bank's own classes
 mod guards; // guards.rt: what bars a target
-mod marks; // marks.rt: numbers of lists marked
-mod named; // named.rt: what the bits of a set name
+mod marks; // marks.rt: numbers marked in a table
+mod roles; // roles.rt: what the bits of a set name
 mod row; // row.rt: the row that refuses a call
 mod target; // target.rt: the first entry that all others import
 
-ghost use Rattle.std.specs.Prelude.{◌≡◌, false, length};
+ghost use Rattle.std.specs.Prelude.{◌≡◌, ◌<◌, false, length, IfSome, All};
 ghost use Rattle.entry_set.specs.Sets.{number};
-ghost use Rattle.merge_choice.specs.Choice.{lists, user_target, dynamic_target, choice};
-ghost use Rattle.merge_choice.specs.Find.{row23, told, find, find_by};
+ghost use Rattle.merge_choice.specs.Choice.{user_target, dynamic_target, chosen, choice};
+ghost use Rattle.merge_choice.specs.Find.{row23, find, find_by};
 ghost use Rattle.merge_choice.specs.Named.{reads};
-ghost use Rattle.merge_choice.specs.Chosen.{lent, Ready, CanGuard};
+ghost use Rattle.merge_choice.specs.Spans.{Span};
+ghost use Rattle.merge_state.specs.Named.{number_of};
 ghost use Rattle.merge_target.specs.Answers.{target_told};
+ghost use Rattle.merge_target.specs.Lent.{lists_of, list_of, lent_by};
+ghost use Rattle.merge_target.specs.Roles.{numbers};
+ghost use Rattle.merge_target.specs.Sound.{Sound, Roled};
 
 use entry_set::EntrySet;
-use merge_state::{ChunkIdx, NONE};
+use merge_state::ChunkIdx;
+use refusals::Refusal;
+use roles::Role;
 
-// How many chunks and modules there are.
+// Lists of numbers in one: list x is the items from start x up to start x + 1.
 #[derive(Clone, Copy)]
-pub struct Counts {
-    pub chunks: usize,
-    pub modules: usize,
+pub struct Lists<'l> {
+    pub starts: &'l [u32],
+    pub items: &'l [u32],
 }
 
-// What the choice of a merge target answers.
+impl<'l> Lists<'l> {
+    // List x.
+    fn of(&self, x: usize) -> &'l [u32]
+        requires { Span self.now.starts.now self.now.items.now x }
+        ensures { result.now ≡ list_of (lists_of self.now) x }
+    {
+        let from = self.starts[x] as usize;
+        let to = self.starts[x + 1] as usize;
+        &self.items[from..to]
+    }
+}
+
+// What the choice is lent of the chunks and the modules.
 #[derive(Clone, Copy)]
-pub enum TargetAnswer {
-    Into(ChunkIdx),
-    Nothing,
-    Refused(u32),
+pub struct Bundle<'b> {
+    // How many there are.
+    pub chunks: usize,
+    pub modules: usize,
+    // Each chunk's kind, its entry module, whether it has side effects, its modules, and the dynamic entries that it reaches.
+    pub kinds: &'b [u32],
+    pub entries: &'b [u32],
+    pub effects: &'b [u32],
+    pub contents: Lists<'b>,
+    pub reached: Lists<'b>,
+    // Who imports each module statically, who dynamically, and whether it has observable exports.
+    pub importers: Lists<'b>,
+    pub dynamic_importers: Lists<'b>,
+    pub exports: &'b [u32],
+}
+
+// What may be merged into a chunk: a set of entry bits, and its modules.
+#[derive(Clone, Copy)]
+pub struct Candidate<'c> {
+    pub set: EntrySet,
+    pub modules: &'c [u32],
 }
 
 // The class of each entry kind: 1 for a user entry, 0 for a dynamic one.
 const BUILT_IN: [u32; 8] = [0, 1, 0, 1, 1, 1, 1, 1];
 
-// The target where a user entry is named, or None.
-fn user_target(
-    counts: Counts,
-    roles: &[u32],
-    entries: &[u32],
-    mstarts: &[u32],
-    modules: &[u32],
-    istarts: &[u32],
-    importers: &[u32],
-    dstarts: &[u32],
-    dynamics: &[u32],
-    rstarts: &[u32],
-    reached: &[u32],
-    effects: &[u32],
-    candidate: &[u32],
-) -> u32
-    requires { Ready counts.chunks counts.modules 2 roles.now entries.now istarts.now importers.now candidate.now × CanGuard counts.chunks counts.modules mstarts.now modules.now dstarts.now dynamics.now rstarts.now reached.now effects.now }
-    ensures { result ≡ user_target (reads roles.now) counts.chunks entries.now (lists mstarts.now modules.now) (lists istarts.now importers.now) (lists dstarts.now dynamics.now) (lists rstarts.now reached.now) effects.now candidate.now }
+// The target where a user entry is named.
+fn user_target(bundle: &Bundle, candidate: &Candidate, roles: &[Role]) -> Option<ChunkIdx>
+    requires sound { Sound bundle.now }
+    requires own { All (λ m. m < bundle.now.modules) candidate.now.modules.now }
+    requires roled { Roled bundle.now roles.now }
+    ensures value { number_of result ≡ user_target (reads (numbers roles.now)) bundle.now.chunks bundle.now.entries.now (lists_of bundle.now.contents) (lists_of bundle.now.importers) (lists_of bundle.now.dynamic_importers) (lists_of bundle.now.reached) bundle.now.effects.now candidate.now.modules.now }
+    ensures below { IfSome result (λ t. t.0 < bundle.now.chunks) }
 {
-    let n = named::bits(counts.chunks);
-    let t = target::first_target(n, roles, 2, entries, istarts, importers);
-    if t == NONE {
-        return NONE;
+    let t = target::first_target(bundle, roles, Role::UserEntry)?;
+    let at = t.0 as usize;
+    if guards::is_unreached(bundle, roles, at)
+        || guards::leaks(bundle, roles, at)
+        || guards::strays(bundle, candidate, at)
+    {
+        return None;
     }
-    let at = t as usize;
-    if guards::is_unreached(n, roles, rstarts, reached, at) {
-        return NONE;
-    }
-    if guards::leaks(counts.chunks, n, roles, rstarts, reached, effects, at) {
-        return NONE;
-    }
-    if guards::strays(mstarts, modules, dstarts, dynamics, candidate, at) {
-        return NONE;
-    }
-    t
+    Some(t)
 }
 
-// The target where no user entry is named, or None.
-fn dynamic_target(
-    counts: Counts,
-    roles: &[u32],
-    entries: &[u32],
-    istarts: &[u32],
-    importers: &[u32],
-    exports: &[u32],
-    candidate: &[u32],
-) -> u32
-    requires { Ready counts.chunks counts.modules 1 roles.now entries.now istarts.now importers.now candidate.now × (length exports.now ≡ counts.modules) }
-    ensures { result ≡ dynamic_target (reads roles.now) counts.chunks entries.now (lists istarts.now importers.now) exports.now candidate.now }
+// The target where no user entry is named.
+fn dynamic_target(bundle: &Bundle, candidate: &Candidate, roles: &[Role]) -> Option<ChunkIdx>
+    requires sound { Sound bundle.now }
+    requires own { All (λ m. m < bundle.now.modules) candidate.now.modules.now }
+    requires roled { Roled bundle.now roles.now }
+    ensures value { number_of result ≡ dynamic_target (reads (numbers roles.now)) bundle.now.chunks bundle.now.entries.now (lists_of bundle.now.importers) bundle.now.exports.now candidate.now.modules.now }
+    ensures below { IfSome result (λ t. t.0 < bundle.now.chunks) }
 {
-    let n = named::bits(counts.chunks);
-    let t = target::first_target(n, roles, 1, entries, istarts, importers);
-    if t == NONE {
-        return NONE;
+    let t = target::first_target(bundle, roles, Role::DynamicEntry)?;
+    if guards::pollutes(bundle, candidate, roles, t.0 as usize) {
+        return None;
     }
-    if guards::pollutes(n, roles, entries, exports, candidate, t as usize) {
-        return NONE;
-    }
-    t
+    Some(t)
 }
 
-// The target by the classes of the entry kinds, or None.
-fn choose(
-    counts: Counts,
-    kinds: &[u32],
-    entries: &[u32],
-    mstarts: &[u32],
-    modules: &[u32],
-    istarts: &[u32],
-    importers: &[u32],
-    dstarts: &[u32],
-    dynamics: &[u32],
-    rstarts: &[u32],
-    reached: &[u32],
-    effects: &[u32],
-    exports: &[u32],
-    candidate: &[u32],
-    set: EntrySet,
-    classes: &[u32],
-) -> u32
-    requires { (row23 counts.chunks counts.modules kinds.now (lent entries.now mstarts.now modules.now istarts.now importers.now dstarts.now dynamics.now rstarts.now reached.now effects.now exports.now candidate.now) ≡ false) × (length classes.now ≡ 8) }
-    ensures { result ≡ choice classes.now kinds.now (number set) (lent entries.now mstarts.now modules.now istarts.now importers.now dstarts.now dynamics.now rstarts.now reached.now effects.now exports.now candidate.now) }
+// The target by the roles of the chunks that bits can name.
+fn chosen(bundle: &Bundle, candidate: &Candidate, roles: &[Role]) -> Option<ChunkIdx>
+    requires sound { Sound bundle.now }
+    requires own { All (λ m. m < bundle.now.modules) candidate.now.modules.now }
+    requires roled { Roled bundle.now roles.now }
+    ensures value { number_of result ≡ chosen (reads (numbers roles.now)) bundle.now.chunks (lent_by bundle.now candidate.now) }
+    ensures below { IfSome result (λ t. t.0 < bundle.now.chunks) }
 {
-    let n = named::bits(counts.chunks);
-    let mut roles = [0u32; 1024];
-    named::set_roles(kinds, classes, set, n, &mut roles);
-    if named::some_role(&roles, n, 3) {
-        return NONE;
+    if roles.contains(&Role::CommonChunk) {
+        return None;
     }
-    if named::some_role(&roles, n, 2) {
-        return user_target(
-            counts, &roles, entries, mstarts, modules, istarts, importers, dstarts, dynamics,
-            rstarts, reached, effects, candidate,
-        );
+    if roles.contains(&Role::UserEntry) {
+        return user_target(bundle, candidate, roles);
     }
-    dynamic_target(
-        counts, &roles, entries, istarts, importers, exports, candidate,
-    )
+    dynamic_target(bundle, candidate, roles)
 }
 
-// A target, or none, as an answer.
-fn answer(t: u32) -> TargetAnswer
-    ensures { target_told result ≡ told t }
+// The target by the classes of the entry kinds.
+fn choose(bundle: &Bundle, candidate: &Candidate, classes: &[u32]) -> Option<ChunkIdx>
+    requires lists { row23 bundle.now.chunks bundle.now.modules bundle.now.kinds.now (lent_by bundle.now candidate.now) ≡ false }
+    requires eight { length classes.now ≡ 8 }
+    ensures value { number_of result ≡ choice classes.now bundle.now.kinds.now (number candidate.now.set) (lent_by bundle.now candidate.now) }
+    ensures below { IfSome result (λ t. t.0 < bundle.now.chunks) }
 {
-    if t == NONE {
-        return TargetAnswer::Nothing;
-    }
-    TargetAnswer::Into(ChunkIdx(t))
+    let table = roles::table(bundle.kinds, classes, candidate.set);
+    chosen(bundle, candidate, &table[..roles::bits(bundle.chunks)])
 }
 
-// The chunk that the candidate of a set and modules may be merged into, or none.
-pub fn merge_target(
-    counts: Counts,
-    kinds: &[u32],
-    entries: &[u32],
-    mstarts: &[u32],
-    modules: &[u32],
-    istarts: &[u32],
-    importers: &[u32],
-    dstarts: &[u32],
-    dynamics: &[u32],
-    rstarts: &[u32],
-    reached: &[u32],
-    effects: &[u32],
-    exports: &[u32],
-    candidate: &[u32],
-    set: EntrySet,
-) -> TargetAnswer
-    ensures { target_told result ≡ find counts.chunks counts.modules kinds.now (number set) (lent entries.now mstarts.now modules.now istarts.now importers.now dstarts.now dynamics.now rstarts.now reached.now effects.now exports.now candidate.now) }
+// The chunk that the candidate may be merged into, if there is one.
+pub fn merge_target(bundle: &Bundle, candidate: &Candidate) -> Result<Option<ChunkIdx>, Refusal>
+    ensures { target_told result ≡ find bundle.now.chunks bundle.now.modules bundle.now.kinds.now (number candidate.now.set) (lent_by bundle.now candidate.now) }
 {
-    if row::is_refused(
-        counts, kinds, entries, mstarts, modules, istarts, importers, dstarts, dynamics, rstarts,
-        reached, effects, exports, candidate,
-    ) {
-        return TargetAnswer::Refused(23);
-    }
-    let classes = BUILT_IN;
-    answer(choose(
-        counts, kinds, entries, mstarts, modules, istarts, importers, dstarts, dynamics, rstarts,
-        reached, effects, exports, candidate, set, &classes,
-    ))
+    merge_target_by_classes(bundle, candidate, &BUILT_IN)
 }
 
 // The same by the classes of the entry kinds that are lent: eight, 0 dynamic and 1 user, odd rows 1.
 pub fn merge_target_by_classes(
-    counts: Counts,
-    kinds: &[u32],
-    entries: &[u32],
-    mstarts: &[u32],
-    modules: &[u32],
-    istarts: &[u32],
-    importers: &[u32],
-    dstarts: &[u32],
-    dynamics: &[u32],
-    rstarts: &[u32],
-    reached: &[u32],
-    effects: &[u32],
-    exports: &[u32],
-    candidate: &[u32],
-    set: EntrySet,
+    bundle: &Bundle,
+    candidate: &Candidate,
     classes: &[u32],
-) -> TargetAnswer
-    ensures { target_told result ≡ find_by classes.now counts.chunks counts.modules kinds.now (number set) (lent entries.now mstarts.now modules.now istarts.now importers.now dstarts.now dynamics.now rstarts.now reached.now effects.now exports.now candidate.now) }
+) -> Result<Option<ChunkIdx>, Refusal>
+    ensures { target_told result ≡ find_by classes.now bundle.now.chunks bundle.now.modules bundle.now.kinds.now (number candidate.now.set) (lent_by bundle.now candidate.now) }
 {
-    if row::is_refused(
-        counts, kinds, entries, mstarts, modules, istarts, importers, dstarts, dynamics, rstarts,
-        reached, effects, exports, candidate,
-    ) {
-        return TargetAnswer::Refused(23);
+    if row::is_refused(bundle, candidate) {
+        return Err(Refusal::ChoiceLists);
     }
     if classes::are_refused(classes) {
-        return TargetAnswer::Refused(25);
+        return Err(Refusal::FaultyClasses);
     }
-    answer(choose(
-        counts, kinds, entries, mstarts, modules, istarts, importers, dstarts, dynamics, rstarts,
-        reached, effects, exports, candidate, set, classes,
-    ))
+    Ok(choose(bundle, candidate, classes))
 }

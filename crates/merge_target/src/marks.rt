@@ -1,71 +1,47 @@
-// Numbers of lists marked.
-ghost use Rattle.std.specs.Prelude.{◌≡◌, true, cond, ◌+◌, ◌<◌, ◌≤◌, eqb, length, get_or, set};
-ghost use Rattle.merge_choice.specs.Choice.{lists, size};
-ghost use Rattle.merge_choice.specs.Marks.{Marked, all, part, empty, dynamic, CanMark, CanMarkList, CanMarkFree, CanMarkEntries};
+// Numbers marked in a table. 0 is no mark.
+ghost use Rattle.std.specs.Prelude.{◌≡◌, ◌<◌, length, All};
+ghost use Rattle.merge_choice.specs.Marks.{Marked, all, empty, dynamic};
 ghost use Rattle.merge_choice.specs.Named.{reads};
+ghost use Rattle.merge_target.specs.Roles.{numbers};
+ghost use Rattle.merge_target.specs.Sound.{Sound, Roled};
 
-// v at y, where b holds.
-fn mark_if(marks: &mut [u32], b: bool, y: usize, v: u32)
-    requires { b ≡ true → y < length marks.old }
-    ensures { marks.new ≡ cond b (set marks.old y v) marks.old }
+use crate::roles::{Role, is_dynamic};
+use crate::{Bundle, Candidate};
+
+// The mark at each number of a list.
+pub(crate) fn mark_list(list: &[u32], mark: u32, marks: &mut [u32])
+    requires { All (λ y. y < length marks.old) list.now }
+    ensures { Marked all (reads list.now) (length list.now) mark marks.old marks.new }
 {
-    if !b {
-        return;
+    for &y in list {
+        marks[y as usize] = mark;
     }
-    marks[y] = v;
-}
-
-// v at each of the n numbers from `from` on.
-fn mark_items(items: &[u32], from: usize, n: usize, v: u32, marks: &mut [u32])
-    requires { CanMark items.now from n marks.old }
-    ensures { Marked all (part items.now from) n v marks.old marks.new }
-{
-    let mut i = 0;
-    while i < n {
-        marks[items[from + i] as usize] = v;
-        i += 1;
-    }
-}
-
-// v at each item of list x.
-pub(crate) fn mark_list(starts: &[u32], items: &[u32], x: usize, v: u32, marks: &mut [u32])
-    requires { CanMarkList starts.now items.now x marks.old }
-    ensures { Marked all (part items.now (get_or starts.now x 0)) (size (lists starts.now items.now) x) v marks.old marks.new }
-{
-    let from = starts[x] as usize;
-    let n = starts[x + 1] as usize - from;
-    mark_items(items, from, n, v, marks);
-}
-
-// List x is empty.
-fn is_empty(starts: &[u32], x: usize) -> bool
-    requires { x + 1 < length starts.now }
-    ensures { result ≡ eqb (size (lists starts.now starts.now) x) 0 }
-{
-    starts[x + 1] <= starts[x]
 }
 
 // 1 at each of the candidate's modules that nobody imports dynamically.
-pub(crate) fn mark_free(candidate: &[u32], starts: &[u32], marks: &mut [u32])
-    requires { CanMarkFree candidate.now starts.now marks.old }
-    ensures { Marked (empty candidate.now starts.now) (reads candidate.now) (length candidate.now) 1 marks.old marks.new }
+pub(crate) fn mark_free(bundle: &Bundle, candidate: &Candidate, marks: &mut [u32])
+    requires sound { Sound bundle.now }
+    requires own { All (λ m. m < bundle.now.modules) candidate.now.modules.now }
+    requires room { length marks.old ≡ 4096 }
+    ensures { Marked (empty candidate.now.modules.now bundle.now.dynamic_importers.starts.now) (reads candidate.now.modules.now) (length candidate.now.modules.now) 1 marks.old marks.new }
 {
-    let mut i = 0;
-    while i < candidate.len() {
-        let m = candidate[i] as usize;
-        mark_if(marks, is_empty(starts, m), m, 1);
-        i += 1;
+    for &m in candidate.modules {
+        if bundle.dynamic_importers.of(m as usize).is_empty() {
+            marks[m as usize] = 1;
+        }
     }
 }
 
-// 1 at the entry module of each dynamic entry below n.
-pub(crate) fn mark_entries(n: usize, roles: &[u32], entries: &[u32], marks: &mut [u32])
-    requires { CanMarkEntries n roles.now entries.now marks.old }
-    ensures { Marked (dynamic roles.now) (reads entries.now) n 1 marks.old marks.new }
+// 1 at the entry module of each dynamic entry that is named.
+pub(crate) fn mark_entries(bundle: &Bundle, roles: &[Role], marks: &mut [u32])
+    requires sound { Sound bundle.now }
+    requires roled { Roled bundle.now roles.now }
+    requires room { length marks.old ≡ 4096 }
+    ensures { Marked (dynamic (numbers roles.now)) (reads bundle.now.entries.now) (length roles.now) 1 marks.old marks.new }
 {
-    let mut d = 0;
-    while d < n {
-        mark_if(marks, roles[d] == 1, entries[d] as usize, 1);
-        d += 1;
+    for d in 0..roles.len() {
+        if is_dynamic(roles, d) {
+            marks[bundle.entries[d] as usize] = 1;
+        }
     }
 }

@@ -1,143 +1,69 @@
 // The row that refuses a call: the lengths, starts, kinds and indices of the lent lists.
-ghost use Rattle.std.specs.Prelude.{◌≡◌, ◌<◌, length};
-ghost use Rattle.graphs.specs.Lists.{some_below};
-ghost use Rattle.merge_choice.specs.Choice.{lists};
-ghost use Rattle.merge_choice.specs.Find.{bad_lists, bad_entry, bad_lengths, bad_spans, bad_numbers, row23};
-ghost use Rattle.merge_choice.specs.Chosen.{lent};
+ghost use Rattle.std.specs.Prelude.{◌≡◌, not, ◌&&◌, eqb, leb, length};
+ghost use Rattle.std.specs.List.{list_any, zip};
+ghost use Rattle.merge_choice.specs.Find.{bad_lists, bad_lengths, bad_spans, bad_numbers, row23};
+ghost use Rattle.merge_target.specs.Lent.{lists_of, lent_by};
 
-use crate::Counts;
+use crate::{Bundle, Candidate, Lists};
 use merge_rows::checks::{are_bad_starts, has_misfit};
 
 // Too many chunks or modules, or a list of the wrong length.
-fn has_bad_lengths(
-    counts: Counts,
-    kinds: &[u32],
-    entries: &[u32],
-    effects: &[u32],
-    exports: &[u32],
-) -> bool
-    ensures { result ≡ bad_lengths counts.chunks counts.modules kinds.now entries.now effects.now exports.now }
+#[tactic(auto, unfolding(merge_choice::specs::Find::bad_lengths))]
+fn has_bad_lengths(bundle: &Bundle) -> bool
+    ensures { result ≡ bad_lengths bundle.now.chunks bundle.now.modules bundle.now.kinds.now bundle.now.entries.now bundle.now.effects.now bundle.now.exports.now }
 {
-    if 1024 < counts.chunks {
-        return true;
-    }
-    if 4096 < counts.modules {
-        return true;
-    }
-    if kinds.len() != counts.chunks {
-        return true;
-    }
-    if entries.len() != counts.chunks {
-        return true;
-    }
-    if effects.len() != counts.chunks {
-        return true;
-    }
-    exports.len() != counts.modules
+    1024 < bundle.chunks
+        || 4096 < bundle.modules
+        || bundle.kinds.len() != bundle.chunks
+        || bundle.entries.len() != bundle.chunks
+        || bundle.effects.len() != bundle.chunks
+        || bundle.exports.len() != bundle.modules
 }
 
 // n lists of numbers below top have faulty starts or a number that isn't.
-fn are_bad_lists(n: usize, top: usize, starts: &[u32], items: &[u32]) -> bool
-    ensures { result ≡ bad_lists n top (lists starts.now items.now) }
+#[tactic(auto, unfolding(merge_choice::specs::Find::bad_lists))]
+fn are_bad_lists(n: usize, top: usize, lists: &Lists) -> bool
+    ensures { result ≡ bad_lists n top (lists_of lists.now) }
 {
-    if are_bad_starts(n, starts, items.len()) {
-        return true;
-    }
-    has_misfit(items, top, false)
+    are_bad_starts(n, lists.starts, lists.items.len()) || has_misfit(lists.items, top, false)
 }
 
 // One of the four lists of lists is such.
-fn has_bad_spans(
-    counts: Counts,
-    mstarts: &[u32],
-    modules: &[u32],
-    istarts: &[u32],
-    importers: &[u32],
-    dstarts: &[u32],
-    dynamics: &[u32],
-    rstarts: &[u32],
-    reached: &[u32],
-) -> bool
-    ensures { result ≡ bad_spans counts.chunks counts.modules (lists mstarts.now modules.now) (lists istarts.now importers.now) (lists dstarts.now dynamics.now) (lists rstarts.now reached.now) }
+#[tactic(auto, unfolding(merge_choice::specs::Find::bad_spans))]
+fn has_bad_spans(bundle: &Bundle) -> bool
+    ensures { result ≡ bad_spans bundle.now.chunks bundle.now.modules (lists_of bundle.now.contents) (lists_of bundle.now.importers) (lists_of bundle.now.dynamic_importers) (lists_of bundle.now.reached) }
 {
-    if are_bad_lists(counts.chunks, counts.modules, mstarts, modules) {
-        return true;
-    }
-    if are_bad_lists(counts.modules, counts.modules, istarts, importers) {
-        return true;
-    }
-    if are_bad_lists(counts.modules, counts.modules, dstarts, dynamics) {
-        return true;
-    }
-    are_bad_lists(counts.chunks, counts.chunks, rstarts, reached)
+    are_bad_lists(bundle.chunks, bundle.modules, &bundle.contents)
+        || are_bad_lists(bundle.modules, bundle.modules, &bundle.importers)
+        || are_bad_lists(bundle.modules, bundle.modules, &bundle.dynamic_importers)
+        || are_bad_lists(bundle.chunks, bundle.chunks, &bundle.reached)
 }
 
-// The entry module of chunk b is read and isn't below m.
-fn is_bad_entry(kinds: &[u32], entries: &[u32], m: usize, b: usize) -> bool
-    requires { (b < length kinds.now) × (b < length entries.now) }
-    ensures { result ≡ bad_entry kinds.now entries.now m b }
-{
-    if kinds[b] == 8 {
-        return false;
-    }
-    m <= entries[b] as usize
-}
-
-// Some entry module is such.
+// A chunk's entry module isn't below m; a common chunk's isn't read.
 fn has_bad_entry(kinds: &[u32], entries: &[u32], m: usize) -> bool
-    requires { length entries.now ≡ length kinds.now }
-    ensures { result ≡ some_below (bad_entry kinds.now entries.now m) (length kinds.now) }
+    ensures { result ≡ list_any (λ p. not (eqb p.0 8) && leb m p.1) (zip kinds.now entries.now) }
 {
-    let mut b = 0;
-    while b < kinds.len() {
-        if is_bad_entry(kinds, entries, m, b) {
-            return true;
-        }
-        b += 1;
-    }
-    false
+    kinds
+        .iter()
+        .zip(entries)
+        .any(|(&kind, &entry)| kind != 8 && m <= entry as usize)
 }
 
 // A kind above 8, or a module out of range.
-fn has_bad_numbers(m: usize, kinds: &[u32], entries: &[u32], candidate: &[u32]) -> bool
-    requires { length entries.now ≡ length kinds.now }
-    ensures { result ≡ bad_numbers m kinds.now entries.now candidate.now }
+#[tactic(auto, unfolding(merge_choice::specs::Find::bad_numbers))]
+fn has_bad_numbers(bundle: &Bundle, candidate: &Candidate) -> bool
+    requires { length bundle.now.entries.now ≡ length bundle.now.kinds.now }
+    ensures { result ≡ bad_numbers bundle.now.modules bundle.now.kinds.now bundle.now.entries.now candidate.now.modules.now }
 {
-    if has_misfit(kinds, 9, false) {
-        return true;
-    }
-    if has_misfit(candidate, m, false) {
-        return true;
-    }
-    has_bad_entry(kinds, entries, m)
+    has_misfit(bundle.kinds, 9, false)
+        || has_misfit(candidate.modules, bundle.modules, false)
+        || has_bad_entry(bundle.kinds, bundle.entries, bundle.modules)
 }
 
 // Row 23 fits.
-pub(crate) fn is_refused(
-    counts: Counts,
-    kinds: &[u32],
-    entries: &[u32],
-    mstarts: &[u32],
-    modules: &[u32],
-    istarts: &[u32],
-    importers: &[u32],
-    dstarts: &[u32],
-    dynamics: &[u32],
-    rstarts: &[u32],
-    reached: &[u32],
-    effects: &[u32],
-    exports: &[u32],
-    candidate: &[u32],
-) -> bool
-    ensures { result ≡ row23 counts.chunks counts.modules kinds.now (lent entries.now mstarts.now modules.now istarts.now importers.now dstarts.now dynamics.now rstarts.now reached.now effects.now exports.now candidate.now) }
+#[tactic(auto, using(merge_choice::specs::Rows::equal_lengths), unfolding(merge_choice::specs::Find::row23))]
+pub(crate) fn is_refused(bundle: &Bundle, candidate: &Candidate) -> bool
+    ensures { result ≡ row23 bundle.now.chunks bundle.now.modules bundle.now.kinds.now (lent_by bundle.now candidate.now) }
 {
-    if has_bad_lengths(counts, kinds, entries, effects, exports) {
-        return true;
-    }
-    if has_bad_spans(
-        counts, mstarts, modules, istarts, importers, dstarts, dynamics, rstarts, reached,
-    ) {
-        return true;
-    }
-    has_bad_numbers(counts.modules, kinds, entries, candidate)
+    has_bad_lengths(bundle) || has_bad_spans(bundle) || has_bad_numbers(bundle, candidate)
 }

@@ -1,7 +1,6 @@
 -- The warning over marks where chunks stand for the end of their merges. Assumes nothing.
 use Rattle.std.specs.Prelude.{ℕ, ◌+◌, ◌*◌, ◌<◌, ◌≤◌, ◌≡◌, refl, Bool, false, ◌&&◌, List, get_or, length}
-use Rattle.std.proofs.Common.{arith, sym, ap, ap₂, subst, ◌∙◌}
-use Rattle.std.proofs.Math.Decide.{ℕ_discrete}
+use Rattle.std.proofs.Common.{arith, sym, ap, subst, ◌∙◌}
 use Rattle.std.proofs.Math.Path.{fun_ext}
 use Rattle.std.proofs.Math.Bool.{true, not, and-false}
 use Rattle.std.proofs.Math.Dec.{eqb}

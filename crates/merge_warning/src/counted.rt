@@ -1,4 +1,6 @@
-// The two questions where merged chunks stand for the end of their merges.
+// The two questions where merged chunks stand for the end of their merges: about the source and the target of the rows.
+// stays: two functions of their own beside those of lib.rt. Only the two arrays and the walk are alike; a trait for both would need the tests, the marks'
+// laws and the ranges as members, and is longer than what it saves.
 ghost use Rattle.std.specs.Prelude.{◌≡◌, ◌&&◌, ◌+◌, ◌*◌, ◌<◌, ◌≤◌, length, eqb};
 ghost use Rattle.graphs.specs.Lists.{below, some_below};
 ghost use Rattle.graphs.specs.Walk.{via};
@@ -9,118 +11,77 @@ ghost use Rattle.merge_state.specs.State.{yes};
 ghost use Rattle.merge_state.specs.Methods.{warns};
 ghost use Rattle.merge_warning.specs.EndHits.{CanAskEnds, names, end_hit};
 
+use graph_walks::end_rows::{EndRows, closure_ends};
+
 // The flag is set, and the end of its chunk is source.
 fn is_named(flag: u32, end: u32, source: usize) -> bool
     ensures { result ≡ yes flag && eqb end source }
 {
-    if flag == 0 {
-        return false;
-    }
-    end as usize == source
+    flag != 0 && end as usize == source
 }
 
 // Row i names a chunk whose end is source.
-fn row_names(flags: &[u32], c: usize, n: usize, ends: &[u32], source: usize, i: usize) -> bool
-    requires { (i * c + n ≤ length flags.now) × (n ≤ length ends.now) }
-    ensures { result ≡ some_below (names flags.now c n ends.now source i) n }
+fn row_names(rows: &EndRows, i: usize) -> bool
+    requires { (i * rows.now.stride + rows.now.count ≤ length rows.now.flags.now) × (rows.now.count ≤ length rows.now.ends.now) }
+    ensures { result ≡ some_below (names rows.now.flags.now rows.now.stride rows.now.count rows.now.ends.now rows.now.source i) rows.now.count }
 {
-    let from = i * c;
-    let mut j = 0;
-    while j < n {
-        if is_named(flags[from + j], ends[j], source) {
+    let from = i * rows.stride;
+    for j in 0..rows.count {
+        if is_named(rows.flags[from + j], rows.ends[j], rows.source) {
             return true;
         }
-        j += 1;
     }
     false
 }
 
 // Row i is one of a marked chunk other than source, and names a chunk whose end is source.
-fn end_hits(
-    flags: &[u32],
-    c: usize,
-    n: usize,
-    ends: &[u32],
-    source: usize,
-    target: usize,
-    marks: &[u32],
-    i: usize,
-) -> bool
-    requires { CanAskEnds flags.now c n ends.now source target × (n ≤ length marks.now) × (i < n) }
-    ensures { result ≡ end_hit flags.now c n ends.now source marks.now i }
+#[tactic(auto, unfolding(crate::specs::EndHits::end_hit))]
+fn end_hits(rows: &EndRows, marks: &[u32], i: usize) -> bool
+    requires { CanAskEnds rows.now.flags.now rows.now.stride rows.now.count rows.now.ends.now rows.now.source rows.now.target × (rows.now.count ≤ length marks.now) × (i < rows.now.count) }
+    ensures { result ≡ end_hit rows.now.flags.now rows.now.stride rows.now.count rows.now.ends.now rows.now.source marks.now i }
 {
-    let x = ends[i] as usize;
-    if marks[x] == 0 {
-        return false;
-    }
-    if x == source {
-        return false;
-    }
-    row_names(flags, c, n, ends, source, i)
+    let x = rows.ends[i] as usize;
+    marks[x] != 0 && x != rows.source && row_names(rows, i)
 }
 
 // Some marked chunk depends on source.
-fn some_end_hit(
-    flags: &[u32],
-    c: usize,
-    n: usize,
-    ends: &[u32],
-    source: usize,
-    target: usize,
-    marks: &[u32],
-) -> bool
-    requires { CanAskEnds flags.now c n ends.now source target × (n ≤ length marks.now) }
-    ensures { result ≡ some_below (end_hit flags.now c n ends.now source marks.now) n }
+fn some_end_hit(rows: &EndRows, marks: &[u32]) -> bool
+    requires { CanAskEnds rows.now.flags.now rows.now.stride rows.now.count rows.now.ends.now rows.now.source rows.now.target × (rows.now.count ≤ length marks.now) }
+    ensures { result ≡ some_below (end_hit rows.now.flags.now rows.now.stride rows.now.count rows.now.ends.now rows.now.source marks.now) rows.now.count }
 {
-    let mut i = 0;
-    while i < n {
-        if end_hits(flags, c, n, ends, source, target, marks, i) {
+    for i in 0..rows.count {
+        if end_hits(rows, marks, i) {
             return true;
         }
-        i += 1;
     }
     false
 }
 
 // The warning about merging source into target, by the dependencies that count but the direct one.
-pub fn warn_counted(
-    flags: &[u32],
-    c: usize,
-    n: usize,
-    ends: &[u32],
-    source: usize,
-    target: usize,
-) -> bool
-    requires { CanAskEnds flags.now c n ends.now source target }
-    ensures { result ≡ warns (end_edge flags.now c n ends.now source target) n source target }
+pub fn warn_counted(rows: &EndRows) -> bool
+    requires { CanAskEnds rows.now.flags.now rows.now.stride rows.now.count rows.now.ends.now rows.now.source rows.now.target }
+    ensures { result ≡ warns (end_edge rows.now.flags.now rows.now.stride rows.now.count rows.now.ends.now rows.now.source rows.now.target) rows.now.count rows.now.source rows.now.target }
 {
     let mut marks = [0u32; 1024];
     let mut stack = [0u32; 1024];
-    graph_walks::end_rows::closure_ends(
-        flags, c, n, ends, source, target, 1, &mut marks, &mut stack,
-    );
-    if marks[target] != 0 {
-        return true;
-    }
-    some_end_hit(flags, c, n, ends, source, target, &marks)
+    closure_ends(rows, 1, &mut marks, &mut stack);
+    marks[rows.target] != 0 || some_end_hit(rows, &marks)
 }
 
-// The end of `from` reaches that of `to` in one step or more of the dependencies that count.
-pub fn reaches_counted(
-    flags: &[u32],
-    c: usize,
-    n: usize,
-    ends: &[u32],
-    from: usize,
-    to: usize,
-) -> bool
-    requires { CanAskEnds flags.now c n ends.now from to }
-    ensures { result ≡ via (counted (flag_edge flags.now c n) (end_at ends.now) n) (below n) (end_at ends.now from) (end_at ends.now to) }
+// The end of source reaches that of target in one step or more of the dependencies that count.
+pub fn reaches_counted(rows: &EndRows) -> bool
+    requires { CanAskEnds rows.now.flags.now rows.now.stride rows.now.count rows.now.ends.now rows.now.source rows.now.target }
+    ensures { result ≡ via (counted (flag_edge rows.now.flags.now rows.now.stride rows.now.count) (end_at rows.now.ends.now) rows.now.count) (below rows.now.count) (end_at rows.now.ends.now rows.now.source) (end_at rows.now.ends.now rows.now.target) }
 {
     let mut marks = [0u32; 1024];
     let mut stack = [0u32; 1024];
-    let x = ends[from] as usize;
-    let y = ends[to] as usize;
-    graph_walks::end_rows::closure_ends(flags, c, n, ends, x, x, 1, &mut marks, &mut stack);
+    let x = rows.ends[rows.source] as usize;
+    let y = rows.ends[rows.target] as usize;
+    let own = EndRows {
+        source: x,
+        target: x,
+        ..*rows
+    };
+    closure_ends(&own, 1, &mut marks, &mut stack);
     marks[y] != 0
 }

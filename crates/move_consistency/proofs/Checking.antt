@@ -8,12 +8,11 @@ use lib.ListN.{length, get_or}
 use Rattle.graphs.specs.Bools.{fails, alike}
 use Rattle.move_ledger.specs.Graph.{Load}
 use Rattle.move_ledger.specs.LoadLaws.{Loadable}
-use Rattle.move_slots.specs.Slots.{bounds}
 use Rattle.move_area.specs.Bodies.{atom_at}
 use Rattle.move_area.specs.Area.{consistent}
-use Rattle.move_area.specs.Checked.{Ranged, checked-consistent, consistent_ranged, consistent_worked}
-use Rattle.move_consistency.specs.Ranges.{CanRange, RangeTold}
-use Rattle.move_consistency.specs.Ready.{CanWorkOn, WorkTold, CanCheck, Told}
+use Rattle.move_area.specs.Checked.{checked-consistent, consistent_ranged, consistent_worked}
+use Rattle.move_consistency.specs.Ranges.{RangeTold}
+use Rattle.move_consistency.specs.Ready.{WorkTold, CanCheck, Told}
 
 module _ {load : Load} {n : ℕ} {area degrees order : List ℕ} (can : CanCheck load n area degrees order) where
   loadable : Loadable load n true (length area)
@@ -22,37 +21,24 @@ module _ {load : Load} {n : ℕ} {area degrees order : List ℕ} (can : CanCheck
   room : atom_at n + load.A ≤ length area
   room = omega (arith, loadable.sizes.area)
 
-  pub check_ranges : CanRange load.A n area order degrees
-  check_ranges = record { nodes = loadable.sizes.sets; room = room; order_long = can.order_long; spare_long = can.degrees_long }
-
-  -- the ranges ask for the atoms and the entry bits alone
-  wide : Ranged (bounds load.A load.E) n area → Ranged load n area
-  wide r = record { few = r.few; nodes = r.nodes; distinct = r.distinct; range = r.range; marks = r.marks }
-
-  narrow : Ranged load n area → Ranged (bounds load.A load.E) n area
-  narrow r = record { few = r.few; nodes = r.nodes; distinct = r.distinct; range = r.range; marks = r.marks }
-
-  module _ {order' : List ℕ} {q : Bool} (t : RangeTold load.A load.E n area order' q) where
+  module _ {order' : List ℕ} {q : Bool} (t : RangeTold load n area order' q) where
     pub check_no : {degrees' : List ℕ} → q ≡ false → Told load n area degrees' order' false
     check_no h = record {
-      says = sym (fails _ (λ c. t.says.wrong h (narrow (consistent_ranged load n area loadable.order loadable.sizes.sets room c))));
+      says = sym (fails _ (λ c. t.says.wrong h (consistent_ranged load n area loadable.order loadable.sizes.sets room c)));
       ready = λ z. absurd (true≢false (sym z));
     }
 
     module _ (h : q ≡ true) where
-      pub check_work : {degrees' : List ℕ} → length degrees' ≡ length degrees → CanWorkOn load n area degrees'
-      check_work e = record { loadable = loadable; ranged = wide (t.says.right h); degrees_long = omega (arith, can.degrees_long) }
-
       pub check_done : {degrees' : List ℕ} {r : Bool} → ((i : ℕ) → get_or area i 0 < 2 ^ 32) → WorkTold load n area degrees' r
           → Told load n area degrees' order' r
       check_done {r = r} cells w = record {
         says =
             alike r (consistent load n area)
-            (λ z. checked-consistent load n area loadable.order loadable.sizes.sets room cells (wide (t.says.right h)) (w.says.right z))
+            (λ z. checked-consistent load n area loadable.order loadable.sizes.sets room cells (t.says.right h) (w.says.right z))
             (λ c. yes r refl c);
         ready = λ z. record {
           loadable = loadable;
-          ranged = wide (t.says.right h);
+          ranged = t.says.right h;
           worked = w.says.right z;
           degree_at = w.degree_at z;
           ordered = t.ordered h;

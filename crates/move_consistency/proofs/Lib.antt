@@ -3,4 +3,5 @@ pub mod Ranging
 pub mod Matching
 pub mod Flagging
 pub mod Working
+pub mod Summing
 pub mod Checking

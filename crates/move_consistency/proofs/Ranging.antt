@@ -1,13 +1,13 @@
 -- What each call of `in_ranges` asks, and what they come to. Assumes nothing.
 use mathlib.Core.Path.{◌≡◌, sym, ap, ◌∙◌}
-use mathlib.Core.Bool.{Bool, false, ◌&&◌, true≢false}
+use mathlib.Core.Bool.{Bool, ◌&&◌}
 use mathlib.Core.List.{List}
 use Prim.Native.Nat.{ℕ, ◌+◌, ◌*◌, ◌≤◌, ◌<◌}
 use native.Mathlib.Omega.{arith}
 use lib.ListN.{get_or}
-use Rattle.graphs.specs.Bools.{Decides, no_decides, same_decides, both_decides}
+use Rattle.graphs.specs.Bools.{Decides, same_decides, both_decides}
 use Rattle.entry_set.specs.Lanes.{lanes}
-use Rattle.move_ledger.specs.Graph.{at}
+use Rattle.move_ledger.specs.Graph.{Load, at}
 use Rattle.layout.specs.Compare.{PartUpTo, PartBelow}
 use Rattle.set_order.specs.Order.{lane_set, Distinct}
 use Rattle.move_area.specs.Bodies.{lane_at, atom_at}
@@ -16,10 +16,6 @@ use Rattle.move_area.specs.ListLaws.{one_place}
 use Rattle.move_area.specs.ListLaws as sets
 use Rattle.move_area.specs.Checked.{sets-length, sets-at}
 use Rattle.move_consistency.specs.Ranges.{SetsBelow, SetOrder, RangeTold}
-
--- more sets than there is room for
-pub range_many : {a e n : ℕ} {area order : List ℕ} → n < get_or area (n * n) 0 → RangeTold a e n area order false
-range_many h = record { says = no_decides (λ w. omega (arith, w.few)); ordered = λ q. absurd (true≢false (sym q)) }
 
 module _ (n : ℕ) (area : List ℕ) where
   key-at : (x : ℕ) → x < get_or area (n * n) 0 → at (sets_in n area) x ≡ lane_set area (n * n + 24) n x
@@ -38,10 +34,10 @@ module _ (n : ℕ) (area : List ℕ) where
     same = λ x y bx by e. one_place d x y (omega (arith, sets-length n area)) (omega (arith, sets-length n area)) (key-at x bx ∙ e ∙ sym (key-at y by));
   }
 
-pub range_done : {a e n : ℕ} {area order : List ℕ} {p q r s : Bool} → get_or area (n * n) 0 ≤ n → SetOrder n area order → Decides (PartBelow area (atom_at n) a (get_or area (n * n) 0)) p → Decides (PartUpTo area (lane_at n 9) n (get_or area (n * n + 1) 0)) q
-    → Decides (SetsBelow area (n * n + 24) n (get_or area (n * n) 0) e) r → Decides (Distinct (lane_set area (n * n + 24) n) (get_or area (n * n) 0)) s
-    → RangeTold a e n area order (((p && q) && r) && s)
-range_done {a} {e} {n} {area} few o dp dq dr ds = record {
+pub range_done : {load : Load} {n : ℕ} {area order : List ℕ} {p q r s : Bool} → get_or area (n * n) 0 ≤ n → SetOrder n area order → Decides (PartBelow area (atom_at n) load.A (get_or area (n * n) 0)) p → Decides (PartUpTo area (lane_at n 9) n (get_or area (n * n + 1) 0)) q
+    → Decides (SetsBelow area (n * n + 24) n (get_or area (n * n) 0) load.E) r → Decides (Distinct (lane_set area (n * n + 24) n) (get_or area (n * n) 0)) s
+    → RangeTold load n area order (((p && q) && r) && s)
+range_done {load} {n} {area} few o dp dq dr ds = record {
   says =
       same_decides
       (λ w. record {

@@ -2,14 +2,15 @@
 use mathlib.Core.Path.{◌≡◌, refl, sym, ap, ◌∙◌}
 use mathlib.Core.Bool.{Bool, true, false, not, ◌&&◌}
 use mathlib.Core.List.{List}
-use Prim.Native.Nat.{ℕ, ◌+◌, ◌*◌, ◌<◌}
+use Prim.Native.Nat.{ℕ, ◌<◌}
 use native.Mathlib.Omega.{arith}
 use native.Mathlib.Nat.{zero-add}
-use lib.Dec.{eqb, ltb}
-use lib.ListN.{length, get_or}
-use Rattle.graphs.specs.Bools.{Decides, and_left, and_right, same_decides, both_decides, eqb_decides}
+use Rattle.std.proofs.Common.{get_or-take, length-take-le}
+use lib.Dec.{ltb}
+use lib.ListN.{length, get_or, take, replicate, length-replicate}
+use Rattle.graphs.specs.Bools.{Decides, and_left, and_right, same_decides, both_decides}
 use Rattle.graphs.specs.Count.{ind, count, count_ext}
-use Rattle.graphs.specs.Total.{total}
+use Rattle.graphs.specs.Total.{total, total-same}
 use Rattle.graphs.specs.Lists.{below}
 use Rattle.graphs.specs.Slots.{slot_edge}
 use Rattle.graphs.specs.Walk.{only}
@@ -18,17 +19,17 @@ use Rattle.layout.specs.Compare.{SamePart}
 use Rattle.move_ledger.specs.Graph.{Load, at}
 use Rattle.move_ledger.specs.Nodes.{node_edge}
 use Rattle.move_ledger.specs.Totals.{busy_nodes, degrees_cells, above_none}
-use Rattle.move_slots.specs.Filled.{CanFillOwn, Filled}
+use Rattle.move_slots.specs.Filled.{Filled}
 use Rattle.move_slots.specs.Counted.{slot_count, Counted, counted-ends, counted_le, counted-flat, counted-cyclic, counted-edge}
 use Rattle.move_edges.specs.Matrix.{Holds}
-use Rattle.move_edges.specs.Rows.{CanCount, Compared}
+use Rattle.move_edges.specs.Rows.{Compared}
 use Rattle.move_area.specs.Bodies.{lane_at}
 use Rattle.move_area.specs.Area.{sets_in}
 use Rattle.move_area.specs.Checked.{nodes_in, Worked, sets-length, ranged_placing}
 use Rattle.move_consistency.specs.Flags.{Flagged}
 use Rattle.move_consistency.specs.Matched.{CanMatch, Matched}
-use Rattle.move_consistency.specs.Totals.{CanSum, TotalsAre, Totalled}
-use Rattle.move_consistency.specs.Ready.{Lanes, CanLane, CanFlag, CanWork, WorkTold}
+use Rattle.move_consistency.specs.Totals.{TotalsAre, Totalled}
+use Rattle.move_consistency.specs.Ready.{CanWork, WorkTold}
 
 -- a second test that speaks where the first says yes
 then_decides : {P Q : Type 0} {p q : Bool} → Decides P p → (p ≡ true → Decides Q q) → Decides (P × Q) (p && q)
@@ -41,34 +42,16 @@ then_decides {P} {Q} {p} {q} d e = record {
     no true a h w = (e a).wrong (rw a at h) w.1
     no false a h w = d.wrong a w.0
 
--- the two numbers of the header, tested one after the other
-pub totals_same : {chunks edges n : ℕ} {area : List ℕ} {w : ℕ} → w ≡ get_or area (n * n + 4) 0
-    → Decides (TotalsAre chunks edges n area) (eqb (get_or area (n * n + 3) 0) chunks && eqb w edges)
-totals_same {chunks} {edges} {n} {area} {w} e =
-    same_decides (λ p. record { occupied = p.0; distinct = sym e ∙ p.1 }) (λ t. (t.occupied, e ∙ t.distinct)) (both_decides (eqb_decides (get_or area (n * n + 3) 0) chunks) (eqb_decides w edges))
+-- a list of k noughts
+abbrev pub blank : ℕ → List ℕ
+blank k = replicate k 0
 
-module _ {load : Load} {n : ℕ} {area sources targets heads list row degrees : List ℕ} (can : CanWork load n area sources targets heads list row degrees) where
-  pub work_fill : CanFillOwn load n area degrees sources targets
-  work_fill = record {
-    loadable = can.checked.loadable;
-    few = can.checked.ranged.few;
-    inside = can.checked.ranged.nodes;
-    counts_long = can.checked.degrees_long;
-    sources_long = can.room.sources_long;
-    targets_long = can.room.targets_long;
-  }
+blank_long : (k : ℕ) → length (blank k) ≡ k
+blank_long k = length-replicate k 0
 
-  pub work_lanes : Lanes area n
-  work_lanes = record { nodes = can.checked.loadable.sizes.sets; room = omega (arith, can.checked.loadable.sizes.area) }
-
-  pub work_compare : {counts : List ℕ} → length counts ≡ length degrees → CanLane area n counts
-  work_compare e = record { lanes = work_lanes; long = omega (arith, can.checked.degrees_long) }
-
-  pub work_count : {counts : List ℕ} → length counts ≡ length degrees → CanCount counts 0 n
-  work_count e = record { fits = omega (arith, can.checked.degrees_long); few = omega (arith, can.checked.loadable.sizes.sets) }
-
-  pub work_sum : {degrees' : List ℕ} → length degrees' ≡ length degrees → CanSum degrees' n
-  work_sum e = record { long = omega (arith, can.checked.degrees_long); short = can.checked.loadable.sizes.sets }
+module _ {load : Load} {n : ℕ} {area degrees : List ℕ} {nodes heads slots : ℕ} (can : CanWork load n area degrees nodes heads slots) where
+  pub work_first : (l : List ℕ) → length l ≡ length degrees → length (take n l) ≡ n
+  work_first l e = length-take-le n l (omega (arith, can.checked.degrees_long))
 
   pub work_counted : {m : ℕ} {counts s t : List ℕ} → Filled load n (nodes_in load n area) (sets_in n area) counts s t → m ≡ slot_count n load.D load.E
       → Counted load (nodes_in load n area) (sets_in n area) s t n m
@@ -80,31 +63,28 @@ module _ {load : Load} {n : ℕ} {area sources targets heads list row degrees : 
     many = e;
   }
 
-  module _ {m : ℕ} {s t : List ℕ} (g : Counted load (nodes_in load n area) (sets_in n area) s t n m) (p : length s ≡ length sources) (q : length t ≡ length targets) where
+  module _ {m : ℕ} {s t : List ℕ} (g : Counted load (nodes_in load n area) (sets_in n area) s t n m) (p : length s ≡ length (blank slots)) (q : length t ≡ length (blank slots)) where
     work_slots : Slots s t m n
     work_slots =
         let l = counted_le g in
         record {
           slots = omega (arith, can.checked.loadable.sizes.entries, can.checked.loadable.sizes.bits);
-          sources = omega (arith, can.room.sources_long);
-          targets = omega (arith, can.room.targets_long);
+          sources = omega (arith, can.room.slots_long, blank_long);
+          targets = omega (arith, can.room.slots_long, blank_long);
           ends = counted-ends g;
           nodes = can.checked.loadable.sizes.sets;
         }
 
-    pub work_match : {counts : List ℕ} → length counts ≡ length degrees → CanMatch area n m s t heads list row counts
+    pub work_match : {counts : List ℕ} → length counts ≡ length degrees → CanMatch area n m s t (blank heads) (blank slots) (blank nodes) counts
     work_match e =
         let l = counted_le g in
         record {
           square = omega (arith, can.checked.loadable.sizes.area);
           slots = work_slots;
-          lists = record { rows = can.room.lists.rows; room = omega (arith, can.room.lists.room); short = can.room.lists.short };
-          row_long = can.room.row_long;
+          lists = record { rows = omega (arith, can.room.rows, blank_long); room = omega (arith, can.room.slots_long, blank_long); short = omega (arith, can.room.slots_short, blank_long) };
+          row_long = omega (arith, can.room.row_long, blank_long);
           degrees_long = omega (arith, can.checked.degrees_long);
         }
-
-  pub work_flag : {m : ℕ} {s t heads' list' degrees' : List ℕ} {r : Bool} → Matched area n m s t heads' list' degrees' r → CanFlag area n m s t heads' list'
-  work_flag d = record { lanes = work_lanes; lists = d.lists }
 
 module _ {load : Load} {n m : ℕ} {area counts s t : List ℕ} (f : Filled load n (nodes_in load n area) (sets_in n area) counts s t) (g : Counted load (nodes_in load n area) (sets_in n area) s t n m) where
   by_parts : {r : Bool} → Decides (((SamePart area (lane_at n 8) counts 0 n × Holds area n s t m) × Totalled load n area) × Flagged (slot_edge s t m) n area) r → Decides (Worked load n area) r
@@ -134,16 +114,17 @@ module _ {load : Load} {n m : ℕ} {area counts s t : List ℕ} (f : Filled load
     degrees_are : r₂ ≡ true → (x : ℕ) → x < n → get_or degrees x 0 ≡ count (node_edge load (nodes_in load n area) (sets_in n area) x) n
     degrees_are q x b = d.degree_at q x b ∙ ap (λ (e : ℕ → ℕ → Bool). count (e x) n) (counted-edge g (omega arith))
 
-    totals_told : {k e : ℕ} {r : Bool} → Compared counts 0 (λ y. 0) n k → e ≡ total (at degrees) n → Decides (TotalsAre k e n area) r → r₂ ≡ true → Decides (Totalled load n area) r
+    totals_told : {k e : ℕ} {r : Bool} → Compared (take n counts) (λ y. 0) k → e ≡ total (at (take n degrees)) (length (take n degrees)) → Decides (TotalsAre k e n area) r
+        → length (take n counts) ≡ n → length (take n degrees) ≡ n → r₂ ≡ true → Decides (Totalled load n area) r
     unfolding busy_nodes
-    totals_told k e t q =
-        let x = k.differ ∙ count_ext _ _ n (λ x b. sym (above_none (get_or counts (0 + x) 0)) ∙ ap (λ i. ltb 0 (get_or counts i 0)) (zero-add x) ∙ ap (ltb 0) (f.count_at x b)) in
-        let y = e ∙ degrees_cells g.order g.placing n g.few (at degrees) (degrees_are q) in
+    totals_told k e t cl dl q =
+        let x = k.differ ∙ ap (count _) cl ∙ count_ext _ _ n (λ x b. sym (above_none (get_or (take n counts) x 0)) ∙ ap (ltb 0) (get_or-take n counts x 0 b ∙ f.count_at x b)) in
+        let y = e ∙ ap (total (at (take n degrees))) dl ∙ total-same (at degrees) (at (take n degrees)) n (λ i b. get_or-take n degrees i 0 b) ∙ degrees_cells g.order g.placing n g.few (at degrees) (degrees_are q) in
         same_decides (λ p. (p.occupied ∙ x, p.distinct ∙ y)) (λ p. record { occupied = p.0 ∙ sym x; distinct = p.1 ∙ sym y }) t
 
-    pub work_done : {k e : ℕ} {r₁ r₃ r₄ : Bool} → Decides (SamePart area (lane_at n 8) counts 0 n) r₁ → Compared counts 0 (λ y. 0) n k → e ≡ total (at degrees) n
-        → Decides (TotalsAre k e n area) r₃ → Decides (Flagged (slot_edge s t m) n area) r₄ → WorkTold load n area degrees (((r₁ && r₂) && r₃) && r₄)
-    work_done {r₁ = r₁} {r₃ = r₃} {r₄ = r₄} c k e t u = record {
-      says = by_parts (both_decides (then_decides (both_decides c d.says) (λ q. totals_told k e t (and_right r₁ r₂ q))) u);
+    pub work_done : {k e : ℕ} {r₁ r₃ r₄ : Bool} → Decides (SamePart area (lane_at n 8) counts 0 n) r₁ → Compared (take n counts) (λ y. 0) k → e ≡ total (at (take n degrees)) (length (take n degrees))
+        → Decides (TotalsAre k e n area) r₃ → Decides (Flagged (slot_edge s t m) n area) r₄ → length (take n counts) ≡ n → length (take n degrees) ≡ n → WorkTold load n area degrees (((r₁ && r₂) && r₃) && r₄)
+    work_done {r₁ = r₁} {r₃ = r₃} {r₄ = r₄} c k e t u cl dl = record {
+      says = by_parts (both_decides (then_decides (both_decides c d.says) (λ q. totals_told k e t cl dl (and_right r₁ r₂ q))) u);
       degree_at = λ q. degrees_are (and_right r₁ r₂ (and_left (r₁ && r₂) r₃ (and_left ((r₁ && r₂) && r₃) r₄ q)));
     }

@@ -1,8 +1,8 @@
 -- What the check of a whole area asks, and what it leaves to the calls after it. Assumes nothing.
-use Rattle.std.specs.Prelude.{◌≡◌, Bool, true, List, ℕ, ◌+◌, ◌*◌, ◌≤◌, ◌<◌, length, get_or}
+use Rattle.std.specs.Prelude.{◌≡◌, Bool, true, List, ℕ, ◌+◌, ◌*◌, ◌^◌, ◌≤◌, ◌<◌, length, get_or}
 use Rattle.graphs.specs.Bools.{Decides}
 use Rattle.graphs.specs.Count.{count}
-use Rattle.graph_slots.specs.Asked.{ListRoom, SlotLists}
+use Rattle.graph_slots.specs.Asked.{SlotLists}
 use Rattle.move_ledger.specs.Graph.{Load}
 use Rattle.move_ledger.specs.LoadLaws.{Loadable}
 use Rattle.move_ledger.specs.Nodes.{node_edge}
@@ -31,16 +31,18 @@ pub record CanWorkOn (load : Load) (n : ℕ) (area degrees : List ℕ) : Type 0 
   pub ranged : Ranged load n area
   pub degrees_long : n ≤ length degrees
 
--- lists lent for n nodes and m slots
-pub record SlotRoom (n m : ℕ) (sources targets heads list row : List ℕ) : Type 0 where
-  pub sources_long : m ≤ length sources
-  pub targets_long : m ≤ length targets
-  pub lists : ListRoom m n heads list
-  pub row_long : n ≤ length row
+-- room for a row of n nodes, for their heads, and for m slots and their neighbour lists
+pub record SlotRoom (n m nodes heads slots : ℕ) : Type 0 where
+  pub row_long : n ≤ nodes
+  pub rows : n < heads
+  pub slots_long : m ≤ slots
+  pub nodes_short : nodes < 2 ^ 31
+  pub heads_short : heads < 2 ^ 31
+  pub slots_short : slots < 2 ^ 31
 
-pub record CanWork (load : Load) (n : ℕ) (area sources targets heads list row degrees : List ℕ) : Type 0 where
+pub record CanWork (load : Load) (n : ℕ) (area degrees : List ℕ) (nodes heads slots : ℕ) : Type 0 where
   pub checked : CanWorkOn load n area degrees
-  pub room : SlotRoom n (load.D + load.E) sources targets heads list row
+  pub room : SlotRoom n (load.D + load.E) nodes heads slots
 
 -- whether the rest is what is worked out; and where the answer is yes, how many edges start at each node
 pub record WorkTold (load : Load) (n : ℕ) (area degrees : List ℕ) (r : Bool) : Type 0 where

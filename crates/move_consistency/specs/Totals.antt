@@ -1,15 +1,10 @@
 -- The kept totals of an area. Assumes nothing.
-use Rattle.std.specs.Prelude.{◌≡◌, List, ℕ, ◌+◌, ◌*◌, ◌≤◌, length, get_or}
+use Rattle.std.specs.Prelude.{◌≡◌, List, ℕ, ◌+◌, ◌*◌, get_or}
 use Rattle.move_ledger.specs.Graph.{Load}
 use Rattle.move_ledger.specs.Nodes.{sources, targets}
 use Rattle.move_ledger.specs.Totals.{busy_nodes, filled_cells}
 use Rattle.move_area.specs.Area.{sets_in}
 use Rattle.move_area.specs.Checked.{nodes_in}
-
--- n numbers stand there, few enough to add up
-pub record CanSum (degrees : List ℕ) (n : ℕ) : Type 0 where
-  pub long : n ≤ length degrees
-  pub short : n ≤ 1024
 
 -- so many occupied sets, and so many distinct edges
 pub record TotalsAre (chunks edges n : ℕ) (area : List ℕ) : Type 0 where

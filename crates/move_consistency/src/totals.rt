@@ -1,30 +1,17 @@
 // Whether the kept totals are those of what is worked out.
-ghost use Rattle.std.specs.Prelude.{◌≡◌, ◌^◌, ◌<◌};
+ghost use Rattle.std.specs.Prelude.{◌≡◌, ◌≤◌, length};
 ghost use Rattle.graphs.specs.Bools.{Decides};
 ghost use Rattle.graphs.specs.Total.{total};
 ghost use Rattle.move_ledger.specs.Graph.{at};
 ghost use Rattle.move_consistency.specs.Ready.{Lanes};
-ghost use Rattle.move_consistency.specs.Totals.{CanSum, TotalsAre};
+ghost use Rattle.move_consistency.specs.Totals.{TotalsAre};
 
-// x as a wider number.
-fn wide(x: u32) -> u64
-    ensures { (result ≡ x) × (result < 2 ^ 32) }
+// The sum of the numbers.
+pub fn sum(degrees: &[u32]) -> u64
+    requires { length degrees.now ≤ 1024 }
+    ensures { result ≡ total (at degrees.now) (length degrees.now) }
 {
-    x as u64
-}
-
-// The sum of the first n numbers.
-pub fn sum(degrees: &[u32], n: usize) -> u64
-    requires { CanSum degrees.now n }
-    ensures { result ≡ total (at degrees.now) n }
-{
-    let mut all: u64 = 0;
-    let mut x = 0;
-    while x < n {
-        all += wide(degrees[x]);
-        x += 1;
-    }
-    all
+    degrees.iter().map(|&degree| u64::from(degree)).sum()
 }
 
 // Whether the header has these numbers of chunks and of distinct edges.
@@ -33,6 +20,5 @@ pub fn totals_are(area: &[u32], n: usize, chunks: u32, edges: u64) -> bool
     ensures { Decides (TotalsAre chunks edges n area.now) result }
 {
     let header = n * n;
-    let same = area[header + 3] == chunks;
-    same & (wide(area[header + 4]) == edges)
+    area[header + 3] == chunks && u64::from(area[header + 4]) == edges
 }

@@ -1,8 +1,6 @@
 -- The counter and the marks that a walk starts with. Assumes nothing.
 use Rattle.std.specs.Prelude.{◌≡◌, refl, cond, List, ℕ, ◌+◌, length, replicate}
-use Rattle.std.proofs.Common.{◌∙◌, eq-eqb, ne_eqb}
-use Rattle.std.proofs.lemmas.List.{length-replicate}
-use Rattle.layout.specs.Patch.{patch, patch-all}
+use Rattle.std.proofs.Common.{eq-eqb, ne_eqb}
 use Rattle.move_area.specs.Calls.{last, next}
 use Rattle.move_counter.specs.declared.WalkCounter.{WalkCounter}
 
@@ -16,9 +14,9 @@ started c = record { mark = next c.mark }
 
 -- the two ways to start
 module _ (counter : ℕ) (marks : List ℕ) where
-  pub start-last : {marks' : List ℕ} → counter ≡ 4294967295 → marks' ≡ patch 0 (replicate (length marks) 0) marks → (1 ≡ next counter) × (marks' ≡ unmarked counter marks)
+  pub start-last : counter ≡ 4294967295 → (1 ≡ next counter) × (replicate (length marks) 0 ≡ unmarked counter marks)
   unfolding next unmarked
-  start-last h e = rw (eq-eqb _ _ h) (refl, e ∙ patch-all (replicate (length marks) 0) marks (length-replicate (length marks) 0))
+  start-last h = rw (eq-eqb _ _ h) (refl, refl)
 
   pub start-more : (counter ≡ 4294967295 → ⊥) → (counter + 1 ≡ next counter) × (marks ≡ unmarked counter marks)
   unfolding next unmarked

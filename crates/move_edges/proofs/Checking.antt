@@ -1,24 +1,19 @@
 -- A row counted, compared and wiped, and the rows one after the other. Assumes nothing.
-use mathlib.Core.Path.{◌≡◌, refl, sym, ap, ◌∙◌, subst}
+use mathlib.Core.Path.{◌≡◌, refl, sym, ap, ◌∙◌}
 use mathlib.Core.List.{List}
 use mathlib.Core.Bool.{Bool, true, false, not}
 use Prim.Native.Nat.{ℕ, zero, suc, ◌+◌, ◌*◌, ◌≤◌, ◌<◌}
 use native.Mathlib.Omega.{arith}
 use native.Mathlib.Decide.{dec_lt}
-use native.Mathlib.Nat.{zero-add}
-use lib.Dec.{eqb, ltb, T}
-use lib.ListN.{length, get_or, set, length-set, take, replicate, length-replicate, get_or-replicate}
-use lib.Seq.{get_or-set_same, get_or-set_other, take-length, length-take-le}
-use borrow.Author.Count.{below_more}
+use lib.Dec.{eqb, ltb}
+use lib.ListN.{length, get_or, set, length-set, take}
+use lib.Seq.{get_or-set_same, get_or-set_other, length-take-le}
 use borrow.Author.Tests.{lt-ltb, le-ltb, eq-eqb, ne_eqb, eqb-true}
 use Rattle.graphs.specs.Bools.{Same, it, other, same?}
-use Rattle.graphs.specs.Count.{ind, count, ind_le, count_none, count-more, count_le, count_ext, count_pos, count-all_no}
-use Rattle.graphs.specs.Square.{row_in}
+use Rattle.graphs.specs.Count.{ind, count, ind_le, count-more, count_le, count_ext, count_pos, count-all_no}
 use Rattle.graph_neighbours.specs.Groups.{occ, occ-more, occ_le}
 use Rattle.graph_neighbours.specs.Parts.{part_of}
-use Rattle.graph_neighbours.specs.Lists.{part_long}
-use Rattle.layout.specs.Patch.{patch, patch_in, patch_long}
-use Rattle.move_edges.specs.Rows.{CanBump, CanTally, Tallied, CanWipe, Wiped, differing, nonzero, numbers_of, CanCompare, CanCount, Compared, Clean, CanCheckRow, RowChecked, CanCheck, Checked}
+use Rattle.move_edges.specs.Rows.{CanTally, Tallied, CanWipe, Wiped, differing, nonzero, numbers_of, CanCompare, Compared, Clean, CanCheckRow, RowIs}
 
 -- two counts of tests that differ at v alone
 count_change : (p q : ℕ → Bool) (v : ℕ) → ((y : ℕ) → (y ≡ v → ⊥) → q y ≡ p y) → (n : ℕ) → v < n → count q n + ind (p v) ≡ count p n + ind (q v)
@@ -58,37 +53,26 @@ pub some_none : (part row : List ℕ) → Some part row row 0 0
 some_none part row = record { at = λ y. omega (arith, occ_le y (take 0 part)); more = λ n h. omega arith; few = omega arith; long = refl }
 
 module _ {part row₀ row : List ℕ} {k f : ℕ} (can : CanTally part row₀) (h : Some part row₀ row k f) (z : k < length part) where
-  pub some_can : CanBump row (get_or part k 0)
-  some_can = record {
-    within = omega (arith, can.within k z, h.long);
-    room = omega (arith, can.room k z, h.at (get_or part k 0), occ_le (get_or part k 0) (take k part), length-take-le k part (omega arith));
-  }
+  some_within : get_or part k 0 < length row
+  some_within = omega (arith, can.within k z, h.long)
 
-  -- found stays a number of 32 bits
-  pub some_room : f < 4294967295
-  some_room = omega (arith, h.few, can.room k z)
+  pub some_can : get_or row (get_or part k 0) 0 < 4294967295
+  some_can = omega (arith, can.room k z, h.at (get_or part k 0), occ_le (get_or part k 0) (take k part), length-take-le k part (omega arith))
 
-  pub some_more : {row' : List ℕ} {b : ℕ} → b ≡ ind (eqb (get_or row (get_or part k 0) 0) 0) → row' ≡ set row (get_or part k 0) (get_or row (get_or part k 0) 0 + 1)
-      → Some part row₀ row' (k + 1) (f + b)
-  some_more {row'} {b} p q = record {
-    at = λ y. rw (q, occ-more y part k z) (go y (same? y v));
-    more = λ n w. ap (λ (l : List ℕ). nonzero (λ y. get_or l y 0) n) q ∙ omega (arith, nonzero-more row v n (w k z) some_can.within, h.more n w, p);
+  pub some_more : {b : ℕ} → b ≡ ind (eqb (get_or row (get_or part k 0) 0) 0) → Some part row₀ (set row (get_or part k 0) (get_or row (get_or part k 0) 0 + 1)) (k + 1) (f + b)
+  some_more {b} p = record {
+    at = λ y. rw (occ-more y part k z) (go y (same? y v));
+    more = λ n w. omega (arith, nonzero-more row v n (w k z) some_within, h.more n w, p);
     few = omega (arith, h.few, p, ind_le (eqb (get_or row (get_or part k 0) 0) 0));
-    long = rw q (length-set row v (get_or row v 0 + 1) ∙ h.long);
+    long = length-set row v (get_or row v 0 + 1) ∙ h.long;
   }
     where
       v : ℕ
       v = get_or part k 0
 
       go : (y : ℕ) → Same y v → get_or (set row v (get_or row v 0 + 1)) y 0 ≡ get_or row₀ y 0 + (occ y (take k part) + ind (eqb v y))
-      go y (it e) = rw (eq-eqb v y (sym e)) (rw e (get_or-set_same row v (get_or row v 0 + 1) 0 some_can.within ∙ omega (arith, h.at v)))
+      go y (it e) = rw (eq-eqb v y (sym e)) (rw e (get_or-set_same row v (get_or row v 0 + 1) 0 some_within ∙ omega (arith, h.at v)))
       go y (other e) = rw (ne_eqb v y (λ f. e (sym f))) (get_or-set_other row v y (get_or row v 0 + 1) 0 e ∙ omega (arith, h.at y))
-
-all_of : (part : List ℕ) (k y : ℕ) → k ≡ length part → occ y (take k part) ≡ occ y part
-all_of part k y e = ap (occ y) (ap (λ (i : ℕ). take i part) e ∙ take-length part)
-
-pub some_done : {part row₀ row : List ℕ} {k f : ℕ} → Some part row₀ row k f → k ≡ length part → Tallied part row₀ row f
-some_done {part} {row₀} {row} {k} h e = record { at = λ y. h.at y ∙ ap (λ (v : ℕ). get_or row₀ y 0 + v) (all_of part k y e); more = h.more; long = h.long }
 
 -- the first k neighbours are wiped
 pub record Less (part row₀ row : List ℕ) (k : ℕ) : Type 0 where
@@ -117,78 +101,66 @@ less-more {part} {row₀} {row} {k} can h z = record {
     stay y (it e) q = absurd (omega (arith, rw (eq-eqb v y (sym e)) at q))
     stay y (other e) q = get_or-set_other row v y 0 0 e ∙ h.kept y (omega (arith, rw (ne_eqb v y (λ f. e (sym f))) at q))
 
-pub less_done : {part row₀ row : List ℕ} {k : ℕ} → Less part row₀ row k → k ≡ length part → Wiped part row₀ row
-less_done {part} {row₀} {row} {k} h e = record {
-  zero = λ y q. h.zero y (omega (arith, all_of part k y e));
-  kept = λ y q. h.kept y (all_of part k y e ∙ q);
-  long = h.long;
-}
-
--- the first k numbers are compared
-pub compare_none : (e : List ℕ) (at : ℕ) (g : ℕ → ℕ) → Compared e at g 0 0
-compare_none e at g = record { differ = sym (count_none (λ y. not (eqb (get_or e (at + y) 0) (g y)))) }
-
-pub compare_more : {e : List ℕ} {at : ℕ} (g : ℕ → ℕ) {k u d : ℕ} → Compared e at g k u → d ≡ ind (not (eqb (get_or e (at + k) 0) (g k))) → Compared e at g (k + 1) (u + d)
-compare_more {e} {at} g {k} h p = record { differ = omega (arith, h.differ, p, count-more (λ y. not (eqb (get_or e (at + y) 0) (g y))) k) }
-
-pub compare_le : {e : List ℕ} {at : ℕ} {g : ℕ → ℕ} {k u : ℕ} → Compared e at g k u → u ≤ k
-compare_le {e} {at} {g} {k} h = omega (arith, h.differ, count_le (λ y. not (eqb (get_or e (at + y) 0) (g y))) k)
-
-pub compare_done : {e : List ℕ} {at : ℕ} {g : ℕ → ℕ} {k n u : ℕ} → Compared e at g k u → k ≡ n → Compared e at g n u
-compare_done {e} {at} {g} {k} {n} {u} h q = subst (λ (j : ℕ). Compared e at g j u) q h
+-- how many numbers of a row differ from what they are to be, and how many edges it has
+pub record RowTold (numbers part : List ℕ) (unequal edges : ℕ) : Type 0 where
+  pub differ : unequal ≡ differing (numbers_of numbers) (λ y. occ y part) (length numbers)
+  pub found : edges ≡ nonzero (λ y. occ y part) (length numbers)
 
 -- one row
-module _ {e : List ℕ} {n x : ℕ} {part row : List ℕ} (can : CanCheckRow e n x part row) where
+module _ {numbers part row : List ℕ} (can : CanCheckRow numbers part row) where
   pub row_tally : CanTally part row
   row_tally = record {
     within = λ k z. omega (arith, can.within k z, can.rows);
     room = λ k z. omega (arith, can.clean.at (get_or part k 0) (can.within k z), can.few);
   }
 
-  pub row_fits : x * n + n ≤ length e
-  row_fits = omega (arith, row_in n n x can.row_of, can.square)
-
-  pub row_count : CanCount e (x * n) n
-  row_count = record { fits = row_fits; few = can.nodes }
-
   -- no neighbours, so the row is right where it is empty
-  pub row-bare : {u : ℕ} → length part ≡ 0 → Compared e (x * n) (λ y. 0) n u → RowChecked e n x part row u 0
+  pub row-bare : {u : ℕ} → length part ≡ 0 → Compared numbers (λ y. 0) u → RowTold numbers part u 0
   row-bare q c = record {
-    differ = c.differ ∙ count_ext _ _ n (λ y z. ap (λ (v : ℕ). not (eqb (get_or e (x * n + y) 0) v)) (sym (none_of y)));
-    found = sym (count-all_no (λ y. ltb 0 (occ y part)) n (λ y z. ap (ltb 0) (none_of y) ∙ le-ltb 0 0 (omega arith)));
-    clean = can.clean;
+    differ = c.differ ∙ count_ext _ _ (length numbers) (λ y z. ap (λ (v : ℕ). not (eqb (get_or numbers y 0) v)) (sym (none_of y)));
+    found = sym (count-all_no (λ y. ltb 0 (occ y part)) (length numbers) (λ y z. ap (ltb 0) (none_of y) ∙ le-ltb 0 0 (omega arith)));
   }
     where
       none_of : (y : ℕ) → occ y part ≡ 0
       none_of y = omega (arith, occ_le y part, q)
 
   module _ {row₁ : List ℕ} {f : ℕ} (t : Tallied part row row₁ f) where
-    pub row_compare : CanCompare e (x * n) row₁ n
-    row_compare = record { fits = row_fits; rows = omega (arith, t.long, can.rows); few = can.nodes }
+    pub row_compare : CanCompare numbers row₁
+    row_compare = record { rows = omega (arith, t.long, can.rows); few = can.nodes }
 
     pub row_wipe : CanWipe part row₁
     row_wipe = record { within = λ k z. omega (arith, t.long, row_tally.within k z) }
 
-    counts : (y : ℕ) → y < n → get_or row₁ y 0 ≡ occ y part
+    counts : (y : ℕ) → y < length numbers → get_or row₁ y 0 ≡ occ y part
     counts y z = omega (arith, t.at y, can.clean.at y z)
 
-    pub row_done : {row₂ : List ℕ} {u : ℕ} → Compared e (x * n) (numbers_of row₁) n u → Wiped part row₁ row₂ → RowChecked e n x part row₂ u f
-    row_done {row₂} {u} c w = record {
-      differ = c.differ ∙ count_ext _ _ n (λ y z. ap (λ (v : ℕ). not (eqb (get_or e (x * n + y) 0) v)) (counts y z));
+    pub row_told : {u : ℕ} → Compared numbers (numbers_of row₁) u → RowTold numbers part u f
+    row_told {u} c = record {
+      differ = c.differ ∙ count_ext _ _ (length numbers) (λ y z. ap (λ (v : ℕ). not (eqb (get_or numbers y 0) v)) (counts y z));
       found = found_all;
-      clean = record { at = λ y z. go y z (dec_lt 0 (occ y part)) };
     }
       where
         -- nothing was counted in the row before
-        found_all : f ≡ nonzero (λ y. occ y part) n
+        found_all : f ≡ nonzero (λ y. occ y part) (length numbers)
         found_all =
+            let n = length numbers in
             let before : nonzero (λ y. get_or row y 0) n ≡ 0 = count-all_no (λ y. ltb 0 (get_or row y 0)) n (λ y z. ap (ltb 0) (can.clean.at y z) ∙ le-ltb 0 0 (omega arith)) in
             let after : nonzero (λ y. get_or row₁ y 0) n ≡ nonzero (λ y. occ y part) n = count_ext _ _ n (λ y z. ap (λ (v : ℕ). ltb 0 v) (counts y z)) in
             omega (arith, t.more n can.within, before, after)
 
-        go : (y : ℕ) → y < n → Dec (0 < occ y part) → get_or row₂ y 0 ≡ 0
+    pub row_clean : {row₂ : List ℕ} → Wiped part row₁ row₂ → Clean row₂ (length numbers)
+    row_clean {row₂} w = record { at = λ y z. go y z (dec_lt 0 (occ y part)) }
+      where
+        go : (y : ℕ) → y < length numbers → Dec (0 < occ y part) → get_or row₂ y 0 ≡ 0
         go y z (yes p) = w.zero y p
         go y z (no p) = w.kept y (omega arith) ∙ counts y z ∙ omega arith
+
+-- the first k numbers are compared
+pub differing_more : (f g : ℕ → ℕ) (k : ℕ) {u d : ℕ} → u ≡ differing f g k → d ≡ ind (not (eqb (f k) (g k))) → u + d ≡ differing f g (k + 1)
+differing_more f g k p q = omega (arith, p, q, count-more (λ y. not (eqb (f y) (g y))) k)
+
+pub differing_le : (f g : ℕ → ℕ) (k : ℕ) → differing f g k ≤ k
+differing_le f g k = count_le (λ y. not (eqb (f y) (g y))) k
 
 -- no number differs exactly where two rows are alike
 alike_rows : (f g : ℕ → ℕ) (n : ℕ) → differing f g n ≡ 0 → (y : ℕ) → y < n → f y ≡ g y
@@ -201,6 +173,13 @@ alike_rows f g n h y z = go (eqb (f y) (g y)) refl
 rows_alike : (f g : ℕ → ℕ) (n : ℕ) → ((y : ℕ) → y < n → f y ≡ g y) → differing f g n ≡ 0
 rows_alike f g n h = count-all_no (λ y. not (eqb (f y) (g y))) n (λ y z. rw (eq-eqb (f y) (g y) (h y z)) refl)
 
+module _ {numbers part : List ℕ} {u f : ℕ} (t : RowTold numbers part u f) where
+  pub row_right : u ≡ 0 → RowIs numbers part × (f ≡ nonzero (λ y. occ y part) (length numbers))
+  row_right q = (record { at = alike_rows (numbers_of numbers) (λ y. occ y part) (length numbers) (sym t.differ ∙ q) }, t.found)
+
+  pub row_wrong : (u ≡ 0 → ⊥) → RowIs numbers part → ⊥
+  row_wrong q r = q (t.differ ∙ rows_alike (numbers_of numbers) (λ y. occ y part) (length numbers) r.at)
+
 -- the rows below x are right
 pub record Rows (e : List ℕ) (n : ℕ) (starts list row degrees : List ℕ) (x : ℕ) : Type 0 where
   pub at : (z : ℕ) → z < x → (y : ℕ) → y < n → get_or e (z * n + y) 0 ≡ occ y (part_of starts list z)
@@ -208,59 +187,3 @@ pub record Rows (e : List ℕ) (n : ℕ) (starts list row degrees : List ℕ) (x
   pub clean : Clean row n
   pub rows : n ≤ length row
   pub answers : n ≤ length degrees
-
-module _ {e : List ℕ} {n : ℕ} {starts list row₀ degrees₀ : List ℕ} (can : CanCheck e n starts list row₀ degrees₀) where
-  pub rows_none : {row : List ℕ} → row ≡ patch 0 (replicate n 0) row₀ → Rows e n starts list row degrees₀ 0
-  rows_none {row} q = record {
-    at = λ z h. absurd (omega arith);
-    edges = λ z h. absurd (omega arith);
-    clean = record {
-      at = λ y z.
-          ap (λ (l : List ℕ). get_or l y 0) q ∙ ap (λ (j : ℕ). get_or (patch 0 (replicate n 0) row₀) j 0) (sym (zero-add y))
-          ∙ patch_in 0 (replicate n 0) row₀ y (omega (arith, length-replicate {A = ℕ} n 0)) (omega (arith, can.rows)) ∙ get_or-replicate n y 0 0 z;
-    };
-    rows = omega (arith, ap length q ∙ patch_long 0 (replicate n 0) row₀, can.rows);
-    answers = can.answers;
-  }
-
-  module _ {row degrees : List ℕ} {x : ℕ} (h : Rows e n starts list row degrees x) (z : x < n) where
-    pub rows_can : CanCheckRow e n x (part_of starts list x) row
-    rows_can =
-        let l = part_long can.graph x z in
-        record {
-          row_of = z;
-          square = can.square;
-          rows = h.rows;
-          nodes = can.nodes;
-          few = omega (arith, l, can.graph.inside x z, can.graph.short);
-          within = λ k b. can.graph.ends x k z (omega (arith, l));
-          clean = h.clean;
-        }
-
-    module _ {row' : List ℕ} {u f : ℕ} (c : RowChecked e n x (part_of starts list x) row' u f) where
-      pub rows_more : u ≡ 0 → n ≤ length row' → Rows e n starts list row' (set degrees x f) (x + 1)
-      rows_more q l = record {
-        at = below_more (λ z. (y : ℕ) → y < n → get_or e (z * n + y) 0 ≡ occ y (part_of starts list z)) x h.at
-            (alike_rows (λ y. get_or e (x * n + y) 0) (λ y. occ y (part_of starts list x)) n (sym c.differ ∙ q));
-        edges = below_more (λ z. get_or (set degrees x f) z 0 ≡ nonzero (λ y. occ y (part_of starts list z)) n) x
-            (λ i b. get_or-set_other degrees x i f 0 (omega arith) ∙ h.edges i b)
-            (get_or-set_same degrees x f 0 (omega (arith, h.answers)) ∙ c.found);
-        clean = c.clean;
-        rows = l;
-        answers = omega (arith, length-set degrees x f, h.answers);
-      }
-
-      pub rows_no : (u ≡ 0 → ⊥) → {degrees' : List ℕ} → Checked e n starts list degrees' false
-      rows_no q = record {
-        says = record {
-          right = λ p. absurd (subst T (sym p) tt);
-          wrong = λ p s. q (c.differ ∙ rows_alike (λ y. get_or e (x * n + y) 0) (λ y. occ y (part_of starts list x)) n (λ y b. s.at x y z b));
-        };
-        edges = λ p. absurd (subst T (sym p) tt);
-      }
-
-  pub rows-done : {row degrees : List ℕ} {x : ℕ} → Rows e n starts list row degrees x → x ≡ n → Checked e n starts list degrees true
-  rows-done h q = record {
-    says = record { right = λ p. record { at = λ z y v w. h.at z (omega arith) y w }; wrong = λ p s. subst T p tt };
-    edges = λ p z v. h.edges z (omega arith);
-  }

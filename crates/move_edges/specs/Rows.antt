@@ -1,5 +1,5 @@
 -- What the functions that check the matrix row by row ask and show. Assumes nothing.
-use Rattle.std.specs.Prelude.{◌≡◌, List, Bool, true, not, ℕ, ◌+◌, ◌*◌, ◌^◌, ◌≤◌, ◌<◌, eqb, ltb, length, get_or}
+use Rattle.std.specs.Prelude.{◌≡◌, List, Bool, true, not, ℕ, ◌+◌, ◌*◌, ◌^◌, ◌≤◌, ◌<◌, eqb, ltb, length, get_or, Option, MatchOption}
 use Rattle.std.proofs.Common.{sym, ◌∙◌}
 use Rattle.std.proofs.Math.Path.{ap}
 use Rattle.graphs.specs.Bools.{Decides}
@@ -10,10 +10,6 @@ use Rattle.graph_neighbours.specs.Steps.{Grouped}
 use Rattle.graph_neighbours.specs.Parts.{part_of, part-occ}
 use Rattle.graph_neighbours.specs.Lists.{Graph}
 use Rattle.move_edges.specs.Matrix.{Holds, holds-counts, counts-holds}
-
-pub record CanBump (row : List ℕ) (v : ℕ) : Type 0 where
-  pub within : v < length row
-  pub room : get_or row v 0 < 4294967295
 
 pub record CanTally (part row : List ℕ) : Type 0 where
   pub within : (k : ℕ) → k < length part → get_or part k 0 < length row
@@ -40,39 +36,38 @@ pub record Tallied (part row row' : List ℕ) (found : ℕ) : Type 0 where
   pub more : (n : ℕ) → ((k : ℕ) → k < length part → get_or part k 0 < n) → nonzero (λ y. get_or row' y 0) n ≡ nonzero (λ y. get_or row y 0) n + found
   pub long : length row' ≡ length row
 
-pub record CanCompare (e : List ℕ) (at : ℕ) (row : List ℕ) (n : ℕ) : Type 0 where
-  pub fits : at + n ≤ length e
-  pub rows : n ≤ length row
-  pub few : n < 2 ^ 32
+pub record CanCompare (numbers row : List ℕ) : Type 0 where
+  pub rows : length numbers ≤ length row
+  pub few : length numbers < 2 ^ 32
 
-pub record CanCount (e : List ℕ) (at n : ℕ) : Type 0 where
-  pub fits : at + n ≤ length e
-  pub few : n < 2 ^ 32
+pub record CanCount (numbers : List ℕ) : Type 0 where
+  pub few : length numbers < 2 ^ 32
 
 abbrev pub numbers_of : List ℕ → ℕ → ℕ
 numbers_of row y = get_or row y 0
 
--- so many of the n numbers from `at` on differ from those of g
-pub record Compared (e : List ℕ) (at : ℕ) (g : ℕ → ℕ) (n unequal : ℕ) : Type 0 where
-  pub differ : unequal ≡ differing (λ y. get_or e (at + y) 0) g n
+-- so many numbers differ from those of g
+pub record Compared (numbers : List ℕ) (g : ℕ → ℕ) (unequal : ℕ) : Type 0 where
+  pub differ : unequal ≡ differing (numbers_of numbers) g (length numbers)
 
 -- the first n numbers are 0
 pub record Clean (row : List ℕ) (n : ℕ) : Type 0 where
   pub at : (y : ℕ) → y < n → get_or row y 0 ≡ 0
 
-pub record CanCheckRow (e : List ℕ) (n x : ℕ) (part row : List ℕ) : Type 0 where
-  pub row_of : x < n
-  pub square : n * n ≤ length e
-  pub rows : n ≤ length row
-  pub nodes : n < 2 ^ 32
+pub record CanCheckRow (numbers part row : List ℕ) : Type 0 where
+  pub rows : length numbers ≤ length row
+  pub nodes : length numbers < 2 ^ 32
   pub few : length part < 2 ^ 31
-  pub within : (k : ℕ) → k < length part → get_or part k 0 < n
-  pub clean : Clean row n
+  pub within : (k : ℕ) → k < length part → get_or part k 0 < length numbers
+  pub clean : Clean row (length numbers)
 
-pub record RowChecked (e : List ℕ) (n x : ℕ) (part row' : List ℕ) (unequal edges : ℕ) : Type 0 where
-  pub differ : unequal ≡ differing (λ y. get_or e (x * n + y) 0) (λ y. occ y part) n
-  pub found : edges ≡ nonzero (λ y. occ y part) n
-  pub clean : Clean row' n
+-- each number of a row is how often its column stands in a part
+pub record RowIs (numbers part : List ℕ) : Type 0 where
+  pub at : (y : ℕ) → y < length numbers → get_or numbers y 0 ≡ occ y part
+
+pub record RowChecked (numbers part row' : List ℕ) (r : Option ℕ) : Type 0 where
+  pub told : MatchOption r (RowIs numbers part → ⊥) (λ edges. RowIs numbers part × (edges ≡ nonzero (λ y. occ y part) (length numbers)))
+  pub clean : Clean row' (length numbers)
 
 -- each number of the matrix is how often the column is a neighbour of the row
 pub record RowsAre (e : List ℕ) (n : ℕ) (starts list : List ℕ) : Type 0 where

@@ -46,14 +46,25 @@ pub record Changed (n : ℕ) (s t u v : List ℕ) (m come gone : ℕ) : Type 0 w
 abbrev pub another : ℕ → ℕ → ℕ → ℕ → Bool
 another a b c d = not (eqb a c && eqb b d)
 
--- one edge of a changed slot less
-pub record CanLose (e : List ℕ) (n a b c d : ℕ) : Type 0 where
-  pub within : Within e n a b
-  pub there : another a b c d ≡ true → (a ≡ b → ⊥) → 1 ≤ get_or e (a * n + b) 0
-
 -- whether slot k changes from (s, t) to (u, v)
 abbrev pub changed : List ℕ → List ℕ → List ℕ → List ℕ → ℕ → Bool
 changed s t u v k = another (get_or s k 0) (get_or t k 0) (get_or u k 0) (get_or v k 0)
+
+-- slot k is there in both lists of slots
+pub record InBoth (s t u v : List ℕ) (k : ℕ) : Type 0 where
+  pub source : k < length s
+  pub target : k < length t
+  pub new_source : k < length u
+  pub new_target : k < length v
+
+pub record CanGainOne (e : List ℕ) (n : ℕ) (s t u v : List ℕ) (k : ℕ) : Type 0 where
+  pub slot : InBoth s t u v k
+  pub add : CanAdd e n (get_or u k 0) (get_or v k 0)
+
+pub record CanShedOne (e : List ℕ) (n : ℕ) (s t u v : List ℕ) (k : ℕ) : Type 0 where
+  pub slot : InBoth s t u v k
+  pub within : Within e n (get_or s k 0) (get_or t k 0)
+  pub there : changed s t u v k ≡ true → (get_or s k 0 ≡ get_or t k 0 → ⊥) → 1 ≤ get_or e (get_or s k 0 * n + get_or t k 0) 0
 
 -- whether it does, and its new edge stands at place i, or its old one
 abbrev pub gained : List ℕ → List ℕ → List ℕ → List ℕ → ℕ → ℕ → ℕ → Bool

@@ -4,23 +4,25 @@
 // and no edge where the two are equal.
 #![tactic(auto)]
 
-ghost use Rattle.std.specs.Prelude.{◌≡◌, cond, ◌&&◌, ◌+◌, ◌*◌};
-ghost use Rattle.graphs.specs.Count.{ind};
+ghost use Rattle.std.specs.Prelude.{◌≡◌, cond, ◌&&◌, ◌+◌, get_or};
 ghost use Rattle.graphs.specs.Slots.{added, removed};
 ghost use Rattle.layout.specs.Patch.{patch};
 ghost use Rattle.move_edges.specs.Matrix.{matrix};
-ghost use Rattle.move_edges.specs.Steps.{CanAdd, CanRemove, CanLose, CanGain, CanShed, CanUpdate, CanFill, filled, appears, vanishes, Changed, another, gained, lost, Grown, Fallen};
+ghost use Rattle.move_edges.specs.Steps.{CanAdd, CanRemove, CanGainOne, CanShedOne, CanGain, CanShed, CanUpdate, CanFill, filled, appears, vanishes, Changed, changed, gained, lost, Grown, Fallen, InBoth};
+
+use graph_neighbours::Slots;
 
 pub mod rows;
 
 // How many edges one graph has that the other hasn't: those that appeared, those that vanished.
-#[derive(Clone, Copy)]
+#[derive(Clone, Copy, PartialEq, Eq, Debug)]
 pub struct Changes {
     pub appeared: u32,
     pub vanished: u32,
 }
 
 // One edge more from x to y, and whether it appeared; nothing where the two are equal.
+#[tactic(auto, unfolding(graphs::specs::Slots::more))]
 pub fn add(edges: &mut [u32], n: usize, x: u32, y: u32) -> bool
     requires { CanAdd edges.old n x y }
     ensures value { result ≡ appears edges.old n x y }
@@ -36,6 +38,7 @@ pub fn add(edges: &mut [u32], n: usize, x: u32, y: u32) -> bool
 }
 
 // One edge less from x to y, and whether it vanished; nothing where the two are equal.
+#[tactic(auto, unfolding(graphs::specs::Slots::less))]
 pub fn remove(edges: &mut [u32], n: usize, x: u32, y: u32) -> bool
     requires { CanRemove edges.old n x y }
     ensures value { result ≡ vanishes edges.old n x y }
@@ -50,131 +53,81 @@ pub fn remove(edges: &mut [u32], n: usize, x: u32, y: u32) -> bool
     false
 }
 
-// 1 for yes, else 0.
-fn told(yes: bool) -> u32
-    ensures { result ≡ ind yes }
+// Whether slot k changes from the old slots to the new ones.
+fn is_changed(old: &Slots, new: &Slots, k: usize) -> bool
+    requires { InBoth old.now.sources.now old.now.targets.now new.now.sources.now new.now.targets.now k }
+    ensures { result ≡ changed old.now.sources.now old.now.targets.now new.now.sources.now new.now.targets.now k }
 {
-    if yes {
-        return 1;
-    }
-    0
+    old.sources[k] != new.sources[k] || old.targets[k] != new.targets[k]
 }
 
-// Whether the edge from a to b is another than that from c to d.
-fn is_another(a: u32, b: u32, c: u32, d: u32) -> bool
-    ensures { result ≡ another a b c d }
+// A changed slot's new edge is added: whether it appeared.
+fn gain(edges: &mut [u32], n: usize, old: &Slots, new: &Slots, k: usize) -> bool
+    requires { CanGainOne edges.old n old.now.sources.now old.now.targets.now new.now.sources.now new.now.targets.now k }
+    ensures value { result ≡ (changed old.now.sources.now old.now.targets.now new.now.sources.now new.now.targets.now k && appears edges.old n (get_or new.now.sources.now k 0) (get_or new.now.targets.now k 0)) }
+    ensures edges_after { edges.new ≡ cond (changed old.now.sources.now old.now.targets.now new.now.sources.now new.now.targets.now k) (added edges.old n (get_or new.now.sources.now k 0) (get_or new.now.targets.now k 0)) edges.old }
 {
-    if a == c {
-        return b != d;
-    }
-    true
+    is_changed(old, new, k) && add(edges, n, new.sources[k], new.targets[k])
 }
 
-// The new edge of a slot that goes from (a, b) to (c, d), and 1 where it appeared; nothing where it stays.
-fn gain(edges: &mut [u32], n: usize, a: u32, b: u32, c: u32, d: u32) -> u32
-    requires { CanAdd edges.old n c d }
-    ensures value { result ≡ ind (another a b c d && appears edges.old n c d) }
-    ensures edges_after { edges.new ≡ cond (another a b c d) (added edges.old n c d) edges.old }
+// A changed slot's old edge is removed: whether it vanished.
+fn shed(edges: &mut [u32], n: usize, old: &Slots, new: &Slots, k: usize) -> bool
+    requires { CanShedOne edges.old n old.now.sources.now old.now.targets.now new.now.sources.now new.now.targets.now k }
+    ensures value { result ≡ (changed old.now.sources.now old.now.targets.now new.now.sources.now new.now.targets.now k && vanishes edges.old n (get_or old.now.sources.now k 0) (get_or old.now.targets.now k 0)) }
+    ensures edges_after { edges.new ≡ cond (changed old.now.sources.now old.now.targets.now new.now.sources.now new.now.targets.now k) (removed edges.old n (get_or old.now.sources.now k 0) (get_or old.now.targets.now k 0)) edges.old }
 {
-    if is_another(a, b, c, d) {
-        return told(add(edges, n, c, d));
-    }
-    0
+    is_changed(old, new, k) && remove(edges, n, old.sources[k], old.targets[k])
 }
 
-// The old edge of such a slot, and 1 where it vanished.
-fn shed(edges: &mut [u32], n: usize, a: u32, b: u32, c: u32, d: u32) -> u32
-    requires { CanLose edges.old n a b c d }
-    ensures value { result ≡ ind (another a b c d && vanishes edges.old n a b) }
-    ensures edges_after { edges.new ≡ cond (another a b c d) (removed edges.old n a b) edges.old }
-{
-    if is_another(a, b, c, d) {
-        return told(remove(edges, n, a, b));
-    }
-    0
-}
-
-// Every changed slot's new edge is added.
-fn gain_all(
-    edges: &mut [u32],
-    n: usize,
-    s: &[u32],
-    t: &[u32],
-    u: &[u32],
-    v: &[u32],
-    m: usize,
-) -> u32
-    requires { CanGain edges.old n s.now t.now u.now v.now m }
+// Every changed slot's new edge is added: how many appeared.
+fn gain_all(edges: &mut [u32], n: usize, old: &Slots, new: &Slots) -> u32
+    requires { CanGain edges.old n old.now.sources.now old.now.targets.now new.now.sources.now new.now.targets.now old.now.count }
     ensures n_value { result + filled edges.old n ≡ filled edges.new n }
-    ensures grown { Grown (gained s.now t.now u.now v.now n) m edges.old edges.new }
+    ensures grown { Grown (gained old.now.sources.now old.now.targets.now new.now.sources.now new.now.targets.now n) old.now.count edges.old edges.new }
 {
     let mut found = 0;
-    let mut k = 0;
-    while k < m {
-        found += gain(edges, n, s[k], t[k], u[k], v[k]);
-        k += 1;
+    for k in 0..old.count {
+        found += u32::from(gain(edges, n, old, new, k));
     }
     found
 }
 
-// Every changed slot's old edge is removed.
-fn shed_all(
-    edges: &mut [u32],
-    n: usize,
-    s: &[u32],
-    t: &[u32],
-    u: &[u32],
-    v: &[u32],
-    m: usize,
-) -> u32
-    requires { CanShed edges.old n s.now t.now u.now v.now m }
+// Every changed slot's old edge is removed: how many vanished.
+fn shed_all(edges: &mut [u32], n: usize, old: &Slots, new: &Slots) -> u32
+    requires { CanShed edges.old n old.now.sources.now old.now.targets.now new.now.sources.now new.now.targets.now old.now.count }
     ensures n_after { result + filled edges.new n ≡ filled edges.old n }
-    ensures fallen { Fallen (lost s.now t.now u.now v.now n) m edges.old edges.new }
+    ensures fallen { Fallen (lost old.now.sources.now old.now.targets.now new.now.sources.now new.now.targets.now n) old.now.count edges.old edges.new }
 {
     let mut found = 0;
-    let mut k = 0;
-    while k < m {
-        found += shed(edges, n, s[k], t[k], u[k], v[k]);
-        k += 1;
+    for k in 0..old.count {
+        found += u32::from(shed(edges, n, old, new, k));
     }
     found
 }
 
-// The matrix of the old slots (s, t) becomes that of the new ones (u, v). Edges come before edges go, so that one
+// The matrix of the old slots becomes that of the new ones, as many. Edges come before edges go, so that one
 // that is in both graphs is there all the time.
-pub fn update(
-    edges: &mut [u32],
-    n: usize,
-    s: &[u32],
-    t: &[u32],
-    u: &[u32],
-    v: &[u32],
-    m: usize,
-) -> Changes
-    requires { CanUpdate edges.old n s.now t.now u.now v.now m }
-    ensures changed { Changed n s.now t.now u.now v.now m result.appeared result.vanished }
-    ensures edges_after { edges.new ≡ patch 0 (matrix u.now v.now n m) edges.old }
+pub fn update(edges: &mut [u32], n: usize, old: &Slots, new: &Slots) -> Changes
+    requires as_many { new.now.count ≡ old.now.count }
+    requires can { CanUpdate edges.old n old.now.sources.now old.now.targets.now new.now.sources.now new.now.targets.now old.now.count }
+    ensures changed { Changed n old.now.sources.now old.now.targets.now new.now.sources.now new.now.targets.now old.now.count result.appeared result.vanished }
+    ensures edges_after { edges.new ≡ patch 0 (matrix new.now.sources.now new.now.targets.now n new.now.count) edges.old }
 {
-    let appeared = gain_all(edges, n, s, t, u, v, m);
-    let vanished = shed_all(edges, n, s, t, u, v, m);
-    Changes {
-        appeared: appeared,
-        vanished: vanished,
-    }
+    let appeared = gain_all(edges, n, old, new);
+    let vanished = shed_all(edges, n, old, new);
+    Changes { appeared, vanished }
 }
 
 // The matrix of the slots, from nothing, and how many of its numbers aren't 0.
-pub fn fill(edges: &mut [u32], n: usize, s: &[u32], t: &[u32], m: usize) -> u32
-    requires { CanFill edges.old n s.now t.now m }
+pub fn fill(edges: &mut [u32], n: usize, slots: &Slots) -> u32
+    requires { CanFill edges.old n slots.now.sources.now slots.now.targets.now slots.now.count }
     ensures value { result ≡ filled edges.new n }
-    ensures edges_after { edges.new ≡ patch 0 (matrix s.now t.now n m) edges.old }
+    ensures edges_after { edges.new ≡ patch 0 (matrix slots.now.sources.now slots.now.targets.now n slots.now.count) edges.old }
 {
-    layout::fill_with(edges, 0, n * n, 0);
+    edges[..n * n].fill(0);
     let mut found = 0;
-    let mut k = 0;
-    while k < m {
-        found += told(add(edges, n, s[k], t[k]));
-        k += 1;
+    for k in 0..slots.count {
+        found += u32::from(add(edges, n, slots.sources[k], slots.targets[k]));
     }
     found
 }

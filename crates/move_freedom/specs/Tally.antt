@@ -1,42 +1,20 @@
 -- How many nodes an atom may go to, by flags. Assumes nothing.
-use Rattle.std.specs.Prelude.{ℕ, ◌+◌, ◌≤◌, ◌<◌, ◌≡◌, Bool, not, ◌&&◌, List, eqb, length, get_or}
-use Rattle.std.proofs.Common.{ap, ◌∙◌}
-use Rattle.graphs.specs.Count.{ind}
+use Rattle.std.specs.Prelude.{ℕ, ◌+◌, Bool, false, not, ◌&&◌, List, eqb, length, get_or}
+use Rattle.graphs.specs.Count.{ind, count}
+use Rattle.move_freedom.specs.declared.flags.Flags.{Flags}
 
--- node c has both flags
-abbrev pub both : List ℕ → List ℕ → ℕ → Bool
-both out back c = not (eqb (get_or out c 0) 0) && not (eqb (get_or back c 0) 0)
+-- the atom leads to node x, and x reaches the atom
+abbrev pub both : Flags → ℕ → Bool
+both f x = get_or f.out x false && not (eqb (get_or f.back x 0) 0)
 
 -- node x has an atom
-abbrev pub occupied_at : List ℕ → ℕ → ℕ → Bool
-occupied_at area from x = not (eqb (get_or area (from + x) 0) 0)
+abbrev pub has_atom : List ℕ → ℕ → Bool
+has_atom counts x = not (eqb (get_or counts x 0) 0)
 
--- the atom in node `own` may go to node x
-abbrev pub admits : List ℕ → ℕ → ℕ → List ℕ → List ℕ → List ℕ → List ℕ → ℕ → ℕ → Bool
-admits area from own ahead behind out back k x =
-    not (eqb (get_or area (from + x) 0) 0) && (not (eqb x own) && (eqb (get_or ahead x 0) 0 && (eqb (get_or behind x 0) 0 && eqb k (ind (both out back x)))))
+-- the atom in node `own` may go to node x, which has so many atoms; k nodes meet
+abbrev pub admits : Flags → ℕ → ℕ → ℕ → ℕ → Bool
+admits f atoms own k x = not (eqb atoms 0) && (not (eqb x own) && (not (get_or f.ahead x false) && (not (get_or f.behind x false) && eqb k (ind (both f x)))))
 
-pub record CanMeet (out back : List ℕ) (n : ℕ) : Type 0 where
-  pub outs : n ≤ length out
-  pub backs : n ≤ length back
-  pub few : n ≤ 1025
-
-pub record CanTally (area : List ℕ) (from z own : ℕ) (ahead behind out back : List ℕ) : Type 0 where
-  pub inside : from + z ≤ length area
-  pub aheads : z ≤ length ahead
-  pub behinds : z ≤ length behind
-  pub outs : z + 1 ≤ length out
-  pub backs : z + 1 ≤ length back
-  pub few : z ≤ 1024
-  pub there : own < z
-
-pub record CanOccupied (area : List ℕ) (from z : ℕ) : Type 0 where
-  pub inside : from + z ≤ length area
-  pub few : z ≤ 1024
-
--- what `one` answers, with what `met` does
-pub admits_one : (area : List ℕ) (from own : ℕ) (ahead behind out back : List ℕ) (k x : ℕ) {m r : ℕ} → m ≡ ind (both out back x)
-    → r ≡ ind (not (eqb (get_or area (from + x) 0) 0) && (not (eqb x own) && (eqb (get_or ahead x 0) 0 && (eqb (get_or behind x 0) 0 && eqb k m))))
-    → r ≡ ind (admits area from own ahead behind out back k x)
-admits_one area from own ahead behind out back k x e q =
-    q ∙ ap (λ (j : ℕ). ind (not (eqb (get_or area (from + x) 0) 0) && (not (eqb x own) && (eqb (get_or ahead x 0) 0 && (eqb (get_or behind x 0) 0 && eqb k j))))) e
+-- the nodes with these atom counts that the atom in node `own` may go to, of one more node those that meet
+unfoldable pub open_count : Flags → List ℕ → ℕ → ℕ
+open_count f counts own = count (λ x. admits f (get_or counts x 0) own (count (both f) (length counts + 1)) x) (length counts)

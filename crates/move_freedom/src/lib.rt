@@ -4,10 +4,10 @@
 
 mod aside;
 mod atoms;
+mod flags;
 mod reach;
 mod rest;
 mod steps;
-mod tally;
 mod walks;
 
 pub use atoms::how_free;

@@ -4,26 +4,22 @@ ghost use Rattle.graphs.specs.Slots.{slot_edge};
 ghost use Rattle.graph_walks.specs.Marks.{marked};
 ghost use Rattle.move_freedom.specs.Reach.{CanReach};
 
-use graph_neighbours::Direction;
+use graph_neighbours::{Direction, Neighbours, Slots};
 
-// Marks with 1 the nodes, of n, that `root` reaches in one step or more along the m slots.
-pub fn reach(sources: &[u32], targets: &[u32], m: usize, n: usize, root: usize, marks: &mut [u32])
-    requires { CanReach sources.now targets.now m n root marks.old }
-    ensures { marks.new ≡ marked (slot_edge sources.now targets.now m) n 1 root marks.old }
+// Marks with 1 the nodes, of n, that `root` reaches in one step or more along the slots.
+pub fn reach(slots: &Slots, n: usize, root: usize, marks: &mut [u32])
+    requires { CanReach slots.now.sources.now slots.now.targets.now slots.now.count n root marks.old }
+    ensures { marks.new ≡ marked (slot_edge slots.now.sources.now slots.now.targets.now slots.now.count) n 1 root marks.old }
 {
     let mut heads = [0u32; 1026];
     let mut list = [0u32; 8448];
     let mut stack = [0u32; 1025];
-    graph_neighbours::group(sources, targets, m, n, &mut heads, &mut list);
-    graph_walks::reach(
-        Direction::Dependencies,
-        &heads,
-        &list,
-        &list,
-        n,
-        1,
-        root,
-        marks,
-        &mut stack,
-    );
+    graph_neighbours::group(slots, n, &mut heads, &mut list);
+    let graph = Neighbours {
+        direction: Direction::Dependencies,
+        starts: &heads,
+        dependencies: &list,
+        dependents: &list,
+    };
+    graph_walks::reach(&graph, n, 1, root, marks, &mut stack);
 }

@@ -1,44 +1,31 @@
-// Nodes that come a step after marked ones.
-ghost use Rattle.std.specs.Prelude.{◌≡◌, cond, ◌<◌, length, set};
-ghost use Rattle.move_freedom.specs.Steps.{goes, CanStep, Flagged};
+// Nodes that slots lead to.
+ghost use Rattle.std.specs.Prelude.{◌≡◌, ℕ, ◌<◌, Bool, length, get_or};
+ghost use Rattle.move_freedom.specs.Steps.{goes, CanFlag, Flagged, CanStep};
 
-// The slot from u to v: v is flagged where u is marked, unless one of them is `skip`.
-fn step(u: u32, v: u32, skip: u32, marks: &[u32], flags: &mut [u32])
-    requires { (u < length marks.now) × (v < length flags.old) }
-    ensures { flags.new ≡ cond (goes marks.now skip u v) (set flags.old v 1) flags.old }
+use graph_neighbours::Slots;
+
+// Flags the target of each slot that passes a test of its two ends.
+pub fn flag_targets<F: Fn(u32, u32) -> bool>(slots: &Slots, passes: F, flags: &mut [bool])
+    requires can_flag { CanFlag slots.now.sources.now slots.now.targets.now slots.now.count flags.old }
+    requires callable { (k : ℕ) → k < slots.now.count → F.pre passes (get_or slots.now.sources.now k 0) (get_or slots.now.targets.now k 0) }
+    ensures { (test : ℕ → ℕ → Bool) → ((u v : ℕ) (r : Bool) → F.post passes u v r → r ≡ test u v) → Flagged test slots.now.sources.now slots.now.targets.now slots.now.count flags.old flags.new }
 {
-    if u == v {
-        return;
+    for k in 0..slots.count {
+        let target = slots.targets[k];
+        if passes(slots.sources[k], target) {
+            flags[target as usize] = true;
+        }
     }
-    if u == skip {
-        return;
-    }
-    if v == skip {
-        return;
-    }
-    let i = u as usize;
-    if marks[i] == 0 {
-        return;
-    }
-    let j = v as usize;
-    flags[j] = 1;
 }
 
-// The same for m slots.
-pub fn steps(
-    sources: &[u32],
-    targets: &[u32],
-    m: usize,
-    skip: u32,
-    marks: &[u32],
-    flags: &mut [u32],
-)
-    requires { CanStep sources.now targets.now m marks.now flags.old }
-    ensures { Flagged sources.now targets.now marks.now skip m flags.old flags.new }
+// Flags the nodes that come a step after marked ones; slots from or to `skip` are passed over.
+pub fn steps(slots: &Slots, skip: u32, marks: &[u32], flags: &mut [bool])
+    requires { CanStep slots.now.sources.now slots.now.targets.now slots.now.count marks.now flags.old }
+    ensures { Flagged (goes marks.now skip) slots.now.sources.now slots.now.targets.now slots.now.count flags.old flags.new }
 {
-    let mut k = 0;
-    while k < m {
-        step(sources[k], targets[k], skip, marks, flags);
-        k += 1;
-    }
+    flag_targets(
+        slots,
+        |u, v| u != v && u != skip && v != skip && marks[u as usize] != 0,
+        flags,
+    );
 }

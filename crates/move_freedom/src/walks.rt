@@ -1,58 +1,40 @@
 // The two walks of an atom, and what they leave open.
-ghost use Rattle.std.specs.Prelude.{◌≡◌, not, ◌&&◌, ◌+◌, ◌<◌, eqb, length, set};
+ghost use Rattle.std.specs.Prelude.{◌≡◌, not, ◌&&◌, ◌+◌, eqb, length};
 ghost use Rattle.graphs.specs.Count.{count};
 ghost use Rattle.graphs.specs.Slots.{slot_edge};
 ghost use Rattle.move_free_walks.specs.ByMarks.{free_by};
-ghost use Rattle.move_freedom.specs.Tally.{occupied_at};
-ghost use Rattle.move_freedom.specs.Walks.{CanOpen, CanLeave, Leaves};
+ghost use Rattle.move_freedom.specs.Tally.{has_atom};
+ghost use Rattle.move_freedom.specs.Walks.{CanOpen};
 
+use super::flags::{Flags, NODES};
 use super::reach::reach;
-use super::steps::steps;
-use super::tally::open_to;
+use super::steps::{flag_targets, steps};
+use graph_neighbours::Slots;
 
-const NONE: u32 = 4294967295;
-
-// 1 at z.
-fn mark(l: &mut [u32], z: usize)
-    requires { z < length l.old }
-    ensures { l.new ≡ set l.old z 1 }
+// How many of the nodes with these atom counts an atom of node `own` may go to, where there is no cycle without the atom. The slots have it at the node
+// behind them.
+pub fn open_nodes(counts: &[u32], own: usize, slots: &Slots) -> u32
+    requires { CanOpen counts.now slots.now.sources.now slots.now.targets.now slots.now.count }
+    ensures { let z = length counts.now in result ≡ count (λ X. has_atom counts.now X && (not (eqb X own) && free_by (slot_edge slots.now.sources.now slots.now.targets.now slots.now.count) z (z + 1) X)) z }
 {
-    l[z] = 1;
-}
-
-// Flags the nodes to which a slot leads from z.
-fn leaving(sources: &[u32], targets: &[u32], m: usize, z: usize, out: &mut [u32])
-    requires { CanLeave sources.now targets.now m z out.old }
-    ensures { Leaves sources.now targets.now m z out.old out.new }
-{
-    let mut only = [0u32; 1025];
-    mark(&mut only, z);
-    steps(sources, targets, m, NONE, &only, out);
-}
-
-// How many nodes, of z with atom counts in the area from `at` on, an atom of node `own` may go to, where there is no cycle without the atom. The
-// slots have it at node z.
-pub fn open_nodes(
-    area: &[u32],
-    at: usize,
-    z: usize,
-    own: usize,
-    sources: &[u32],
-    targets: &[u32],
-    m: usize,
-) -> u32
-    requires { CanOpen area.now at z own sources.now targets.now m }
-    ensures { result ≡ count (λ X. occupied_at area.now at X && (not (eqb X own) && free_by (slot_edge sources.now targets.now m) z (z + 1) X)) z }
-{
-    let mut forth = [0u32; 1025];
-    let mut back = [0u32; 1025];
-    let mut ahead = [0u32; 1025];
-    let mut behind = [0u32; 1025];
-    let mut out = [0u32; 1025];
-    reach(sources, targets, m, z + 1, z, &mut forth);
-    reach(targets, sources, m, z + 1, z, &mut back);
-    steps(sources, targets, m, z as u32, &forth, &mut ahead);
-    steps(targets, sources, m, z as u32, &back, &mut behind);
-    leaving(sources, targets, m, z, &mut out);
-    open_to(area, at, z, own, &ahead, &behind, &out, &back)
+    let z = counts.len();
+    let node = z as u32;
+    let turned = Slots {
+        sources: slots.targets,
+        targets: slots.sources,
+        count: slots.count,
+    };
+    let mut forth = [0u32; NODES];
+    let mut flags = Flags {
+        ahead: [false; NODES],
+        behind: [false; NODES],
+        out: [false; NODES],
+        back: [0; NODES],
+    };
+    reach(slots, z + 1, z, &mut forth);
+    reach(&turned, z + 1, z, &mut flags.back);
+    steps(slots, node, &forth, &mut flags.ahead);
+    steps(&turned, node, &flags.back, &mut flags.behind);
+    flag_targets(slots, |u, v| u != v && u == node, &mut flags.out);
+    flags.open_nodes(counts, own)
 }

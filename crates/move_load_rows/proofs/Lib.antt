@@ -1,4 +1,5 @@
 -- The laws that the proofs of `move_load_rows` cite. Assumes nothing.
+pub mod Searching
 pub mod Spans
-pub mod Rows
 pub mod SetLaws
+pub mod Rows

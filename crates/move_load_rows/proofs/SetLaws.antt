@@ -1,68 +1,63 @@
 -- Lent entry sets by their place, and the rows that look at them. Assumes nothing.
-use Prim.Native.Nat.{ℕ, ◌*◌, ◌≤◌, ◌<◌}
-use native.Mathlib.Omega.{arith}
-use mathlib.Core.Path.{◌≡◌, refl, sym, ap, ◌∙◌}
-use mathlib.Core.Bool.{Bool, true, false, not, cond, ◌&&◌}
-use mathlib.Core.List.{List, []}
-use lib.Dec.{leb, ltb, eqb}
-use lib.ListN.{length}
-use borrow.Author.Tests.{ltb-true, ltb-false, le-leb, lt-leb, eq-eqb, ne_eqb, eqb-true}
-use Rattle.graphs.specs.Bools.{Decides, and_right}
+use Rattle.std.proofs.Common.{◌≡◌, ℕ, ◌+◌, ◌*◌, ◌^◌, ◌≤◌, ◌<◌, Bool, true, false, not, ◌&&◌, leb, ltb, List, length, take, drop, arith, ap, refl, sym, ◌∙◌}
+use borrow.Author.Tests.{ltb-true, ltb-false, le-leb, lt-leb, ne_eqb, eqb-true}
+use Rattle.graphs.specs.Bools.{Decides, or_false_left, or_false_right, and_right}
 use Rattle.graphs.specs.Square.{row_in}
-use Rattle.entry_set.specs.Sets.{width}
+use Rattle.refusals.specs.Rows.{row}
+use Rattle.refusals.specs.declared.Refusal.{Refusal}
+use Rattle.entry_set.specs.Sets.{width, value}
 use Rattle.set_order.specs.Order.{Distinct}
 use Rattle.equal_sets.specs.Laid.{nth_set, repeats}
-use Rattle.move_ledger.specs.Graph.{Load, lent}
-use Rattle.move_ledger.specs.Loading.{row1, row7, row8, first_row, loading_row}
+use Rattle.move_ledger.specs.Graph.{Load}
+use Rattle.move_ledger.specs.Loading.{row1, row8, first_row, loading_row, marks_fit, sets_fit, lent_set}
 use Rattle.move_ledger.proofs.LoadLaws.{first_row-none}
-use Rattle.move_load_rows.specs.EntrySets.{too_high, met, alike_sets, set_row, CanSet, CanSets}
-use Rattle.move_load_rows.proofs.Rows.{limits}
+use Rattle.move_load_rows.specs.EntrySets.{CanSets, set_row}
+use Rattle.move_load_rows.proofs.Rows.{row_some}
 
-pub not_ltb : (x y : ℕ) → not (ltb x y) ≡ leb y x
-not_ltb x y = go (ltb x y) refl
-  where
-    go : (t : Bool) → ltb x y ≡ t → not t ≡ leb y x
-    go true h = sym (lt-leb y x (ltb-true x y h))
-    go false h = sym (le-leb y x (ltb-false x y h))
+-- set i has a bit at or above E
+abbrev pub reaches : Load → List ℕ → ℕ → Bool
+reaches load sets i = leb (2 ^ load.E) (lent_set load sets i)
 
-pub can_set : {sets : List ℕ} {w a : ℕ} → CanSets sets w a → (i : ℕ) → i < a → CanSet sets w i
-can_set {sets} {w} {a} can i l =
-    record { narrow = can.narrow; within = omega (arith, can.full, row_in a w i l) }
+module _ (load : Load) (sets : List ℕ) {w : ℕ} (wide : w ≡ width load.E) where
+  pub set_in : CanSets load sets → (i : ℕ) → i < load.A → (w ≤ 4) × (i * w + w ≤ length sets)
+  set_in can i l = (omega (arith, can.bits), omega (arith, can.full ∙ ap (λ v. load.A * v) (sym wide), row_in load.A w i l))
 
--- row 8 by distinct sets
-pub alike_is : (sets : List ℕ) (w a : ℕ) {d : Bool} → Decides (Distinct (nth_set sets w) a) d → not d ≡ alike_sets sets w a
-unfolding alike_sets met
-alike_is sets w a {d} r = repeats (nth_set sets w) a d r
+  pub reaches_is : (i : ℕ) {x : ℕ} {r : Bool} → x ≡ value (take w (drop (i * w) sets)) → r ≡ ltb x (2 ^ load.E) → not r ≡ reaches load sets i
+  reaches_is i {x} {r} q h = go r refl
+    where
+      set : x ≡ lent_set load sets i
+      set = q ∙ ap (λ v. value (take v (drop (i * v) sets))) wide
 
--- the rows 7 and 8 by what the code looks for
-module _ (a e w : ℕ) (sets : List ℕ) (wide : w ≡ width e) where
-  pub can_sets : (a ≤ 512) × (e ≤ 256) × (length sets ≡ a * width e) → CanSets sets w a
-  can_sets h = record { narrow = omega (arith, h.1); full = h.2 ∙ ap (λ v. a * v) (sym wide) }
+      go : (t : Bool) → r ≡ t → not t ≡ reaches load sets i
+      go true e = sym (lt-leb (2 ^ load.E) _ (omega (arith, set, ltb-true x (2 ^ load.E) (sym h ∙ e))))
+      go false e = sym (le-leb (2 ^ load.E) _ (omega (arith, set, ltb-false x (2 ^ load.E) (sym h ∙ e))))
 
-  pub set_is : set_row (lent a 0 e [] [] []) sets ≡ cond (too_high sets w a e) 7 (cond (alike_sets sets w a) 8 0)
-  unfolding set_row row7 row8 too_high alike_sets met
-  set_is = rw wide refl
+  -- row 8 by distinct sets
+  pub alike_is : {d : Bool} → Decides (Distinct (nth_set sets w) load.A) d → not d ≡ row8 load sets
+  unfolding row8
+  alike_is {d} r = rw (← wide) (repeats (nth_set sets w) load.A d r)
 
 -- the lengths of the marks and the sets matter only where row 1 doesn't fit
-module _ (a d e : ℕ) (starts dependencies hosts : List ℕ) (fixed : List ℕ) (n : ℕ) (sets : List ℕ) (size : ℕ) (fit : Bool) (fits : a ≤ 512 → e ≤ 256 → fit ≡ (eqb (length fixed) a && eqb (length sets) (a * width e))) (row : ℕ) (first : row ≡ first_row (lent a d e starts dependencies hosts) n fit size) where
-  abbrev load : Load
-  load = lent a d e starts dependencies hosts
-
-  fit_is : row ≡ first_row load n (eqb (length fixed) a && eqb (length sets) (a * width e)) size
+module _ (load : Load) (fixed : List ℕ) (n : ℕ) (sets : List ℕ) (size : ℕ) {fit : Bool} (fits : load.A ≤ 512 → load.E ≤ 256 → fit ≡ (marks_fit load fixed && sets_fit load sets)) where
+  fit_is : first_row load n fit size ≡ first_row load n (marks_fit load fixed && sets_fit load sets) size
   unfolding first_row
   fit_is = go (row1 load n) refl
     where
-      go : (t : Bool) → row1 load n ≡ t → row ≡ first_row load n (eqb (length fixed) a && eqb (length sets) (a * width e)) size
-      go true q = first ∙ rw q refl
-      go false q = let l = limits a d e n q in first ∙ rw (fits l.atoms l.bits) refl
+      go : (t : Bool) → row1 load n ≡ t → first_row load n fit size ≡ first_row load n (marks_fit load fixed && sets_fit load sets) size
+      go true q = rw q refl
+      go false q =
+          let bits = or_false_right (ltb 8192 load.D) _ (or_false_right (ltb 512 load.A) _ q) in
+          rw (fits (ltb-false _ _ (or_false_left (ltb 512 load.A) _ q)) (ltb-false _ _ (or_false_left (ltb 256 load.E) _ bits))) refl
 
-  pub loading-early : (row ≡ 0 → ⊥) → row ≡ loading_row load fixed n sets size
+  pub loading-early : (r : Refusal) → row r ≡ first_row load n fit size → row r ≡ loading_row load fixed n sets size
   unfolding loading_row
-  loading-early h = rw (← fit_is, ne_eqb row 0 h) refl
+  loading-early r q = let e = q ∙ fit_is in rw (← e, ne_eqb (row r) 0 (row_some r)) refl
 
-  pub loading-late : (r : ℕ) → row ≡ 0 → r ≡ set_row (lent a 0 e [] [] []) sets → r ≡ loading_row load fixed n sets size
-  unfolding loading_row set_row row7 row8
-  loading-late r h q = rw (← fit_is, eq-eqb row 0 h) q
+  pub loading-late : {x : ℕ} → 0 ≡ first_row load n fit size → x ≡ set_row load sets → x ≡ loading_row load fixed n sets size
+  unfolding loading_row set_row
+  loading-late q h = let e = q ∙ fit_is in rw (← e) h
 
-  pub loading_can : row ≡ 0 → (a ≤ 512) × (e ≤ 256) × (length sets ≡ a * width e)
-  loading_can h = let l = first_row-none load n (eqb (length fixed) a && eqb (length sets) (a * width e)) size (sym fit_is ∙ h) in (l.sizes.atoms, l.sizes.bits, eqb-true _ _ (and_right (eqb (length fixed) a) _ l.lengths))
+  pub loading_can : 0 ≡ first_row load n fit size → CanSets load sets
+  loading_can q =
+      let l = first_row-none load n (marks_fit load fixed && sets_fit load sets) size (sym (q ∙ fit_is)) in
+      record { atoms = l.sizes.atoms; bits = l.sizes.bits; full = eqb-true _ _ (and_right (marks_fit load fixed) _ l.lengths) }

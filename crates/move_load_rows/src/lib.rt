@@ -1,251 +1,141 @@
 // The checks of a move graph's load: rows 1 to 8 of the table of refusals.
 #![tactic(auto)]
 
-ghost use Rattle.std.specs.Prelude.{◌≡◌, [], false, ◌+◌, ◌*◌, ◌≤◌, ◌<◌, length};
-ghost use Rattle.move_ledger.specs.Graph.{lent};
-ghost use Rattle.move_load_rows.specs.Checks.{falling, bad_starts, not_other, bad_span, spans, span, CanSpan, CanOwn, no_host, bad_hosts, list_row, Limits, Lengths};
-ghost use Rattle.move_ledger.specs.Loading.{row1, row2, row3, row5, first_row, loading_row};
+ghost use Rattle.std.specs.Prelude.{◌≡◌, ◌+◌, ◌≤◌, ◌<◌, length};
+ghost use Rattle.refusals.specs.Rows.{row_of};
+ghost use Rattle.move_ledger.specs.Loading.{row1, row2, row3, row4, row5, row6, first_row, loading_row};
+ghost use Rattle.move_load_view.specs.View.{CanPart, lent_by};
+ghost use Rattle.move_load_rows.specs.Checks.{falling, bad_starts, not_other, span, CanOwn, no_host, list_row, Limits, Lengths};
 
-mod alike;
 mod sets;
 
+use move_load_view::Load;
+use refusals::Refusal;
 use sets::lists_fit;
 pub use sets::sets_refusal;
 
-// A number of 32 bits as an index.
-fn wide(x: u32) -> usize
-    ensures { result ≡ x }
-{
-    x as usize
-}
+// None, in the list of hosts.
+const NONE: u32 = 4294967295;
 
 // Some start is below the one before it.
-fn falls(starts: &[u32], count: usize) -> bool
-    requires { count < length starts.now }
-    ensures { result ≡ falling starts.now count }
+fn falls(load: &Load) -> bool
+    requires { length load.now.starts.now ≡ load.now.atoms + 1 }
+    ensures { result ≡ falling load.now.starts.now load.now.atoms }
 {
-    let mut k = 0;
-    while k < count {
-        let next = k + 1;
-        if starts[next] < starts[k] {
-            return true;
-        }
-        k = next;
-    }
-    false
+    !load.starts.is_sorted()
 }
 
-// Row 4: the starts don't begin at 0, fall, or don't end at the total.
-pub fn bad_starts(starts: &[u32], count: usize, total: usize) -> bool
-    requires { length starts.now ≡ count + 1 }
-    ensures { result ≡ bad_starts starts.now count total }
+// Row 4: the starts don't begin at 0, fall, or don't end at the number of dependencies.
+#[tactic(auto, unfolding(move_ledger::specs::Loading::row4, crate::specs::Checks::falling))]
+pub fn bad_starts(load: &Load) -> bool
+    requires { length load.now.starts.now ≡ load.now.atoms + 1 }
+    ensures { result ≡ row4 (lent_by load.now) }
 {
-    if starts[0] != 0 {
-        return true;
-    }
-    if falls(starts, count) {
-        return true;
-    }
-    let last = wide(starts[count]);
-    last != total
-}
-
-// x is no atom, or the atom itself.
-fn not_another(x: u32, atom: usize, a: usize) -> bool
-    ensures { result ≡ not_other a atom x }
-{
-    let other = wide(x);
-    if a <= other {
-        return true;
-    }
-    other == atom
-}
-
-// Some dependency from `from` up to `end` is no atom, or the atom itself.
-fn span_fails(dependencies: &[u32], from: usize, end: usize, atom: usize, a: usize) -> bool
-    requires { (from ≤ end) × (end ≤ length dependencies.now) }
-    ensures { result ≡ bad_span dependencies.now from end atom a }
-{
-    let mut k = from;
-    while k < end {
-        if not_another(dependencies[k], atom, a) {
-            return true;
-        }
-        k += 1;
-    }
-    false
+    load.starts[0] != 0 || falls(load) || load.starts[load.atoms] as usize != load.entries
 }
 
 // Some dependency of the atom is no atom, or the atom itself.
-fn atom_fails(starts: &[u32], dependencies: &[u32], atom: usize, a: usize) -> bool
-    requires { CanSpan starts.now dependencies.now atom }
-    ensures { result ≡ span (spans a 0 starts.now dependencies.now) atom }
+fn atom_fails(load: &Load, atom: usize) -> bool
+    requires { CanPart load.now.starts.now load.now.dependencies.now atom }
+    ensures { result ≡ span (lent_by load.now) atom }
 {
-    let next = atom + 1;
-    let from = wide(starts[atom]);
-    let end = wide(starts[next]);
-    span_fails(dependencies, from, end, atom, a)
+    load.dependencies_of(atom).iter().any(|&other| other as usize >= load.atoms
+        || other as usize == atom)
 }
 
 // Row 5: some dependency is no atom, or the atom whose dependency it is.
-fn bad_dependencies(a: usize, d: usize, starts: &[u32], dependencies: &[u32]) -> bool
-    requires { CanOwn a d starts.now dependencies.now }
-    ensures { result ≡ row5 (spans a d starts.now dependencies.now) }
+fn bad_dependencies(load: &Load) -> bool
+    requires { CanOwn (lent_by load.now) }
+    ensures { result ≡ row5 (lent_by load.now) }
 {
-    let mut atom = 0;
-    while atom < a {
-        if atom_fails(starts, dependencies, atom, a) {
+    for atom in 0..load.atoms {
+        if atom_fails(load, atom) {
             return true;
         }
-        atom += 1;
     }
     false
-}
-
-// x is neither None nor an atom.
-fn not_host(x: u32, a: usize) -> bool
-    ensures { result ≡ no_host a x }
-{
-    if x == 4294967295 {
-        return false;
-    }
-    a <= wide(x)
 }
 
 // Row 6: some host is neither None nor an atom.
-fn bad_hosts(hosts: &[u32], a: usize) -> bool
-    ensures { result ≡ bad_hosts hosts.now a }
+fn bad_hosts(load: &Load) -> bool
+    requires { length load.now.hosts.now ≡ load.now.bits }
+    ensures { result ≡ row6 (lent_by load.now) }
 {
-    let mut k = 0;
-    while k < hosts.len() {
-        if not_host(hosts[k], a) {
-            return true;
-        }
-        k += 1;
-    }
-    false
+    load.hosts
+        .iter()
+        .any(|&host| host != NONE && host as usize >= load.atoms)
 }
 
 // Row 1.
-fn over_limits(a: usize, d: usize, e: usize, n: usize) -> bool
-    ensures { result ≡ row1 (lent a d e [] [] []) n }
+fn over_limits(load: &Load, n: usize) -> bool
+    ensures { result ≡ row1 (lent_by load.now) n }
 {
-    if 512 < a {
-        return true;
-    }
-    if 8192 < d {
-        return true;
-    }
-    if 256 < e {
-        return true;
-    }
-    if n <= a {
-        return true;
-    }
-    1024 < n
+    load.atoms > 512 || load.entries > 8192 || load.bits > 256 || n <= load.atoms || n > 1024
 }
 
 // Row 2: a list hasn't the length called for.
-fn wrong_lengths(
-    a: usize,
-    d: usize,
-    e: usize,
-    starts: &[u32],
-    dependencies: &[u32],
-    hosts: &[u32],
-) -> bool
-    requires { a ≤ 512 }
-    ensures { result ≡ row2 (lent a d e starts.now dependencies.now hosts.now) }
+fn wrong_lengths(load: &Load) -> bool
+    requires { load.now.atoms ≤ 512 }
+    ensures { result ≡ row2 (lent_by load.now) }
 {
-    if starts.len() != a + 1 {
-        return true;
-    }
-    if dependencies.len() != d {
-        return true;
-    }
-    hosts.len() != e
+    load.starts.len() != load.atoms + 1
+        || load.dependencies.len() != load.entries
+        || load.hosts.len() != load.bits
 }
 
 // Row 3: an area of `size` numbers is too short.
-fn too_short(a: usize, d: usize, e: usize, n: usize, size: usize) -> bool
-    requires { Limits a d e n }
-    ensures { result ≡ row3 (lent a d e [] [] []) n size }
+fn too_short(load: &Load, n: usize, size: usize) -> bool
+    requires { Limits (lent_by load.now) n }
+    ensures { result ≡ row3 (lent_by load.now) n size }
 {
-    size < n * n + 24 * (a + n + d + e + 1)
+    size < n * n + 24 * (load.atoms + n + load.entries + load.bits + 1)
 }
 
-// The rows 4 to 6, 0 where none fits.
-fn list_refusal(
-    a: usize,
-    d: usize,
-    e: usize,
-    starts: &[u32],
-    dependencies: &[u32],
-    hosts: &[u32],
-) -> u32
-    requires { Lengths a d e starts.now dependencies.now hosts.now }
-    ensures { result ≡ list_row (lent a d e starts.now dependencies.now hosts.now) }
+// The rows 4 to 6.
+#[tactic(auto, unfolding(crate::specs::Checks::list_row))]
+fn list_refusal(load: &Load) -> Result<(), Refusal>
+    requires { Lengths (lent_by load.now) }
+    ensures { row_of result ≡ list_row (lent_by load.now) }
 {
-    if bad_starts(starts, a, d) {
-        return 4;
+    if bad_starts(load) {
+        return Err(Refusal::FaultyStarts);
     }
-    if bad_dependencies(a, d, starts, dependencies) {
-        return 5;
+    if bad_dependencies(load) {
+        return Err(Refusal::FaultyDependency);
     }
-    if bad_hosts(hosts, a) {
-        return 6;
+    if bad_hosts(load) {
+        return Err(Refusal::FaultyHost);
     }
-    0
+    Ok(())
 }
 
-// The rows 1 to 6, 0 where none fits; `fit` tells whether the lists lent beside the load have their lengths.
-pub fn refusal(
-    a: usize,
-    d: usize,
-    e: usize,
-    n: usize,
-    starts: &[u32],
-    dependencies: &[u32],
-    hosts: &[u32],
-    fit: bool,
-    size: usize,
-) -> u32
-    ensures { result ≡ first_row (lent a d e starts.now dependencies.now hosts.now) n fit size }
+// The rows 1 to 6; `fit` tells whether the lists lent beside the load have their lengths.
+#[tactic(auto, unfolding(move_ledger::specs::Loading::first_row, crate::specs::Checks::list_row))]
+pub fn refusal(load: &Load, n: usize, fit: bool, size: usize) -> Result<(), Refusal>
+    ensures { row_of result ≡ first_row (lent_by load.now) n fit size }
 {
-    if over_limits(a, d, e, n) {
-        return 1;
+    if over_limits(load, n) {
+        return Err(Refusal::OverLimits);
     }
-    if wrong_lengths(a, d, e, starts, dependencies, hosts) {
-        return 2;
+    if wrong_lengths(load) || !fit {
+        return Err(Refusal::ListLength);
     }
-    if !fit {
-        return 2;
+    if too_short(load, n, size) {
+        return Err(Refusal::AreaTooShort);
     }
-    if too_short(a, d, e, n, size) {
-        return 3;
-    }
-    list_refusal(a, d, e, starts, dependencies, hosts)
+    list_refusal(load)
 }
 
-// The rows 1 to 8 of loading, 0 where none fits.
+// The rows 1 to 8 of loading.
 pub fn loading_refusal(
-    a: usize,
-    d: usize,
-    e: usize,
+    load: &Load,
     n: usize,
-    starts: &[u32],
-    dependencies: &[u32],
-    hosts: &[u32],
     fixed: &[u32],
     sets: &[u64],
     size: usize,
-) -> u32
-    ensures { result ≡ loading_row (lent a d e starts.now dependencies.now hosts.now) fixed.now n sets.now size }
+) -> Result<(), Refusal>
+    ensures { row_of result ≡ loading_row (lent_by load.now) fixed.now n sets.now size }
 {
-    let fit = lists_fit(a, e, fixed, sets);
-    let row = refusal(a, d, e, n, starts, dependencies, hosts, fit, size);
-    if row != 0 {
-        return row;
-    }
-    sets_refusal(a, e, sets)
+    refusal(load, n, lists_fit(load, fixed, sets), size)?;
+    sets_refusal(load, sets)
 }

@@ -1,70 +1,68 @@
 // Rows 7 and 8 of the table: entry sets in range, no two of them equal.
-ghost use Rattle.std.specs.Prelude.{◌≡◌, ◌&&◌, [], ◌+◌, ◌*◌, ◌^◌, ◌≤◌, ◌<◌, length, leb, eqb};
+ghost use Rattle.std.specs.Prelude.{◌≡◌, ◌&&◌, ◌*◌, ◌≤◌, length, eqb};
+ghost use Rattle.refusals.specs.Rows.{row_of};
 ghost use Rattle.entry_set.specs.Sets.{width};
-ghost use Rattle.move_ledger.specs.Graph.{lent};
-ghost use Rattle.move_load_rows.specs.EntrySets.{too_high, set_row, CanSet, CanSets};
-ghost use Rattle.equal_sets.specs.Laid.{nth_set};
+ghost use Rattle.move_ledger.specs.Loading.{row7, row8};
+ghost use Rattle.move_load_view.specs.View.{lent_by};
+ghost use Rattle.move_load_rows.specs.EntrySets.{set_row, CanSets};
 
-use crate::alike::any_alike;
-use entry_set::{in_range, set_at, set_width};
+use entry_set::{EntrySet, set_width};
+use equal_sets::are_distinct;
+use move_load_view::Load;
+use refusals::Refusal;
 
-// Set i has a bit at or above e.
-fn reaches(sets: &[u64], w: usize, i: usize, e: usize) -> bool
-    requires { CanSet sets.now w i }
-    ensures { result ≡ leb (2 ^ e) (nth_set sets.now w i) }
+// Row 7: some set has a bit at or above E.
+fn any_too_high(load: &Load, sets: &[u64]) -> bool
+    requires { CanSets (lent_by load.now) sets.now }
+    ensures { result ≡ row7 (lent_by load.now) sets.now }
 {
-    !in_range(set_at(sets, w, i), e)
-}
-
-// Row 7: some set has a bit at or above e.
-fn any_too_high(sets: &[u64], w: usize, a: usize, e: usize) -> bool
-    requires { CanSets sets.now w a }
-    ensures { result ≡ too_high sets.now w a e }
-{
-    let mut i = 0;
-    while i < a {
-        if reaches(sets, w, i, e) {
+    let w = set_width(load.bits);
+    for i in 0..load.atoms {
+        if !EntrySet::at(sets, w, i).in_range(load.bits) {
             return true;
         }
-        i += 1;
     }
     false
 }
 
-// The rows 7 and 8, 0 where none fits.
-pub fn sets_refusal(a: usize, e: usize, sets: &[u64]) -> u32
-    requires { (a ≤ 512) × (e ≤ 256) × (length sets.now ≡ a * width e) }
-    ensures { result ≡ set_row (lent a 0 e [] [] []) sets.now }
+// Row 8: two sets are equal.
+fn any_alike(load: &Load, sets: &[u64]) -> bool
+    requires { CanSets (lent_by load.now) sets.now }
+    ensures { result ≡ row8 (lent_by load.now) sets.now }
 {
-    let w = set_width(e);
-    if any_too_high(sets, w, a, e) {
-        return 7;
-    }
-    if any_alike(sets, w, a) {
-        return 8;
-    }
-    0
+    let mut lanes = [0u32; 4096];
+    let mut order = [0u32; 512];
+    !are_distinct(
+        sets,
+        set_width(load.bits),
+        load.atoms,
+        512,
+        &mut lanes,
+        &mut order,
+    )
 }
 
-// The entry sets of a atoms have their length; any answer where row 1 fits.
-fn sets_fit(a: usize, e: usize, sets: &[u64]) -> bool
-    ensures { a ≤ 512 → e ≤ 256 → result ≡ eqb (length sets.now) (a * width e) }
+// The rows 7 and 8.
+#[tactic(auto, unfolding(crate::specs::EntrySets::set_row))]
+pub fn sets_refusal(load: &Load, sets: &[u64]) -> Result<(), Refusal>
+    requires { CanSets (lent_by load.now) sets.now }
+    ensures { row_of result ≡ set_row (lent_by load.now) sets.now }
 {
-    if 512 < a {
-        return false;
+    if any_too_high(load, sets) {
+        return Err(Refusal::SetOutOfRange);
     }
-    if 256 < e {
-        return false;
+    if any_alike(load, sets) {
+        return Err(Refusal::EqualSets);
     }
-    sets.len() == a * set_width(e)
+    Ok(())
 }
 
-// The marks of a atoms and their entry sets have their lengths; any answer where row 1 fits.
-pub fn lists_fit(a: usize, e: usize, fixed: &[u32], sets: &[u64]) -> bool
-    ensures { a ≤ 512 → e ≤ 256 → result ≡ (eqb (length fixed.now) a && eqb (length sets.now) (a * width e)) }
+// The marks of the atoms and their entry sets have their lengths; any answer where row 1 fits.
+pub fn lists_fit(load: &Load, fixed: &[u32], sets: &[u64]) -> bool
+    ensures { load.now.atoms ≤ 512 → load.now.bits ≤ 256 → result ≡ (eqb (length fixed.now) load.now.atoms && eqb (length sets.now) (load.now.atoms * width load.now.bits)) }
 {
-    if fixed.len() != a {
-        return false;
-    }
-    sets_fit(a, e, sets)
+    fixed.len() == load.atoms
+        && load.atoms <= 512
+        && load.bits <= 256
+        && sets.len() == load.atoms * set_width(load.bits)
 }

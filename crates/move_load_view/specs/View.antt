@@ -1,7 +1,13 @@
--- An atom's part of the dependencies. Assumes nothing.
+-- A lent load as the papers' load, and an atom's part of the dependencies. Assumes nothing.
 use Rattle.std.specs.Prelude.{List, ℕ, ◌+◌, ◌-◌, ◌≤◌, ◌<◌, length}
 use Rattle.layout.specs.Patch.{part}
-use Rattle.move_ledger.specs.Graph.{at}
+use Rattle.move_ledger.specs.Graph.{at, lent}
+use Rattle.move_ledger.specs.Graph as graph
+use Rattle.move_load_view.specs.declared.Load.{Load}
+
+-- the load that a call is lent
+abbrev pub lent_by : Load → graph.Load
+lent_by load = lent load.atoms load.entries load.bits load.starts.now load.dependencies.now load.hosts.now
 
 -- the atom has two starts, rising and within the dependencies
 pub record CanPart (starts dependencies : List ℕ) (atom : ℕ) : Type 0 where

@@ -1,86 +1,37 @@
-// The load as a view: a struct that holds the lent lists, with two thin readers. A reader takes it apart and leaves the work to
-// a function on slices.
+// A move graph's load as a view: how many atoms, dependency entries and entry bits it has, and the three lists that are lent. Two thin readers.
 #![tactic(auto)]
 
 ghost use Rattle.std.specs.Prelude.{◌≡◌, ◌<◌, length};
 ghost use Rattle.move_ledger.specs.Graph.{at};
 ghost use Rattle.move_load_view.specs.View.{CanPart, dependencies_of};
 
+// A, D and E, and the lists.
 #[derive(Clone, Copy)]
-pub struct Load<'s, 'd, 'h> {
-    pub starts: &'s [u32],
-    pub dependencies: &'d [u32],
-    pub hosts: &'h [u32],
+pub struct Load<'l> {
+    pub atoms: usize,
+    pub entries: usize,
+    pub bits: usize,
+    pub starts: &'l [u32],
+    pub dependencies: &'l [u32],
+    pub hosts: &'l [u32],
 }
 
-// The dependencies from the atom's start to the next one.
-fn part_at<'s, 'd>(starts: &'s [u32], dependencies: &'d [u32], atom: usize) -> &'d [u32]
-    requires { CanPart starts.now dependencies.now atom }
-    ensures { result.now ≡ dependencies_of starts.now dependencies.now atom }
-{
-    let from = starts[atom] as usize;
-    let to = starts[atom + 1] as usize;
-    &dependencies[from..to]
-}
+impl<'l> Load<'l> {
+    // An atom's dependencies: from its start to the next one.
+    pub fn dependencies_of(&self, atom: usize) -> &'l [u32]
+        requires { CanPart self.now.starts.now self.now.dependencies.now atom }
+        ensures { result.now ≡ dependencies_of self.now.starts.now self.now.dependencies.now atom }
+    {
+        let from = self.starts[atom] as usize;
+        let to = self.starts[atom + 1] as usize;
+        &self.dependencies[from..to]
+    }
 
-fn host_at(hosts: &[u32], bit: usize) -> u32
-    requires { bit < length hosts.now }
-    ensures { result ≡ at hosts.now bit }
-{
-    hosts[bit]
-}
-
-// The first reader: an atom's dependencies.
-fn dependencies_of<'s, 'd, 'h>(load: Load<'s, 'd, 'h>, atom: usize) -> &'d [u32]
-    requires { CanPart load.starts.now load.dependencies.now atom }
-    ensures { result.now ≡ dependencies_of load.entry.starts.now load.entry.dependencies.now atom }
-{
-    part_at(load.starts, load.dependencies, atom)
-}
-
-// The second: an entry bit's host.
-fn host_of<'s, 'd, 'h>(load: Load<'s, 'd, 'h>, bit: usize) -> u32
-    requires { bit < length load.hosts.now }
-    ensures { result ≡ at load.entry.hosts.now bit }
-{
-    host_at(load.hosts, bit)
-}
-
-// The readers for whoever has the lists: the view is made for the call.
-pub fn atom_dependencies<'s, 'd, 'h>(
-    starts: &'s [u32],
-    dependencies: &'d [u32],
-    hosts: &'h [u32],
-    atom: usize,
-) -> &'d [u32]
-    requires { CanPart starts.now dependencies.now atom }
-    ensures { result.now ≡ dependencies_of starts.now dependencies.now atom }
-{
-    dependencies_of(
-        Load {
-            starts,
-            dependencies,
-            hosts,
-        },
-        atom,
-    )
-}
-
-pub fn bit_host<'s, 'd, 'h>(
-    starts: &'s [u32],
-    dependencies: &'d [u32],
-    hosts: &'h [u32],
-    bit: usize,
-) -> u32
-    requires { bit < length hosts.now }
-    ensures { result ≡ at hosts.now bit }
-{
-    host_of(
-        Load {
-            starts,
-            dependencies,
-            hosts,
-        },
-        bit,
-    )
+    // An entry bit's host.
+    pub fn host_of(&self, bit: usize) -> u32
+        requires { bit < length self.now.hosts.now }
+        ensures { result ≡ at self.now.hosts.now bit }
+    {
+        self.hosts[bit]
+    }
 }

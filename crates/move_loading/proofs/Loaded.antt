@@ -15,7 +15,7 @@ use Rattle.graphs.specs.Walk.{cyclic, only}
 use Rattle.graphs.specs.Walks.{acyclic_none}
 use Rattle.layout.specs.Patch.{patch, part, part_long, part_at, patch_long}
 use Rattle.move_edges.specs.Matrix.{matrix}
-use Rattle.move_ledger.specs.Graph.{Load, at, edge, members}
+use Rattle.move_ledger.specs.Graph.{Load, edge, members}
 use Rattle.move_ledger.specs.Loading.{entry_sets}
 use Rattle.move_ledger.specs.LoadLaws.{Loadable-sets, entry_sets-length}
 use Rattle.move_ledger.specs.Nodes.{sources, targets, node_edge}
@@ -29,10 +29,8 @@ use Rattle.move_area.specs.Calls.{first}
 use Rattle.move_area.specs.NodeBodies.{Nodes, node_bodies, state_of, encode-nodes}
 use Rattle.move_slots.specs.Filled.{Filled}
 use Rattle.move_slots.specs.Counted.{Counted, counted-ends, counted_le, counted-flat, counted-edge, counted-cyclic}
-use Rattle.move_slots.specs.Slots.{bounds}
-use Rattle.move_loading.specs.Start.{start_bodies}
 use Rattle.move_loading.specs.Steps.{GraphWritten, component_lane, CanWriteFlags, FlagsWritten, CanLoad}
-use Rattle.move_loading.proofs.Reading.{same-sets, room_is, start_of, start-sized, start_long, sets_are, nodes_are}
+use Rattle.move_loading.proofs.Reading.{room_is, start_of, start-sized, start_long, sets_are, nodes_are, blank, blank_long}
 
 module _ (load : Load) (n : ℕ) (sets l : List ℕ) (r : Loadable-sets load n sets (length l)) where
   abbrev X : List ℕ
@@ -189,13 +187,10 @@ module _ (load : Load) (n : ℕ) (sets l : List ℕ) (r : Loadable-sets load n s
             f.none h ∙ ap (λ (u : List ℕ). set u (n * n + 2) 1) graph_is ∙ set-flag 0 1 (replicate n 0) (length-replicate n 0)
             ∙ whole (sym (ap (λ b. ind (not b)) (flag false h))) (is_tab (replicate n 0) n _ (length-replicate n 0) (λ x b. zeros n x ∙ sym (ap ind (acyclic_none edges n x (flag false h) b))))
 
--- what the code's start and graph make
-module _ {load : Load} {n : ℕ} {sets area sources targets heads list : List ℕ} (can : CanLoad load n sets area sources targets heads list) where
-  pub start_is : {l : List ℕ} → l ≡ write n (start_bodies load.A n (entry_sets (bounds load.A load.E) sets) area) area → l ≡ write n (start_of load n sets area can.loadable) area
-  start_is e = e ∙ ap (λ (X : List ℕ). write n (start_bodies load.A n X area) area) (same-sets load sets)
-
+-- what the graph's writing leaves
+module _ {load : Load} {n : ℕ} {sets area : List ℕ} {heads slots : ℕ} (can : CanLoad load n sets area heads slots) where
   pub flags_can : {l heads' s t : List ℕ} {m : ℕ} {l' : List ℕ} → l ≡ write n (start_of load n sets area can.loadable) area → GraphWritten load n l heads' s t m l'
-      → length heads' ≡ length heads → length s ≡ length sources → length t ≡ length targets → CanWriteFlags l' n m s t heads' list
+      → length heads' ≡ length (blank heads) → length s ≡ length (blank slots) → length t ≡ length (blank slots) → CanWriteFlags l' n m s t heads' (blank slots)
   flags_can {l} {heads'} {s} {t} {m} {l'} e g h a b =
       let q = counted load n sets area can.loadable l e g in
       let z = counted_le q in
@@ -205,10 +200,10 @@ module _ {load : Load} {n : ℕ} {sets area sources targets heads list : List �
         room = omega (arith, can.loadable.loadable.sizes.area);
         slots = record {
           slots = omega (arith, can.loadable.loadable.sizes.entries, can.loadable.loadable.sizes.bits);
-          sources = omega (arith, can.sources_long);
-          targets = omega (arith, can.targets_long);
+          sources = omega (arith, can.slots_long, blank_long);
+          targets = omega (arith, can.slots_long, blank_long);
           ends = counted-ends q;
           nodes = can.loadable.loadable.sizes.sets;
         };
-        lists = record { rows = omega (arith, can.lists.rows); room = omega (arith, can.lists.room); short = can.lists.short };
+        lists = record { rows = omega (arith, can.rows, blank_long); room = omega (arith, can.slots_long, blank_long); short = omega (arith, can.slots_short, blank_long) };
       }

@@ -4,7 +4,7 @@ use mathlib.Core.Bool.{true}
 use mathlib.Core.List.{List}
 use Prim.Native.Nat.{ℕ, ◌+◌, ◌*◌, ◌^◌, ◌≤◌, ◌<◌}
 use native.Mathlib.Omega.{arith}
-use lib.ListN.{length, get_or, length-replicate}
+use lib.ListN.{length, get_or, length-replicate, replicate}
 use borrow.Author.Tests.{eqb-true}
 use Rattle.graphs.specs.Tab.{tab, tab-length, tab-at, is_tab, zeros}
 use Rattle.layout.specs.Patch.{part, part_long, part_at}
@@ -19,14 +19,8 @@ use Rattle.move_area.specs.BodyLaws.{write_long, read-registered, read-words, re
 use Rattle.move_area.specs.Area.{sets_in}
 use Rattle.move_area.specs.Checked.{nodes_in, Ranged}
 use Rattle.move_slots.specs.Filled.{CanFillOwn}
-use Rattle.move_slots.specs.Slots.{bounds}
 use Rattle.move_loading.specs.Start.{start_bodies, CanStart}
 use Rattle.move_loading.specs.Steps.{CanLoad}
-
--- the entry sets are those of the atoms and the entry bits alone
-pub same-sets : (load : Load) (sets : List ℕ) → entry_sets (bounds load.A load.E) sets ≡ entry_sets load sets
-unfolding entry_sets
-same-sets load sets = refl
 
 module _ (load : Load) (n : ℕ) (sets l : List ℕ) (r : Loadable-sets load n sets (length l)) where
   pub passes : Loadable load n true (length l)
@@ -88,8 +82,15 @@ module _ (load : Load) (n : ℕ) (sets l : List ℕ) (r : Loadable-sets load n s
           marks = λ x b. omega (arith, cell (lane_at n 9) n _ (read-marks n load.A start_of start-sized l room_is) x b, zeros n x);
         }
 
+-- a list of k noughts
+abbrev pub blank : ℕ → List ℕ
+blank k = replicate k 0
+
+pub blank_long : (k : ℕ) → length (blank k) ≡ k
+blank_long k = length-replicate k 0
+
 -- what the steps ask
-module _ {load : Load} {n : ℕ} {sets area sources targets heads list : List ℕ} (can : CanLoad load n sets area sources targets heads list) where
+module _ {load : Load} {n : ℕ} {sets area : List ℕ} {heads slots : ℕ} (can : CanLoad load n sets area heads slots) where
   pub start_can : CanStart area load.A load.E n sets
   start_can = record {
     room = room_is load n sets area can.loadable;
@@ -103,12 +104,12 @@ module _ {load : Load} {n : ℕ} {sets area sources targets heads list : List �
   pub ranged : {l : List ℕ} → l ≡ write n (start_of load n sets area can.loadable) area → Ranged load n l
   ranged {l} e = start_ranged load n sets area can.loadable l e
 
-  pub graph_can : {l : List ℕ} → l ≡ write n (start_of load n sets area can.loadable) area → CanFillOwn load n l heads sources targets
+  pub graph_can : {l : List ℕ} → l ≡ write n (start_of load n sets area can.loadable) area → CanFillOwn load n l (blank heads) (blank slots) (blank slots)
   graph_can {l} e = record {
     loadable = subst (Loadable load n true) (sym (start_long load n sets area can.loadable l e)) (passes load n sets area can.loadable);
     few = (ranged e).few;
     inside = (ranged e).nodes;
-    counts_long = omega (arith, can.lists.rows);
-    sources_long = can.sources_long;
-    targets_long = can.targets_long;
+    counts_long = omega (arith, can.rows, blank_long);
+    sources_long = omega (arith, can.slots_long, blank_long);
+    targets_long = omega (arith, can.slots_long, blank_long);
   }

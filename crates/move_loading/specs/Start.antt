@@ -5,7 +5,7 @@ use Rattle.layout.specs.Patch.{part}
 use Rattle.layout.specs.Fields.{Field, field}
 use Rattle.entry_set.specs.Joined.{parts}
 use Rattle.entry_set.specs.Sets.{value, width}
-use Rattle.move_ledger.specs.Graph.{at, lent}
+use Rattle.move_ledger.specs.Graph.{at}
 use Rattle.move_area.specs.Bodies.{lane_at, atom_at, Bodies}
 
 -- word j of set i, of sets of w numbers each

@@ -1,5 +1,5 @@
 -- What the steps of a loading ask and show. Assumes nothing.
-use Rattle.std.specs.Prelude.{◌≡◌, Bool, true, false, List, ℕ, ◌+◌, ◌*◌, ◌≤◌, length, set}
+use Rattle.std.specs.Prelude.{◌≡◌, Bool, true, false, List, ℕ, ◌+◌, ◌*◌, ◌^◌, ◌≤◌, ◌<◌, length, set}
 use Rattle.graphs.specs.Count.{ind}
 use Rattle.graphs.specs.Lists.{below}
 use Rattle.graphs.specs.Tab.{tab}
@@ -38,9 +38,10 @@ pub record FlagsWritten (edge : ℕ → ℕ → Bool) (n : ℕ) (l : List ℕ) (
   pub some : r ≡ true → l' ≡ patch (lane_at n 10) (component_lane edge n) l
   pub none : r ≡ false → l' ≡ set l (n * n + 2) 1
 
--- no row from 1 to 8 fits, and the lists are long enough for n nodes and D + E slots
-pub record CanLoad (load : Load) (n : ℕ) (sets area sources targets heads list : List ℕ) : Type 0 where
+-- no row from 1 to 8 fits, and there is room for the heads of n nodes and for D + E slots
+pub record CanLoad (load : Load) (n : ℕ) (sets area : List ℕ) (heads slots : ℕ) : Type 0 where
   pub loadable : Loadable-sets load n sets (length area)
-  pub sources_long : load.D + load.E ≤ length sources
-  pub targets_long : load.D + load.E ≤ length targets
-  pub lists : ListRoom (load.D + load.E) n heads list
+  pub rows : n < heads
+  pub slots_long : load.D + load.E ≤ slots
+  pub heads_short : heads < 2 ^ 31
+  pub slots_short : slots < 2 ^ 31

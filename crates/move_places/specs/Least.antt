@@ -1,9 +1,8 @@
 -- The least of the nodes that pass a test, by their keys, found in one pass. Assumes nothing.
-use Rattle.std.specs.Prelude.{◌≡◌, refl, Bool, true, false, cond, ◌&&◌, ◌||◌, List, ℕ, ◌+◌, ◌*◌, ◌^◌, ◌≤◌, ◌<◌, eqb, ltb, length, get_or}
-use Rattle.std.proofs.Common.{sym, ap, subst, ◌∙◌, true≢false, arith, ltb-true, ltb-false, eqb-true, ne_eqb}
+use Rattle.std.specs.Prelude.{◌≡◌, refl, Bool, true, false, cond, ◌&&◌, ◌||◌, List, ℕ, ◌+◌, ◌^◌, ◌≤◌, ◌<◌, eqb, ltb, length, get_or, Option, IfSome}
+use Rattle.std.proofs.Common.{sym, ap, subst, ◌∙◌, true≢false, arith, ltb-true, ltb-false, eqb-true}
 use Rattle.std.proofs.Math.Decide.{ℕ_discrete}
 use Rattle.std.proofs.lemmas.Bool.{eqb-false}
-use Rattle.graphs.specs.Bools.{or_cases}
 
 -- node x has no atom
 abbrev pub empty : List ℕ → ℕ → ℕ → Bool
@@ -13,16 +12,15 @@ empty area counts x = eqb (get_or area (counts + x) 0) 0
 abbrev pub smaller : (ℕ → ℕ) → (ℕ → Bool) → ℕ → ℕ → ℕ → ℕ
 smaller key free n best x = cond (free x && (eqb best n || ltb (key x) (key best))) x best
 
--- the lanes of n sets and n counts are there
-pub record CanScan (area : List ℕ) (at n counts : ℕ) : Type 0 where
-  pub lanes : at + 8 * n ≤ length area
+-- n counts are there
+pub record CanScan (area : List ℕ) (n counts : ℕ) : Type 0 where
   pub counted : counts + n ≤ length area
   pub numbers : n < 2 ^ 32
 
-pub record CanChoose (area : List ℕ) (at n counts best x : ℕ) : Type 0 where
-  pub scan : CanScan area at n counts
+pub record CanChoose (area : List ℕ) (n counts : ℕ) (best : Option ℕ) (x : ℕ) : Type 0 where
+  pub scan : CanScan area n counts
   pub node : x < n
-  pub within : best ≤ n
+  pub within : IfSome best (λ b. b < n)
 
 -- the least of the nodes below k that pass; n where none does
 pub record Least (key : ℕ → ℕ) (free : ℕ → Bool) (n k best : ℕ) : Type 0 where
@@ -87,6 +85,3 @@ least_more {key} {free} {n} {k} {best} v h is = subst (Least key free n (k + 1))
         here p (λ y c z. omega (arith, ltb-true (key k) (key best) r, v.least b y c z))
     go true p false q false r = stays (λ z. (omega (arith, v.within, eqb-false best n q), ltb-false (key k) (key best) r))
     go false p e q l r = stays (λ z. absurd (true≢false (sym z ∙ p)))
-
-pub least_done : {key : ℕ → ℕ} {free : ℕ → Bool} {n k best : ℕ} → Least key free n k best → k ≡ n → Least key free n n best
-least_done {key} {free} {n} {k} {best} v e = subst (λ j. Least key free n j best) e v

@@ -1,37 +1,37 @@
 // The set that gives up its place: the smallest, as a number, of those without an atom.
 #![tactic(auto)]
 
-ghost use Rattle.std.specs.Prelude.{◌≡◌};
-ghost use Rattle.set_order.specs.Order.{lane_set};
+ghost use Rattle.std.specs.Prelude.{◌≡◌, ◌<◌, IfSome};
+ghost use Rattle.std.specs.Option.{unwrap_or};
+ghost use Rattle.set_order.specs.Order.{set_in};
 ghost use Rattle.move_places.specs.Least.{empty, smaller, CanChoose, CanScan, Least};
 
-// Of node x and the best one up to it, n where there is none yet: x where it has no atom and its set is the smaller.
-fn choose(area: &[u32], at: usize, n: usize, counts: usize, best: usize, x: usize) -> usize
-    requires { CanChoose area.now at n counts best x }
-    ensures { result ≡ smaller (lane_set area.now at n) (empty area.now counts) n best x }
+use set_order::Lanes;
+
+// Of node x and the best one before it: x where it has no atom and its set is the smaller.
+fn choose(lanes: &Lanes, counts: usize, best: Option<usize>, x: usize) -> Option<usize>
+    requires { CanChoose lanes.now.area.now lanes.now.n counts best x }
+    ensures value { unwrap_or result lanes.now.n ≡ smaller (set_in lanes.now) (empty lanes.now.area.now counts) lanes.now.n (unwrap_or best lanes.now.n) x }
+    ensures inside { IfSome result (λ b. b < lanes.now.n) }
 {
-    if area[counts + x] != 0 {
+    if lanes.area[counts + x] != 0 {
         return best;
     }
-    if best == n {
-        return x;
+    match best {
+        Some(other) if !lanes.below(8, x as u32, other as u32) => best,
+        _ => Some(x),
     }
-    if set_order::lanes::below(area, at, n, 8, x as u32, best as u32) {
-        return x;
-    }
-    best
 }
 
-// The node of the smallest empty set of the n nodes, n where none is empty. Their sets stand in eight lanes from `at` on, their atom counts from `counts` on.
-pub fn smallest_empty(area: &[u32], at: usize, n: usize, counts: usize) -> usize
-    requires { CanScan area.now at n counts }
-    ensures { Least (lane_set area.now at n) (empty area.now counts) n n result }
+// The node of the smallest empty set. The nodes' atom counts stand in the lanes' area, from `counts` on.
+pub fn smallest_empty(lanes: &Lanes, counts: usize) -> Option<usize>
+    requires { CanScan lanes.now.area.now lanes.now.n counts }
+    ensures least { Least (set_in lanes.now) (empty lanes.now.area.now counts) lanes.now.n lanes.now.n (unwrap_or result lanes.now.n) }
+    ensures inside { IfSome result (λ b. b < lanes.now.n) }
 {
-    let mut best = n;
-    let mut x = 0;
-    while x < n {
-        best = choose(area, at, n, counts, best, x);
-        x += 1;
+    let mut best = None;
+    for x in 0..lanes.n {
+        best = choose(lanes, counts, best, x);
     }
     best
 }

@@ -66,9 +66,6 @@ module _ {load : Load} {n : ℕ} {area : List ℕ} {registered : ℕ} (h : Check
   unfolding slot_edge
   cell-edge x y bx by = sym (above_none (get_or area (x * n + y) 0)) ∙ ap (ltb 0) (cell-mult x y bx by)
 
-  pub cell-inside : (x y : ℕ) → x < registered → y < registered → x * n + y < length area
-  cell-inside x y bx by = omega (arith, index_lt n x y (omega (arith, few)) (omega (arith, few)), room)
-
   -- no node has the set
   unseen : {X x : ℕ} → First (lane_set area (set_lane n) n) registered X x → registered ≤ x → has X (sets_in n area) ≡ false
   unseen {X} f b =

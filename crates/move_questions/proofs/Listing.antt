@@ -2,11 +2,11 @@
 use Prim.Native.Nat.{ℕ, ◌+◌, ◌≤◌, ◌<◌}
 use native.Mathlib.Omega.{arith}
 use native.Mathlib.Nat.{zero-add}
-use native.Mathlib.Decide.{dec_lt}
 use mathlib.Core.Path.{◌≡◌, refl, sym, ap, ap₂, subst, ◌∙◌}
 use mathlib.Core.Bool.{true, not}
 use mathlib.Core.List.{List}
 use lib.ListN.{length, get_or}
+use Rattle.std.specs.Prelude.{Some, None}
 use borrow.Author.Tests.{ne_eqb}
 use Rattle.graphs.specs.Count.{count_ext}
 use Rattle.graphs.specs.Total.{total-same}
@@ -25,7 +25,7 @@ use Rattle.move_questions.specs.Counts as counts
 use Rattle.move_questions.specs.Steps.{edges_before, cells_before, CanFindRow, RowFound, CanFindCell, CellFound}
 use Rattle.move_questions.specs.Answers.{place_in, set_lane, Listable, CanReadEdge, EdgeRead, of_listed}
 use Rattle.move_questions.specs.declared.Edge as declared
-use Rattle.move_questions.specs.declared.Listed.TheVariants.{Found, None}
+use Rattle.move_questions.specs.declared.Row.{Row}
 use Rattle.move_questions.proofs.Asking.{order_of, placing, long, few, room, set_at, cell-mult, cell-edge}
 
 module _ {load : Load} {n : ℕ} {area : List ℕ} {registered : ℕ} {order degrees : List ℕ} (l : Listable load n area registered order degrees) where
@@ -67,59 +67,56 @@ module _ {load : Load} {n : ℕ} {area : List ℕ} {registered : ℕ} {order deg
   pub can_find-row : CanFindRow order degrees registered
   can_find-row = record { long = l.order_long; node = λ q b. omega (arith, node q b, few l.checked, l.degrees_long) }
 
-  pub can_find-cell : (i rest : ℕ) → i < registered → CanFindCell area n (at order i) order registered rest
-  can_find-cell i rest b = record {
+  pub can_find-cell : (i : ℕ) → i < registered → CanFindCell area n (at order i) order registered
+  can_find-cell i b = record {
     long = l.order_long;
     node = λ q c. omega (arith, node q c, few l.checked);
     row = omega (arith, node i b, few l.checked);
     square = omega (arith, room l.checked);
   }
 
-  module _ {k i rest : ℕ} (f : RowFound order degrees registered k i rest) where
-    pub past : registered ≤ i → of_listed None ≡ kth (edges load (place_in load n area)) k
-    unfolding decode
-    past b =
-        let e : i ≡ registered = omega (arith, f.inside) in
-        sym (edge_past_nodes (order_of l.checked) (placing l.checked) sorted k (omega (arith, f.sum, ap (edges_before order degrees) e, rows registered (omega arith), ap (in_rows load (nodes_in load n area) (sets_in n area) first) first_long)))
+  -- past the last edge
+  pub past : {k : ℕ} → edges_before order degrees registered ≤ k → of_listed None ≡ kth (edges load (place_in load n area)) k
+  unfolding decode
+  past {k} b =
+      sym (edge_past_nodes (order_of l.checked) (placing l.checked) sorted k (omega (arith, b, rows registered (omega arith), ap (in_rows load (nodes_in load n area) (sets_in n area) first) first_long)))
 
-    module _ (b : i < registered) {j : ℕ} (g : CellFound area n (at order i) order registered rest j) where
-      pub cell-there : j < registered
-      cell-there = go (dec_lt j registered)
-        where
-          go : Dec (j < registered) → j < registered
-          go (yes c) = c
-          go (no c) =
-              absurd (omega (arith, g.none (omega (arith, g.inside)), f.fits b, degree i b, row i registered b (omega arith), ap (in_row load (nodes_in load n area) (sets_in n area) first i) first_long))
+  module _ {k : ℕ} {at_row : Row} (f : RowFound order degrees registered k at_row) where
+    abbrev i : ℕ
+    i = at_row.at
 
+    -- the row has more than `rest` edges
+    pub cell-there : cells_before area n (at order i) order registered ≤ at_row.rest → ⊥
+    cell-there none =
+        omega (arith, none, f.fits, degree i f.inside, row i registered f.inside (omega arith), ap (in_row load (nodes_in load n area) (sets_in n area) first i) first_long)
+
+    module _ {j : ℕ} (g : CellFound area n (at order i) order registered at_row.rest j) where
       pub can_read : CanReadEdge area n (at order i) (at order j)
       can_read = record {
-        source = omega (arith, node i b, few l.checked);
-        target = omega (arith, node j cell-there, few l.checked);
+        source = omega (arith, node i f.inside, few l.checked);
+        target = omega (arith, node j g.inside, few l.checked);
         room = room l.checked;
       }
 
-      pub found : {e : declared.Edge} → EdgeRead area n (at order i) (at order j) e → of_listed (Found e) ≡ kth (edges load (place_in load n area)) k
+      pub found : {e : declared.Edge} → EdgeRead area n (at order i) (at order j) e → of_listed (Some e) ≡ kth (edges load (place_in load n area)) k
       unfolding decode
       found {e} r = ap answer.edge same ∙ sym there ∙ ap (kth (edges load (place_in load n area))) place
         where
-          c : j < registered
-          c = cell-there
-
           place : in_rows load (nodes_in load n area) (sets_in n area) first i + in_row load (nodes_in load n area) (sets_in n area) first i j ≡ k
-          place = omega (arith, rows i (omega arith), row i j b (omega arith), f.sum, (g.edge c).1)
+          place = omega (arith, rows i (omega (arith, f.inside)), row i j f.inside (omega (arith, g.inside)), f.sum, g.before)
 
           edge-there : node_edge load (nodes_in load n area) (sets_in n area) (at first i) (at first j) ≡ true
           edge-there =
-              ap₂ (node_edge load (nodes_in load n area) (sets_in n area)) (first-at i b) (first-at j c)
+              ap₂ (node_edge load (nodes_in load n area) (sets_in n area)) (first-at i f.inside) (first-at j g.inside)
               ∙ sym (cell-edge l.checked (at order i) (at order j) can_read.source can_read.target)
-              ∙ ap not (ne_eqb _ 0 (g.edge c).0)
+              ∙ ap not (ne_eqb _ 0 g.edge)
 
           same : ◌≡◌ {A = Edge} (record { from = number e.from; to = number e.to; multiplicity = e.multiplicity })
               (record { from = at (sets_in n area) (at first i); to = at (sets_in n area) (at first j); multiplicity = node_mult load (nodes_in load n area) (sets_in n area) (at first i) (at first j) })
           same =
-              rw (first-at i b, first-at j c, ← set_at l.checked (at order i) (omega (arith, node i b, long l.checked)), ← set_at l.checked (at order j) (omega (arith, node j c, long l.checked)), ← cell-mult l.checked (at order i) (at order j) can_read.source can_read.target, r.from, r.to, r.multiplicity)
+              rw (first-at i f.inside, first-at j g.inside, ← set_at l.checked (at order i) (omega (arith, node i f.inside, long l.checked)), ← set_at l.checked (at order j) (omega (arith, node j g.inside, long l.checked)), ← cell-mult l.checked (at order i) (at order j) can_read.source can_read.target, r.from, r.to, r.multiplicity)
               refl
 
           there : kth (edges load (place_in load n area)) (in_rows load (nodes_in load n area) (sets_in n area) first i + in_row load (nodes_in load n area) (sets_in n area) first i j)
               ≡ answer.edge (record { from = at (sets_in n area) (at first i); to = at (sets_in n area) (at first j); multiplicity = node_mult load (nodes_in load n area) (sets_in n area) (at first i) (at first j) })
-          there = edge-at-nodes (order_of l.checked) (placing l.checked) sorted i j (omega (arith, first_long)) (omega (arith, first_long, c)) edge-there
+          there = edge-at-nodes (order_of l.checked) (placing l.checked) sorted i j (omega (arith, first_long, f.inside)) (omega (arith, first_long, g.inside)) edge-there

@@ -1,5 +1,5 @@
 -- What the check of an area leaves to the questions, and what their answers say. Assumes nothing.
-use Rattle.std.specs.Prelude.{ℕ, ◌+◌, ◌*◌, ◌≤◌, ◌<◌, ◌≡◌, true, List, length, get_or}
+use Rattle.std.specs.Prelude.{ℕ, ◌+◌, ◌*◌, ◌≤◌, ◌<◌, ◌≡◌, true, List, Option, Some, None, length, get_or}
 use Rattle.graphs.specs.Count.{count}
 use Rattle.entry_set.specs.Sets.{number}
 use Rattle.move_ledger.specs.Graph.{Load}
@@ -11,8 +11,6 @@ use Rattle.move_area.specs.Area.{sets_in, decode}
 use Rattle.move_area.specs.Checked.{nodes_in, Ranged, Worked}
 use Rattle.set_order.specs.Order.{lane_set, Ordered}
 use Rattle.move_questions.specs.declared.Edge.{Edge}
-use Rattle.move_questions.specs.declared.Listed.{Listed}
-use Rattle.move_questions.specs.declared.Listed.TheVariants.{Found, None}
 
 -- each atom's set, from the area
 abbrev pub place_in : Load → ℕ → List ℕ → List ℕ
@@ -21,6 +19,19 @@ place_in load n area = (decode load n area).ledger.place
 -- where the lanes of the sets start
 abbrev pub set_lane : ℕ → ℕ
 set_lane n = n * n + 24
+
+-- where the node of atom i stands
+abbrev pub atom_node : ℕ → ℕ → ℕ
+atom_node n i = n * n + 24 + 24 * n + i
+
+-- the set of atom i
+abbrev pub set_of : List ℕ → ℕ → ℕ → ℕ
+set_of area n i = lane_set area (set_lane n) n (get_or area (atom_node n i) 0)
+
+-- what is read for it
+pub record CanReadSet (area : List ℕ) (n i : ℕ) : Type 0 where
+  pub room : atom_node n i < length area
+  pub node : get_or area (atom_node n i) 0 < n
 
 -- the load passes the rows 1 to 6, and the area holds what is worked out from its own placement; `registered` sets are registered
 pub record Checked (load : Load) (n : ℕ) (area : List ℕ) (registered : ℕ) : Type 0 where
@@ -49,6 +60,6 @@ pub record EdgeRead (area : List ℕ) (n x y : ℕ) (e : Edge) : Type 0 where
   pub multiplicity : e.multiplicity ≡ get_or area (x * n + y) 0
 
 -- the answer of `edge_at`
-abbrev pub of_listed : Listed → Answer
-of_listed (Found e) = answer.edge (record { from = number e.from; to = number e.to; multiplicity = e.multiplicity })
+abbrev pub of_listed : Option Edge → Answer
+of_listed (Some e) = answer.edge (record { from = number e.from; to = number e.to; multiplicity = e.multiplicity })
 of_listed None = answer.none

@@ -1,7 +1,8 @@
 -- What the steps of the listing ask and show. Assumes nothing.
-use Rattle.std.specs.Prelude.{ℕ, ◌+◌, ◌-◌, ◌*◌, ◌≤◌, ◌<◌, ◌≡◌, not, cond, List, eqb, length, get_or}
+use Rattle.std.specs.Prelude.{ℕ, ◌+◌, ◌*◌, ◌≤◌, ◌<◌, ◌≡◌, not, List, eqb, length, get_or}
 use Rattle.graphs.specs.Count.{count}
 use Rattle.graphs.specs.Total.{total}
+use Rattle.move_questions.specs.declared.Row.{Row}
 
 -- what stands at x
 abbrev pub at : List ℕ → ℕ → ℕ
@@ -15,31 +16,24 @@ pub record CanFindRow (order degrees : List ℕ) (r : ℕ) : Type 0 where
   pub long : r ≤ length order
   pub node : (q : ℕ) → q < r → at order q < length degrees
 
--- k is the number of edges before row i, and of `rest` in it; past the last row where there is none
-pub record RowFound (order degrees : List ℕ) (r k i rest : ℕ) : Type 0 where
-  pub inside : i ≤ r
-  pub sum : edges_before order degrees i + rest ≡ k
-  pub fits : i < r → rest < at degrees (at order i)
-
--- one less where the number isn't 0
-unfoldable pub passed : ℕ → ℕ → ℕ
-passed cell rest = cond (eqb cell 0) rest (rest - 1)
-
-pub record CanPass (cell rest : ℕ) : Type 0 where
-  pub some : (cell ≡ 0 → ⊥) → 1 ≤ rest
+-- k is the number of edges before the row, and of `rest` in it
+pub record RowFound (order degrees : List ℕ) (r k : ℕ) (row : Row) : Type 0 where
+  pub inside : row.at < r
+  pub sum : edges_before order degrees row.at + row.rest ≡ k
+  pub fits : row.rest < at degrees (at order row.at)
 
 -- how many of the first j nodes of the order node x has an edge to
 abbrev pub cells_before : List ℕ → ℕ → ℕ → List ℕ → ℕ → ℕ
 cells_before area n x order j = count (λ q. not (eqb (at area (x * n + at order q)) 0)) j
 
-pub record CanFindCell (area : List ℕ) (n x : ℕ) (order : List ℕ) (r rest : ℕ) : Type 0 where
+pub record CanFindCell (area : List ℕ) (n x : ℕ) (order : List ℕ) (r : ℕ) : Type 0 where
   pub long : r ≤ length order
   pub node : (q : ℕ) → q < r → at order q < n
   pub row : x < n
   pub square : n * n ≤ length area
 
--- the j-th node of the order is the target of an edge, and `rest` come before; past the last where there are no more than `rest`
+-- the j-th node of the order is the target of an edge, and `rest` come before
 pub record CellFound (area : List ℕ) (n x : ℕ) (order : List ℕ) (r rest j : ℕ) : Type 0 where
-  pub inside : j ≤ r
-  pub edge : j < r → (at area (x * n + at order j) ≡ 0 → ⊥) × (cells_before area n x order j ≡ rest)
-  pub none : j ≡ r → cells_before area n x order r ≤ rest
+  pub inside : j < r
+  pub edge : at area (x * n + at order j) ≡ 0 → ⊥
+  pub before : cells_before area n x order j ≡ rest

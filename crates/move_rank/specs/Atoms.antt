@@ -1,7 +1,7 @@
 -- The sets of an area's atoms, and the first atom at which two areas differ. Assumes nothing.
-use Rattle.std.specs.Prelude.{ℕ, zero, suc, ◌+◌, ◌*◌, ◌≤◌, ◌<◌, ◌≡◌, refl, true, false, List, [], ◌∷◌, eqb, ltb, length}
+use Rattle.std.specs.Prelude.{ℕ, zero, suc, ◌+◌, ◌*◌, ◌≤◌, ◌<◌, ◌≡◌, refl, false, List, [], ◌∷◌, eqb, length}
 use native.Mathlib.Omega.{arith}
-use Rattle.std.proofs.Common.{sym, ap₂, ◌∙◌, below_more, ltb-true, ltb-false, eqb-true}
+use Rattle.std.proofs.Common.{sym, ap₂, ◌∙◌}
 use Rattle.std.proofs.Math.Path.{ap}
 use Rattle.std.proofs.Math.ListN.{get_or}
 use Rattle.std.proofs.lemmas.Bool.{eqb-false}
@@ -12,18 +12,9 @@ use Rattle.move_ledger.specs.NodeLaws.{placed-length, placed_at}
 use Rattle.move_area.specs.Area.{sets_in, decode}
 use Rattle.move_area.specs.Bodies.{lane_at, atom_at}
 use Rattle.move_area.specs.Checked.{nodes_in, sets-at}
-use Rattle.set_order.specs.Order.{lane_set}
-use Rattle.move_questions.specs.Answers.{place_in, set_lane, Checked}
-use Rattle.move_rank.specs.Rank.{before, equal, after, by, one_by_one}
-use Rattle.move_rank.specs.RankLaws.{by-same, by_less, by-more, apart_decides, lists-same}
-
--- where the node of atom i stands
-abbrev pub atom_node : ℕ → ℕ → ℕ
-atom_node n i = n * n + 24 + 24 * n + i
-
--- the set of atom i
-abbrev pub set_of : List ℕ → ℕ → ℕ → ℕ
-set_of area n i = lane_set area (set_lane n) n (get_or area (atom_node n i) 0)
+use Rattle.move_questions.specs.Answers.{place_in, set_lane, atom_node, set_of, Checked}
+use Rattle.move_rank.specs.Rank.{equal, by, one_by_one}
+use Rattle.move_rank.specs.RankLaws.{by-same, apart_decides, lists-same}
 
 -- the sets of a atoms can be read
 pub record CanRead (a n : ℕ) (area : List ℕ) : Type 0 where
@@ -45,10 +36,10 @@ pub record Both (load : Load) (a n : ℕ) (first second : List ℕ) : Type 0 whe
 pub record Alike (f g : ℕ → ℕ) (i : ℕ) : Type 0 where
   pub same : (j : ℕ) → j < i → f j ≡ g j
 
--- i is the first number below a at which f and g differ, a where they don't
+-- i is the first number below a at which f and g differ
 pub record Differ (f g : ℕ → ℕ) (a i : ℕ) : Type 0 where
-  pub most : i ≤ a
-  pub apart : i < a → f i ≡ g i → ⊥
+  pub inside : i < a
+  pub apart : f i ≡ g i → ⊥
   pub alike : Alike f g i
 
 -- two lists that agree are one
@@ -66,45 +57,24 @@ first_decides i (x ∷ p) [] b e h d = absurd (omega arith)
 first_decides zero (x ∷ p) (y ∷ q) b e h d = apart_decides x y (one_by_one p q) d
 first_decides (suc i) (x ∷ p) (y ∷ q) b e h d = rw (h 0 (omega arith), by-same y) (first_decides i p q (omega arith) (omega arith) (λ j l. h (suc j) (omega arith)) d)
 
-module _ {a n i : ℕ} {first second p q : List ℕ} (P : Placed a n first p) (Q : Placed a n second q) (d : Differ (set_of first n) (set_of second n) a i) where
-  same-below : (j : ℕ) → j < i → at p j ≡ at q j
-  same-below j b = P.set j (omega (arith, d.most)) ∙ d.alike.same j b ∙ sym (Q.set j (omega (arith, d.most)))
+module _ {a n m : ℕ} {first second p q : List ℕ} (P : Placed a n first p) (Q : Placed a m second q) where
+  same-below : {i : ℕ} → i ≤ a → Alike (set_of first n) (set_of second m) i → (j : ℕ) → j < i → at p j ≡ at q j
+  same-below l v j b = P.set j (omega arith) ∙ v.same j b ∙ sym (Q.set j (omega arith))
 
   -- no atom's sets differ
-  pub ranked_equal : a ≤ i → equal ≡ one_by_one p q
-  ranked_equal h =
-      sym (ap (one_by_one p) (sym (lists_one p q (P.long ∙ sym Q.long) (λ j b. same-below j (omega (arith, P.long))))) ∙ lists-same p)
+  pub ranked_equal : Alike (set_of first n) (set_of second m) a → equal ≡ one_by_one p q
+  ranked_equal v =
+      sym (ap (one_by_one p) (sym (lists_one p q (P.long ∙ sym Q.long) (λ j b. same-below (omega arith) v j (omega (arith, P.long))))) ∙ lists-same p)
 
-  module _ (h : i < a) where
-    decides : one_by_one p q ≡ by (set_of first n i) (set_of second n i)
-    decides =
-        first_decides i p q (omega (arith, P.long)) (P.long ∙ sym Q.long) same-below (λ e. d.apart h (sym (P.set i h) ∙ e ∙ Q.set i h))
-        ∙ ap₂ by (P.set i h) (Q.set i h)
+  -- the first atom's are ordered as the lists are
+  pub ranked_apart : {i : ℕ} → Differ (set_of first n) (set_of second m) a i → by (set_of first n i) (set_of second m i) ≡ one_by_one p q
+  ranked_apart {i} d =
+      sym (first_decides i p q (omega (arith, P.long, d.inside)) (P.long ∙ sym Q.long) (same-below (omega (arith, d.inside)) d.alike) (λ e. d.apart (sym (P.set i d.inside) ∙ e ∙ Q.set i d.inside))
+      ∙ ap₂ by (P.set i d.inside) (Q.set i d.inside))
 
-    -- the first atom's are below the second's, or above
-    module _ {x y : ℕ} (X : x ≡ set_of first n i) (Y : y ≡ set_of second n i) where
-      pub ranked_before : ltb x y ≡ true → before ≡ one_by_one p q
-      ranked_before l = sym (decides ∙ rw (← X, ← Y) (by_less x y (ltb-true x y l)))
-
-      pub ranked_after : ltb x y ≡ false → after ≡ one_by_one p q
-      ranked_after l = sym (decides ∙ rw (← X, ← Y) (by-more x y (omega (arith, ltb-false x y l, apart))))
-        where
-          apart : x ≡ y → ⊥
-          apart e = d.apart h (sym X ∙ e ∙ Y)
-
--- the loop
-pub alike_none : (f g : ℕ → ℕ) → Alike f g 0
-alike_none f g = record { same = λ j h. absurd (omega arith) }
-
-module _ {f g : ℕ → ℕ} {i x y : ℕ} (v : Alike f g i) (X : x ≡ f i) (Y : y ≡ g i) where
-  pub alike_more : eqb x y ≡ true → Alike f g (i + 1)
-  alike_more e = record { same = below_more (λ j. f j ≡ g j) i v.same (sym X ∙ eqb-true x y e ∙ Y) }
-
-  pub differ_here : {a : ℕ} → i < a → eqb x y ≡ false → Differ f g a i
-  differ_here h e = record { most = omega arith; apart = λ _ u. eqb-false x y e (X ∙ u ∙ sym Y); alike = v }
-
-pub differ_none : {f g : ℕ → ℕ} {a i : ℕ} → Alike f g i → a ≤ i → Differ f g a a
-differ_none v h = record { most = omega arith; apart = λ b _. absurd (omega arith); alike = record { same = λ j b. v.same j (omega arith) } }
+-- the first place where two lists differ
+pub differ_here : {f g : ℕ → ℕ} {a i x y : ℕ} → Alike f g i → x ≡ f i → y ≡ g i → i < a → eqb x y ≡ false → Differ f g a i
+differ_here {x = x} {y = y} v X Y h e = record { inside = h; apart = λ u. eqb-false x y e (X ∙ u ∙ sym Y); alike = v }
 
 -- the atoms of a checked area
 module _ {load : Load} {a n r : ℕ} {area : List ℕ} (e : load.A ≡ a) (c : Checked load n area r) where

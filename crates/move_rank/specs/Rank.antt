@@ -1,4 +1,4 @@
--- Which of two placements of one load ranks first (02, (xiv)). Assumes nothing.
+-- Which of two placements of one load ranks first. Assumes nothing.
 use Rattle.std.specs.Prelude.{ℕ, cond, List, [], ◌∷◌, ltb, length}
 use Rattle.move_ledger.specs.Graph.{Load, rising, edges}
 

@@ -1,8 +1,13 @@
 -- Laws of the ranking: it is a total order, equal exactly for one placement. Assumes nothing.
 use Rattle.std.specs.Prelude.{ℕ, ◌<◌, ◌≡◌, ◌↔◌, Bool, true, false, cond, List, [], ◌∷◌, ltb, length}
 use Rattle.std.proofs.Common.{arith, sym, ap₂, subst, ◌∙◌, ltb-true, ltb-false, lt-ltb, le-ltb}
-use Rattle.std.proofs.Math.Path.{refl}
+use Rattle.std.proofs.Math.Path.{refl, ap}
 use Rattle.move_ledger.specs.Graph.{Load, rising, edges}
+use Rattle.std.specs.Ordering.{MatchOrdering, nat_cmp, ordering_then}
+use Rattle.std.specs.declared.cmp.Ordering.{Ordering}
+use Rattle.std.specs.declared.cmp.Ordering.TheVariants.{Less, Equal, Greater}
+use Rattle.std.proofs.lemmas.Cmp.{ranked}
+use Rattle.move_rank.specs.Ranking.{of_ranked}
 use Rattle.move_rank.specs.Rank.{Rank, before, equal, after, by, then, one_by_one, rank, turned}
 
 -- what `by` says
@@ -31,6 +36,20 @@ by-same x = rw (le-ltb x x (omega arith)) refl
 pub by-more : (x y : ℕ) → y < x → by x y ≡ after
 unfolding by
 by-more x y h = rw (le-ltb x y (omega arith), lt-ltb y x h) refl
+
+-- the order of two numbers, and two orders one after the other
+pub by_ordering : (x y : ℕ) → of_ranked (nat_cmp x y) ≡ by x y
+by_ordering x y = go (nat_cmp x y) (ranked x y (nat_cmp x y) refl)
+  where
+    go : (o : Ordering) → MatchOrdering o (x < y) (x ≡ y) (y < x) → of_ranked o ≡ by x y
+    go Less h = sym (by_less x y h)
+    go Equal e = rw e (sym (by-same y))
+    go Greater h = sym (by-more x y h)
+
+pub then_ordering : (o u : Ordering) → of_ranked (ordering_then o u) ≡ then (of_ranked o) (of_ranked u)
+then_ordering Less u = refl
+then_ordering Equal u = refl
+then_ordering Greater u = refl
 
 by_turned : (x y : ℕ) → by y x ≡ turned (by x y)
 by_turned x y = go (by x y) (by_is x y)
@@ -129,17 +148,29 @@ unfolding rank
 rank_trans load p q r =
     then_trans _ _ _ _ _ _ (then_trans _ _ _ _ _ _ (lists_trans p q r))
 
--- which of the three decides
-module _ (load : Load) (p q : List ℕ) where
-  pub chunks_decide : {x y : ℕ} → x ≡ length (rising p) → y ≡ length (rising q) → (x ≡ y → ⊥) → by x y ≡ rank load p q
+-- the three orders one after the other
+then_then : (a b c : Rank) → then (then a b) c ≡ then a (then b c)
+then_then before b c = refl
+then_then equal b c = refl
+then_then after b c = refl
+
+module _ (load : Load) (p q : List ℕ) {x y u v : ℕ} (X : x ≡ length (rising p)) (Y : y ≡ length (rising q)) (U : u ≡ length (edges load p)) (V : v ≡ length (edges load q))
+    {o : Ordering} (orders : o ≡ ordering_then (nat_cmp x y) (nat_cmp u v)) where
+  ranked_then : then (of_ranked o) (one_by_one p q) ≡ rank load p q
   unfolding rank
-  chunks_decide {x} {y} X Y d = rw (← X, ← Y) (sym (apart_decides x y _ d))
+  ranked_then =
+      ap (λ k. then k (one_by_one p q)) (ap of_ranked orders ∙ then_ordering (nat_cmp x y) (nat_cmp u v) ∙ ap₂ then (by_ordering x y ∙ ap₂ by X Y) (by_ordering u v ∙ ap₂ by U V))
+      ∙ then_then (by (length (rising p)) (length (rising q))) (by (length (edges load p)) (length (edges load q))) (one_by_one p q)
 
-  module _ (e : length (rising p) ≡ length (rising q)) where
-    pub edges-decide : {x y : ℕ} → x ≡ length (edges load p) → y ≡ length (edges load q) → (x ≡ y → ⊥) → by x y ≡ rank load p q
-    unfolding rank
-    edges-decide {x} {y} X Y d = rw (← X, ← Y, e, by-same (length (rising q))) (sym (apart_decides x y (one_by_one p q) d))
+  -- chunks or edges decide
+  pub totals_decide : (o ≡ Equal → ⊥) → of_ranked o ≡ rank load p q
+  totals_decide d = go o d ∙ ranked_then
+    where
+      go : (o : Ordering) → (o ≡ Equal → ⊥) → of_ranked o ≡ then (of_ranked o) (one_by_one p q)
+      go Less d = refl
+      go Equal d = absurd (d refl)
+      go Greater d = refl
 
-    pub sets-decide : length (edges load p) ≡ length (edges load q) → one_by_one p q ≡ rank load p q
-    unfolding rank
-    sets-decide f = rw (e, f, by-same (length (rising q)), by-same (length (edges load q))) refl
+  -- or the sets
+  pub sets-decide : o ≡ Equal → one_by_one p q ≡ rank load p q
+  sets-decide e = sym (ap (λ k. then (of_ranked k) (one_by_one p q)) e) ∙ ranked_then

@@ -1,18 +1,18 @@
--- The call that ranks two areas of one load and one N (02, (xiv)). Assumes nothing.
+-- The call that ranks two areas of one load and one N. Assumes nothing.
 use Rattle.std.specs.Prelude.{ℕ, List}
 use Rattle.move_ledger.specs.Graph.{Load}
 use Rattle.move_ledger.specs.Answer.{Answer, number}
 use Rattle.move_area.specs.Calls.{checked}
 use Rattle.move_questions.specs.Answers.{place_in}
 use Rattle.move_rank.specs.Rank.{Rank, before, equal, after, rank}
-use Rattle.move_rank.specs.declared.Ranked.{Ranked}
-use Rattle.move_rank.specs.declared.Ranked.TheVariants.{Before, Equal, After}
+use Rattle.std.specs.declared.cmp.Ordering.{Ordering}
+use Rattle.std.specs.declared.cmp.Ordering.TheVariants.{Less, Equal, Greater}
 
 -- what the code answers
-abbrev pub of_ranked : Ranked → Rank
-of_ranked Before = before
+abbrev pub of_ranked : Ordering → Rank
+of_ranked Less = before
 of_ranked Equal = equal
-of_ranked After = after
+of_ranked Greater = after
 
 -- "before, equal or after" as an answer, by a number each
 abbrev pub told : Rank → Answer

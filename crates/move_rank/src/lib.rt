@@ -1,112 +1,87 @@
 // Which of two placements of one load ranks first: by chunks, then by edges, then by the atoms' sets.
 #![tactic(auto)]
 
-ghost use Rattle.std.specs.Prelude.{◌≡◌, ℕ, ◌<◌, List, ltb};
-ghost use Rattle.entry_set.specs.Sets.{number};
+ghost use Rattle.std.specs.Prelude.{◌≡◌, ℕ, ◌<◌, List, MatchOption};
+ghost use Rattle.entry_set.specs.Sets.{Holds};
 ghost use Rattle.move_ledger.specs.Graph.{Load};
-ghost use Rattle.move_questions.specs.Answers.{place_in};
-ghost use Rattle.move_rank.specs.Rank.{by, one_by_one};
+ghost use Rattle.move_questions.specs.Answers.{place_in, set_of};
+ghost use Rattle.move_rank.specs.Rank.{one_by_one};
 ghost use Rattle.move_rank.specs.Rank as plans;
 ghost use Rattle.move_rank.specs.Ranking.{of_ranked};
-ghost use Rattle.move_rank.specs.Atoms.{set_of, CanRead, Placed, Both, Differ};
+ghost use Rattle.move_rank.specs.Atoms.{CanRead, Placed, Both, Alike, Differ};
 
 use entry_set::EntrySet;
+use move_questions::{atom_set, chunk_count, edge_count};
+use std::cmp::Ordering;
 
-// The first of two: before the second, equal to it, or after it.
+// Where the sets of a placement's atoms are read: the area with its N, and how many atoms it places.
 #[derive(Clone, Copy)]
-pub enum Ranked {
-    Before,
-    Equal,
-    After,
+struct Placement<'p> {
+    area: &'p [u32],
+    n: usize,
+    atoms: usize,
+    ghost readable: { CanRead atoms n area.now },
 }
 
-// The smaller number first.
-fn smaller_first(x: u64, y: u64) -> Ranked
-    ensures { of_ranked result ≡ by x y }
-{
-    if x < y {
-        return Ranked::Before;
+impl Placement<'_> {
+    // The set of atom i.
+    fn set_of(&self, i: usize) -> EntrySet
+        requires { i < self.now.atoms }
+        ensures { Holds (set_of self.now.area.now self.now.n i) result }
+    {
+        atom_set(self.area, self.n, i)
     }
-    if y < x {
-        return Ranked::After;
-    }
-    Ranked::Equal
 }
 
-// Whether x is below y as a number: the highest of the four numbers that differ decides.
-fn is_below(x: EntrySet, y: EntrySet) -> bool
-    ensures { result ≡ ltb (number x) (number y) }
+// The first atom whose two sets differ.
+fn first_difference(first: &Placement, second: &Placement) -> Option<usize>
+    requires { first.now.atoms ≡ second.now.atoms }
+    ensures { MatchOption result (Alike (set_of first.now.area.now first.now.n) (set_of second.now.area.now second.now.n) first.now.atoms) (Differ (set_of first.now.area.now first.now.n) (set_of second.now.area.now second.now.n) first.now.atoms) }
 {
-    if x.3 != y.3 {
-        return x.3 < y.3;
-    }
-    if x.2 != y.2 {
-        return x.2 < y.2;
-    }
-    if x.1 != y.1 {
-        return x.1 < y.1;
-    }
-    x.0 < y.0
-}
-
-// The set of atom i, one of a.
-fn atom_set(area: &[u32], n: usize, a: usize, i: usize) -> EntrySet
-    requires { CanRead a n area.now × (i < a) }
-    ensures { number result ≡ set_of area.now n i }
-{
-    let lanes = n * n + 24;
-    let node = area[lanes + 24 * n + i];
-    set_order::set_of(area, lanes, n, node)
-}
-
-// The first atom whose two sets differ, a where none does.
-fn first_difference(first: &[u32], second: &[u32], n: usize, a: usize) -> usize
-    requires { CanRead a n first.now × CanRead a n second.now }
-    ensures { Differ (set_of first.now n) (set_of second.now n) a result }
-{
-    let mut i = 0;
-    while i < a {
-        let x = atom_set(first, n, a, i);
-        let y = atom_set(second, n, a, i);
-        if !entry_set::equal(x, y) {
-            return i;
+    for i in 0..first.atoms {
+        if first.set_of(i) != second.set_of(i) {
+            return Some(i);
         }
-        i += 1;
     }
-    a
+    None
 }
 
 // By the atoms' sets as numbers, from atom 0.
-fn rank_sets(first: &[u32], second: &[u32], n: usize, a: usize) -> Ranked
-    requires { CanRead a n first.now × CanRead a n second.now }
-    ensures { (p q : List ℕ) → Placed a n first.now p → Placed a n second.now q → of_ranked result ≡ one_by_one p q }
+fn rank_sets(first: &Placement, second: &Placement) -> Ordering
+    requires { first.now.atoms ≡ second.now.atoms }
+    ensures { (p q : List ℕ) → Placed first.now.atoms first.now.n first.now.area.now p → Placed first.now.atoms second.now.n second.now.area.now q → of_ranked result ≡ one_by_one p q }
 {
-    let i = first_difference(first, second, n, a);
-    if a <= i {
-        return Ranked::Equal;
+    match first_difference(first, second) {
+        Some(i) => {
+            let x = first.set_of(i);
+            let y = second.set_of(i);
+            x.cmp(&y)
+        }
+        None => Ordering::Equal,
     }
-    let x = atom_set(first, n, a, i);
-    let y = atom_set(second, n, a, i);
-    if is_below(x, y) {
-        return Ranked::Before;
-    }
-    Ranked::After
 }
 
 // Fewer chunks first, then fewer edges, then the atoms' sets. Both areas are checked and of one load of a atoms.
-pub fn rank(first: &[u32], second: &[u32], n: usize, a: usize) -> Ranked
+pub fn rank(first: &[u32], second: &[u32], n: usize, a: usize) -> Ordering
     requires { (load : Load) × Both load a n first.now second.now }
     ensures { (load : Load) → Both load a n first.now second.now → of_ranked result ≡ plans.rank load (place_in load n first.now) (place_in load n second.now) }
 {
-    let chunks = move_questions::chunk_count(first, n);
-    let other_chunks = move_questions::chunk_count(second, n);
-    let edges = move_questions::edge_count(first, n);
-    let other_edges = move_questions::edge_count(second, n);
-    if chunks != other_chunks {
-        return smaller_first(chunks, other_chunks);
+    let chunks = chunk_count(first, n).cmp(&chunk_count(second, n));
+    let edges = edge_count(first, n).cmp(&edge_count(second, n));
+    match chunks.then(edges) {
+        Ordering::Equal => {
+            let first = Placement {
+                area: first,
+                n,
+                atoms: a,
+            };
+            let second = Placement {
+                area: second,
+                n,
+                atoms: a,
+            };
+            rank_sets(&first, &second)
+        }
+        decided => decided,
     }
-    if edges != other_edges {
-        return smaller_first(edges, other_edges);
-    }
-    rank_sets(first, second, n, a)
 }

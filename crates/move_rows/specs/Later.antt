@@ -1,6 +1,6 @@
 -- The rows 1 to 6 and 9, which come before a later call's own. Assumes nothing.
 use Rattle.std.specs.Prelude.{ℕ, ◌≡◌, Bool, List, length}
-use Rattle.std.proofs.Common.{arith, ◌∙◌}
+use Rattle.std.proofs.Common.{arith, ◌∙◌, sym, ap}
 use Rattle.std.proofs.Math.Path.{refl}
 use Rattle.std.proofs.Math.Bool.{true, false, cond}
 use Rattle.std.proofs.Math.Dec.{eqb}
@@ -12,6 +12,9 @@ use Rattle.move_ledger.specs.Loading.{refusal, or_else}
 use Rattle.move_area.specs.Area.{consistent}
 use Rattle.move_area.specs.Fixed.{checks_out}
 use Rattle.move_area.specs.Calls.{checked}
+use Rattle.move_load_rows.proofs.Rows.{row_some}
+use Rattle.refusals.specs.Rows.{row}
+use Rattle.refusals.specs.declared.Refusal.{Refusal}
 
 -- the first of the rows 1 to 6 and 9 that fits, 0 where none does
 unfoldable pub later : Load → List ℕ → ℕ → List ℕ → ℕ
@@ -72,3 +75,7 @@ later-none load fixed N area e c = rw (eq-eqb (refusal load fixed N (length area
 pub later_nine : (load : Load) (fixed : List ℕ) (N : ℕ) (area : List ℕ) → refusal load fixed N (length area) ≡ 0 → checks_out load fixed N area ≡ false → 9 ≡ later load fixed N area
 unfolding later
 later_nine load fixed N area e c = rw (eq-eqb (refusal load fixed N (length area)) 0 e, c) refl
+
+-- a call that is refused by one of these rows
+pub turned_by : (load : Load) (fixed : List ℕ) (N : ℕ) (area : List ℕ) (r : Refusal) → row r ≡ later load fixed N area → (x : Answer) → checked load fixed N area x ≡ refused (row r)
+turned_by load fixed N area r e x = turned-back load fixed N area (λ z. row_some r (e ∙ z)) x ∙ ap refused (sym e)

@@ -30,29 +30,29 @@ and_false_right true b h = h
 and_false_right false b h = refl
 
 module _ (load : Load) (fixed : List ℕ) (n : ℕ) (area : List ℕ) (passes : refusal load fixed n (length area) ≡ 0) where
-  pub can_keep : CanKeep load.A n fixed area
+  pub can_keep : CanKeep n fixed area
   can_keep =
       let s = (refusal-none load fixed n (length area) passes).sizes in
-      record { few = s.atoms; marks = refusal-marks load fixed n (length area) passes; room = omega (arith, s.area) }
+      record { room = omega (arith, s.area, refusal-marks load fixed n (length area) passes) }
 
   pub can_check : {degrees order : List ℕ} → NodeLists degrees order → CanCheck load n area degrees order
   can_check l =
       let p = refusal-none load fixed n (length area) passes in
       record { loadable = p; degrees_long = omega (arith, p.sizes.sets, l.degrees_long); order_long = omega (arith, p.sizes.sets, l.order_long) }
 
-kept : (load : Load) (fixed : List ℕ) (n : ℕ) (area : List ℕ) {k b : Bool} → k ≡ flagged (atoms load.A) fixed n area → k ≡ b → flagged load fixed n area ≡ b
-kept load fixed n area e h = sym (e ∙ flagged-atoms load fixed n area) ∙ h
+  kept : {k b : Bool} → k ≡ flagged (atoms (length fixed)) fixed n area → k ≡ b → flagged load fixed n area ≡ b
+  kept e h = sym (e ∙ flagged-atoms load fixed n area (refusal-marks load fixed n (length area) passes)) ∙ h
 
 module _ {load : Load} {fixed : List ℕ} {n : ℕ} {area degrees order : List ℕ} where
   pub row_first : {q : ℕ} → q ≡ refusal load fixed n (length area) → (q ≡ 0 → ⊥) → RowTold load fixed n area degrees order q
   row_first e h = record { row = later_first load fixed n area _ e h; listable = λ z. absurd (h z) }
 
-  module _ {k : Bool} (passes : refusal load fixed n (length area) ≡ 0) (flags : k ≡ flagged (atoms load.A) fixed n area) where
+  module _ {k : Bool} (passes : refusal load fixed n (length area) ≡ 0) (flags : k ≡ flagged (atoms (length fixed)) fixed n area) where
     -- the area's flags aren't those of the marks
     pub row_unkept : k ≡ false → RowTold load fixed n area degrees order 9
     row_unkept e =
         record {
-          row = later_nine load fixed n area passes (and_false_right (consistent load n area) _ (kept load fixed n area flags e));
+          row = later_nine load fixed n area passes (and_false_right (consistent load n area) _ (kept load fixed n area passes flags e));
           listable = λ z. absurd (omega arith);
         }
 
@@ -62,7 +62,7 @@ module _ {load : Load} {fixed : List ℕ} {n : ℕ} {area degrees order : List �
           let y = t.ready e in
           let z = y.loadable.sizes.sets in
           record {
-            row = later-none load fixed n area passes (and_both (consistent load n area) _ (sym t.says ∙ e) (kept load fixed n area flags h));
+            row = later-none load fixed n area passes (and_both (consistent load n area) _ (sym t.says ∙ e) (kept load fixed n area passes flags h));
             listable = λ z.
                 record {
                   checked = record { loadable = y.loadable; ranged = y.ranged; worked = y.worked; sets = refl };

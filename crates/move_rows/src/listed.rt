@@ -1,45 +1,31 @@
 // The rows 1 to 6 and 9 before a question about all edges: where none fits, each node's number of edges and the nodes by rising sets are left.
-ghost use Rattle.move_ledger.specs.Graph.{lent};
+ghost use Rattle.move_load_view.specs.View.{lent_by};
 ghost use Rattle.move_rows.specs.Listed.{NodeLists, RowTold};
+ghost use Rattle.refusals.specs.Rows.{row_of};
 
-// The first of these rows that fits, 0 where none does.
+use move_load_view::Load;
+use refusals::Refusal;
+
+// The first of these rows that fits.
 pub fn listed_row(
-    a: usize,
-    d: usize,
-    e: usize,
+    load: &Load,
     n: usize,
-    starts: &[u32],
-    dependencies: &[u32],
-    hosts: &[u32],
     fixed: &[u32],
     area: &[u32],
     degrees: &mut [u32],
     order: &mut [u32],
-) -> u32
+) -> Result<(), Refusal>
     requires { NodeLists degrees.old order.old }
-    ensures { RowTold (lent a d e starts.now dependencies.now hosts.now) fixed.now n area.now degrees.new order.new result }
+    ensures { RowTold (lent_by load.now) fixed.now n area.now degrees.new order.new (row_of result) }
 {
-    let fit = fixed.len() == a;
-    let q = move_load_rows::refusal(a, d, e, n, starts, dependencies, hosts, fit, area.len());
-    if q != 0 {
-        return q;
+    let fit = fixed.len() == load.atoms;
+    move_load_rows::refusal(load, n, fit, area.len())?;
+    if !move_fixed::keeps(area, n, fixed) {
+        return Err(Refusal::AreaInconsistent);
     }
-    if !move_fixed::keeps(area, a, n, fixed) {
-        return 9;
+    if move_consistency::consistent(load, n, area, degrees, order) {
+        Ok(())
+    } else {
+        Err(Refusal::AreaInconsistent)
     }
-    if move_consistency::consistent(
-        a,
-        d,
-        e,
-        n,
-        starts,
-        dependencies,
-        hosts,
-        area,
-        degrees,
-        order,
-    ) {
-        return 0;
-    }
-    9
 }

@@ -1,29 +1,15 @@
 -- Numbers written one after another, or a run of one number at once. Assumes nothing.
-use mathlib.Core.Path.{◌≡◌, refl, sym, ap, ◌∙◌, subst}
+use mathlib.Core.Path.{◌≡◌, refl, sym, ap, ◌∙◌}
 use mathlib.Core.List.{List}
 use Prim.Native.Nat.{ℕ, ◌+◌, ◌-◌, ◌≤◌, ◌<◌}
 use native.Mathlib.Omega.{arith}
-use native.Mathlib.Decide.{ℕ_discrete, dec_lt}
-use lib.ListN.{length, get_or, set, length-set, replicate, length-replicate, get_or-replicate}
-use lib.Seq.{get_or-set_same, get_or-set_other}
+use native.Mathlib.Decide.{dec_lt}
+use lib.ListN.{length, get_or, replicate, length-replicate, get_or-replicate}
 use Rattle.graphs.specs.Tab.{tab, tab-length, tab-at}
 use Rattle.layout.specs.Patch.{patch, patch_long, patch_in, patch-out, is_patch}
 use Rattle.move_slots.specs.Written.{Written}
 
-pub written_none : (f : ℕ → ℕ) (at : ℕ) (l : List ℕ) → Written f at 0 l l
-written_none f at l = record { is = λ i j h z. absurd (omega arith); far = λ j b h. refl; long = refl }
-
 module _ {f : ℕ → ℕ} {at k : ℕ} {l₀ l : List ℕ} (v : Written f at k l₀ l) where
-  pub written_more : {p w : ℕ} → p ≡ at + k → p < length l → w ≡ f k → Written f at (k + 1) l₀ (set l p w)
-  written_more {p} {w} e b q = record {
-    is = λ i j h z. elim (ℕ_discrete i k) [
-      | yes r ↦ let s : j ≡ p = omega arith in rw s (get_or-set_same l p w 0 b ∙ q ∙ ap f (sym r))
-      | no r ↦ get_or-set_other l p j w 0 (omega arith) ∙ v.is i j (omega arith) z
-    ];
-    far = λ j y h. get_or-set_other l p j w 0 (λ s. let t = h (omega arith) in omega arith) ∙ v.far j y (λ s. let t = h s in omega arith);
-    long = length-set l p w ∙ v.long;
-  }
-
   -- a run of c numbers w
   pub written_run : {p w : ℕ} {l' : List ℕ} (c : ℕ) → p ≡ at + k → p + c ≤ length l → l' ≡ patch p (replicate c w) l → ((i : ℕ) → k ≤ i → i < k + c → f i ≡ w)
       → Written f at (k + c) l₀ l'
@@ -41,28 +27,16 @@ module _ {f : ℕ → ℕ} {at k : ℕ} {l₀ l : List ℕ} (v : Written f at k 
       outside : (j : ℕ) → j < length l₀ → (at ≤ j → at + (k + c) ≤ j) → get_or (patch p (replicate c w) l) j 0 ≡ get_or l₀ j 0
       outside j y h = patch-out p (replicate c w) l j (omega (arith, v.long)) (λ s. let t = h (omega arith) in omega (arith, long)) ∙ v.far j y (λ s. let t = h s in omega arith)
 
-  -- other numbers in the same places
-  pub written_anew : {g : ℕ → ℕ} {l' : List ℕ} → ((i j : ℕ) → i < k → j ≡ at + i → get_or l' j 0 ≡ g i) → ((j : ℕ) → (at ≤ j → at + k ≤ j) → get_or l' j 0 ≡ get_or l j 0) → length l' ≡ length l
-      → Written g at k l₀ l'
-  written_anew a b c = record { is = a; far = λ j y h. b j h ∙ v.far j y h; long = c ∙ v.long }
-
-  pub written_upto : {n : ℕ} → k ≡ n → Written f at n l₀ l
-  written_upto e = subst (λ (n : ℕ). Written f at n l₀ l) e v
-
   -- all are written
-  pub written_patch : {n : ℕ} → k ≡ n → l ≡ patch at (tab f n) l₀
-  written_patch {n} e =
-      let long = tab-length f n in
-      is_patch at (tab f n) l₀ l v.long (λ i a b. v.is i (at + i) (omega arith) refl ∙ sym (tab-at f n i (omega arith))) (λ j b h. v.far j b (λ s. let t = h s in omega arith))
-
--- a run from the first place on
-pub written_fill : {f : ℕ → ℕ} {at n w : ℕ} {l l' : List ℕ} → at + n ≤ length l → l' ≡ patch at (replicate n w) l → ((i : ℕ) → i < n → f i ≡ w) → Written f at n l l'
-written_fill {f} {at} {n} {w} {l} {l'} b q g = written_upto (written_run (written_none f at l) n (omega arith) b q (λ i a h. g i (omega arith))) (omega arith)
+  written_patch : l ≡ patch at (tab f k) l₀
+  written_patch =
+      let long = tab-length f k in
+      is_patch at (tab f k) l₀ l v.long (λ i a b. v.is i (at + i) (omega arith) refl ∙ sym (tab-at f k i (omega arith))) (λ j b h. v.far j b (λ s. let t = h s in omega arith))
 
 -- one part behind another
 pub written_both : {f g h : ℕ → ℕ} {d e : ℕ} {l₀ l l' : List ℕ} → Written f 0 d l₀ l → Written g d e l l' → d + e ≤ length l₀ → ((i : ℕ) → i < d → h i ≡ f i) → ((i : ℕ) → i < e → h (d + i) ≡ g i)
     → l' ≡ patch 0 (tab h (d + e)) l₀
-written_both {f} {g} {h} {d} {e} {l₀} {l} {l'} v w b p q = written_patch all refl
+written_both {f} {g} {h} {d} {e} {l₀} {l} {l'} v w b p q = written_patch all
   where
     inside : (i j : ℕ) → i < d + e → j ≡ 0 + i → Dec (i < d) → get_or l' j 0 ≡ h i
     inside i j y z (yes s) = w.far j (omega (arith, v.long)) (λ t. absurd (omega arith)) ∙ v.is i j s z ∙ sym (p i s)

@@ -1,10 +1,11 @@
 -- How the code's lists give the slots of the ledger, and what the first slots of a longer list say. Assumes nothing.
-use Rattle.std.specs.Prelude.{◌≡◌, List, ◌&&◌, ℕ, ◌+◌, ◌-◌, ◌^◌, ◌≤◌, ◌<◌, eqb, ltb, length, get_or}
+use Rattle.std.specs.Prelude.{◌≡◌, List, ◌++◌, ◌&&◌, ℕ, ◌+◌, ◌-◌, ◌^◌, ◌≤◌, ◌<◌, eqb, ltb, length, get_or, take}
 use Rattle.std.proofs.Math.Path.{refl, ap, fun_ext}
-use Rattle.std.proofs.Common.{sym, ◌∙◌, arith, zero-add, lt-ltb}
+use Rattle.std.proofs.Common.{sym, ◌∙◌, arith, zero-add, lt-ltb, get_or-take, length-take-le}
+use Rattle.std.proofs.Math.ListN.{get_or-append}
 use Rattle.std.proofs.Math.Bool.{cond}
 use Rattle.std.proofs.Math.Decide.{dec_lt}
-use Rattle.graphs.specs.Count.{count_ext}
+use Rattle.graphs.specs.Count.{count, count_ext}
 use Rattle.graphs.specs.Tab.{tab, tab-length, tab-at, is_tab}
 use Rattle.graphs.specs.Slots.{mult, flat, slot_edge, Ends}
 use Rattle.layout.specs.Patch.{patch, patch_in}
@@ -19,13 +20,15 @@ use Rattle.move_slots.specs.Facades.{fronting, fronts_in}
 pub patch-first : (v l : List ℕ) (k : ℕ) → k < length v → k < length l → get_or (patch 0 v l) k 0 ≡ get_or v k 0
 patch-first v l k h z = sym (ap (λ (i : ℕ). get_or (patch 0 v l) i 0) (zero-add k)) ∙ patch_in 0 v l k h (omega arith)
 
--- what `tally` writes are the nodes' atom counts
-pub tally_members : (load : Load) (nodes : List ℕ) (n : ℕ) (counts : List ℕ) {counts' : List ℕ} → n ≤ length counts
-    → counts' ≡ patch 0 (tab (atoms nodes load.A) n) counts → (x : ℕ) → x < n → at counts' x ≡ members load nodes x
+-- what `tally` writes into the front of a list are the nodes' atom counts
+pub tally_members : (load : Load) (nodes : List ℕ) (n : ℕ) (rest : List ℕ) {own counts : List ℕ} → load.A ≤ length nodes → own ≡ take load.A nodes
+    → counts ≡ tab (atoms own (length own)) n ++ rest → (x : ℕ) → x < n → at counts x ≡ members load nodes x
 unfolding members
-tally_members load nodes n counts b q x h =
-    let t = tab-length (atoms nodes load.A) n in
-    rw q (patch-first (tab (atoms nodes load.A) n) counts x (omega arith) (omega arith) ∙ tab-at (atoms nodes load.A) n x h)
+tally_members load nodes n rest {own} {counts} room o q x h =
+    let t = tab-length (atoms own (length own)) n in
+    let e : length own ≡ load.A = ap length o ∙ length-take-le load.A nodes room in
+    ap (λ (l : List ℕ). at l x) q ∙ get_or-append (tab (atoms own (length own)) n) rest 0 x (omega arith) ∙ tab-at (atoms own (length own)) n x h ∙ ap (count (λ i. eqb (at own i) x)) e
+    ∙ count_ext (λ i. eqb (at own i) x) (λ i. eqb (at nodes i) x) load.A (λ i b. rw o (rw (get_or-take load.A nodes i 0 b) refl))
 
 -- `facade` has the front of each entry bit
 pub record Fronts (load : Load) (nodes sets facade : List ℕ) : Type 0 where
@@ -37,19 +40,19 @@ pub record InLanes (load : Load) (nodes sets area : List ℕ) (from stride r : �
   pub set_at : (x : ℕ) → x < length sets → lanes area (from + x) stride ≡ at sets x
   pub count_at : (x : ℕ) → x < length sets → at counts x ≡ members load nodes x
 
--- what `facades` writes are the fronts
-pub facades_fronts : {load : Load} {nodes sets area : List ℕ} {from stride r : ℕ} {counts facade : List ℕ} (out : List ℕ) → InLanes load nodes sets area from stride r counts
-    → load.E ≤ length out → facade ≡ patch 0 (fronts_in area from stride r counts load.E) out → Fronts load nodes sets facade
+-- what `facades` writes into the front of a list are the fronts
+pub facades_fronts : {load : Load} {nodes sets area : List ℕ} {from stride r : ℕ} {counts facade : List ℕ} (rest : List ℕ) → InLanes load nodes sets area from stride r counts
+    → facade ≡ fronts_in area from stride r counts load.E ++ rest → Fronts load nodes sets facade
 unfolding fronts_in front
-facades_fronts {load} {nodes} {sets} {area} {from} {stride} {r} {counts} {facade} out g room q = record { front_at = λ b h. rw q (first b h ∙ found b) }
+facades_fronts {load} {nodes} {sets} {area} {from} {stride} {r} {counts} {facade} rest g q = record { front_at = λ b h. rw q (first b h ∙ found b) }
   where
     f : ℕ → ℕ
     f b = highest (fronting area from stride counts b) r
 
-    first : (b : ℕ) → b < load.E → get_or (patch 0 (tab f load.E) out) b 0 ≡ f b
+    first : (b : ℕ) → b < load.E → get_or (tab f load.E ++ rest) b 0 ≡ f b
     first b h =
         let t = tab-length f load.E in
-        patch-first (tab f load.E) out b (omega arith) (omega arith) ∙ tab-at f load.E b h
+        get_or-append (tab f load.E) rest 0 b (omega arith) ∙ tab-at f load.E b h
 
     found : (b : ℕ) → f b ≡ highest (fronts load nodes sets b) (length sets)
     found b =

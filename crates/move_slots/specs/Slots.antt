@@ -6,10 +6,6 @@ use Rattle.graphs.specs.Tab.{tab}
 use Rattle.move_ledger.specs.Graph.{Load, at, owner, lent}
 use Rattle.move_ledger.specs.Nodes.{face_source, face_target}
 
--- a load of starts alone: an entry's owner asks no more
-abbrev pub spans : ℕ → ℕ → List ℕ → Load
-spans a d starts = lent a d 0 starts [] []
-
 -- a load of atoms and entry bits alone: the ranges and the entry sets ask no more
 abbrev pub bounds : ℕ → ℕ → Load
 bounds a e = lent a 0 e [] [] []

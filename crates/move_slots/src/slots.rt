@@ -2,153 +2,100 @@
 //
 // Slot k below d leads from the node of entry k's atom to the node of the dependency. Slot d + b is the facade edge of entry
 // bit b. A slot whose two ends are equal is no edge.
-ghost use Rattle.std.specs.Prelude.{◌≡◌, ◌+◌, ◌<◌, length, get_or, set};
+ghost use Rattle.std.specs.Prelude.{◌≡◌, length};
 ghost use Rattle.graphs.specs.Tab.{tab};
 ghost use Rattle.layout.specs.Patch.{patch};
 ghost use Rattle.move_ledger.specs.Nodes.{face_source, face_target};
+ghost use Rattle.move_load_view.specs.View.{lent_by};
 ghost use Rattle.move_slots.specs.Written.{Written};
-ghost use Rattle.move_ledger.specs.Graph.{lent};
-ghost use Rattle.move_slots.specs.Slots.{spans, atoms, entry_source, entry_target, facade_source, facade_target, sources_by, targets_by};
-ghost use Rattle.move_slots.specs.Steps.{CanTally, CanSources, CanTargets, CanFacade, CanFacades, CanSlots};
+ghost use Rattle.move_slots.specs.Slots.{atoms, entry_source, entry_target, facade_source, facade_target, sources_by, targets_by};
+ghost use Rattle.move_slots.specs.Steps.{CanTally, CanSources, CanTargets, CanFace, CanFacades, CanSlots};
 
+use move_load_view::Load;
+
+// No node, in the list of hosts that a load lends and in the list of facade nodes.
+// stays: the two lists meet in one test for each slot, and a list of options beside the lent one would be read another way and be twice as long.
 pub const NONE: u32 = 4294967295;
 
-// One more at x.
-fn bump(l: &mut [u32], x: u32)
-    requires { (x < length l.old) × (get_or l.old x 0 < 4294967295) }
-    ensures { l.new ≡ set l.old x (get_or l.old x 0 + 1) }
+// How many atoms each node has; `nodes` has the node of each atom.
+pub fn tally(counts: &mut [u32], nodes: &[u32])
+    requires { CanTally counts.old nodes.now }
+    ensures { counts.new ≡ tab (atoms nodes.now (length nodes.now)) (length counts.old) }
 {
-    let i = x as usize;
-    l[i] = l[i] + 1;
-}
-
-// How many of a atoms each of n nodes has.
-pub fn tally(counts: &mut [u32], n: usize, nodes: &[u32], a: usize)
-    requires { CanTally counts.old n nodes.now a }
-    ensures { counts.new ≡ patch 0 (tab (atoms nodes.now a) n) counts.old }
-{
-    layout::fill_with(counts, 0, n, 0);
-    let mut i = 0;
-    while i < a {
-        bump(counts, nodes[i]);
-        i += 1;
+    counts.fill(0);
+    for &node in nodes {
+        counts[node as usize] += 1;
     }
 }
 
-// The node of each entry's atom: the dependencies of atom i come behind those of the atoms before it.
-fn entry_sources(
-    nodes: &[u32],
-    starts: &[u32],
-    dependencies: &[u32],
-    hosts: &[u32],
-    a: usize,
-    d: usize,
-    sources: &mut [u32],
-)
-    requires { CanSources nodes.now starts.now dependencies.now a d sources.old }
-    ensures { Written (entry_source (spans a d starts.now) nodes.now) 0 d sources.old sources.new }
+// The node of each entry's atom: the dependencies of an atom come behind those of the atoms before it.
+fn entry_sources(load: &Load, nodes: &[u32], sources: &mut [u32])
+    requires { CanSources (lent_by load.now) nodes.now sources.old }
+    ensures { Written (entry_source (lent_by load.now) nodes.now) 0 load.now.entries sources.old sources.new }
 {
     let mut from = 0;
-    let mut i = 0;
-    while i < a {
-        let entries = move_load_view::atom_dependencies(starts, dependencies, hosts, i).len();
-        layout::fill_with(sources, from, entries, nodes[i]);
-        from += entries;
-        i += 1;
+    for atom in 0..load.atoms {
+        let to = from + load.dependencies_of(atom).len();
+        sources[from..to].fill(nodes[atom]);
+        from = to;
     }
-}
-
-// What stands in `list` at v.
-fn at(list: &[u32], v: u32) -> u32
-    requires { v < length list.now }
-    ensures { result ≡ get_or list.now v 0 }
-{
-    let i = v as usize;
-    list[i]
 }
 
 // The node of each dependency.
-fn entry_targets(nodes: &[u32], dependencies: &[u32], d: usize, targets: &mut [u32])
-    requires { CanTargets nodes.now dependencies.now d targets.old }
-    ensures { Written (entry_target dependencies.now nodes.now) 0 d targets.old targets.new }
+fn entry_targets(load: &Load, nodes: &[u32], targets: &mut [u32])
+    requires { CanTargets (lent_by load.now) nodes.now targets.old }
+    ensures { Written (entry_target load.now.dependencies.now nodes.now) 0 load.now.entries targets.old targets.new }
 {
-    let mut k = 0;
-    while k < d {
-        targets[k] = at(nodes, dependencies[k]);
-        k += 1;
+    for k in 0..load.entries {
+        targets[k] = nodes[load.dependencies[k] as usize];
     }
 }
 
-// Slot k is the facade edge from node f to the node of atom h; empty where one of them is None.
-fn facade_slot(nodes: &[u32], sources: &mut [u32], targets: &mut [u32], k: usize, f: u32, h: u32)
-    requires { CanFacade nodes.now sources.old targets.old k h }
-    ensures sources_after { sources.new ≡ set sources.old k (face_source f h) }
-    ensures targets_after { targets.new ≡ set targets.old k (face_target nodes.now f h) }
+// The ends of the facade edge from a facade's node to the node of its host; none where one of the two is None.
+fn facade_ends(nodes: &[u32], facade: u32, host: u32) -> (u32, u32)
+    requires { CanFace nodes.now host }
+    ensures source { result.0 ≡ face_source facade host }
+    ensures target { result.1 ≡ face_target nodes.now facade host }
 {
-    if f != NONE {
-        if h != NONE {
-            sources[k] = f;
-            targets[k] = at(nodes, h);
-            return;
-        }
+    if facade == NONE || host == NONE {
+        return (0, 0);
     }
-    sources[k] = 0;
-    targets[k] = 0;
+    (facade, nodes[host as usize])
 }
 
-// The slots of e facade edges, from d on.
+// The slots of the facade edges, behind those of the entries.
 fn facade_slots(
+    load: &Load,
     nodes: &[u32],
     facade: &[u32],
-    starts: &[u32],
-    dependencies: &[u32],
-    hosts: &[u32],
-    e: usize,
-    d: usize,
     sources: &mut [u32],
     targets: &mut [u32],
 )
-    requires { CanFacades nodes.now facade.now hosts.now e d sources.old targets.old }
-    ensures written { Written (facade_source hosts.now facade.now) d e sources.old sources.new }
-    ensures written_2 { Written (facade_target hosts.now nodes.now facade.now) d e targets.old targets.new }
+    requires { CanFacades (lent_by load.now) nodes.now facade.now sources.old targets.old }
+    ensures sources_after { Written (facade_source load.now.hosts.now facade.now) load.now.entries load.now.bits sources.old sources.new }
+    ensures targets_after { Written (facade_target load.now.hosts.now nodes.now facade.now) load.now.entries load.now.bits targets.old targets.new }
 {
-    let mut b = 0;
-    while b < e {
-        let k = d + b;
-        let host = move_load_view::bit_host(starts, dependencies, hosts, b);
-        facade_slot(nodes, sources, targets, k, facade[b], host);
-        b += 1;
+    for bit in 0..load.bits {
+        let (source, target) = facade_ends(nodes, facade[bit], load.host_of(bit));
+        let slot = load.entries + bit;
+        sources[slot] = source;
+        targets[slot] = target;
     }
 }
 
-// All d + e slots of a placement.
+// All slots of a placement; `facade` has the facade's node of each entry bit.
 pub fn write_slots(
+    load: &Load,
     nodes: &[u32],
-    starts: &[u32],
-    dependencies: &[u32],
     facade: &[u32],
-    hosts: &[u32],
-    a: usize,
-    d: usize,
-    e: usize,
     sources: &mut [u32],
     targets: &mut [u32],
 )
-    requires { CanSlots (lent a d e starts.now dependencies.now hosts.now) nodes.now facade.now sources.old targets.old }
-    ensures sources_after { sources.new ≡ patch 0 (sources_by (lent a d e starts.now dependencies.now hosts.now) nodes.now facade.now) sources.old }
-    ensures targets_after { targets.new ≡ patch 0 (targets_by (lent a d e starts.now dependencies.now hosts.now) nodes.now facade.now) targets.old }
+    requires { CanSlots (lent_by load.now) nodes.now facade.now sources.old targets.old }
+    ensures sources_after { sources.new ≡ patch 0 (sources_by (lent_by load.now) nodes.now facade.now) sources.old }
+    ensures targets_after { targets.new ≡ patch 0 (targets_by (lent_by load.now) nodes.now facade.now) targets.old }
 {
-    entry_sources(nodes, starts, dependencies, hosts, a, d, sources);
-    entry_targets(nodes, dependencies, d, targets);
-    facade_slots(
-        nodes,
-        facade,
-        starts,
-        dependencies,
-        hosts,
-        e,
-        d,
-        sources,
-        targets,
-    );
+    entry_sources(load, nodes, sources);
+    entry_targets(load, nodes, targets);
+    facade_slots(load, nodes, facade, sources, targets);
 }

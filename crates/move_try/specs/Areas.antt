@@ -2,8 +2,6 @@
 use Rattle.std.specs.Prelude.{◌≡◌, Bool, true, false, ℕ, ◌+◌, ◌-◌, ◌*◌, ◌≤◌, ◌<◌, eqb, get_or, replicate}
 use Rattle.std.proofs.Math.Path.{ap, ap₂}
 use Rattle.std.proofs.Common.{◌∙◌, arith}
-use Rattle.entry_set.specs.Joined.{parts}
-use Rattle.entry_set.specs.LaneLaws.{length-set_strided}
 use Rattle.std.proofs.Math.Bool.{cond}
 use borrow.Rule.Slice.PartMut.{mid_of, put_mid}
 use mathlib.Core.List.{List}
@@ -30,10 +28,6 @@ pub record CanRegister (n m to : ℕ) (l : List ℕ) : Type 0 where
   pub few : m ≤ n
   pub small : n ≤ 1024
   pub room : atom_at n ≤ length l
-
--- what the code writes
-pub written_long : (n at X : ℕ) (l : List ℕ) {l' : List ℕ} → l' ≡ set_lanes l at n X → length l' ≡ length l
-written_long n at X l e = ap length e ∙ length-set_strided l at n (parts 32 8 X)
 
 pub registered_written : (n count r X : ℕ) (l : List ℕ) {l' : List ℕ} → l' ≡ set_lanes l (n * n + 24 + r) n X
     → set (set l' (n * n) count) (n * n + 24 + 9 * n + r) 0 ≡ registered n count r X l

@@ -13,7 +13,6 @@ use Rattle.move_ledger.specs.Graph.{Load, at, members, occupied}
 use Rattle.move_ledger.specs.Ledger.{index, smallest_empty, free_place, register, step1}
 use Rattle.move_ledger.specs.Places.{Apart, index-has, put-there, put_same}
 use Rattle.move_ledger.specs.Evict.{Smallest, smallest, some_empty, place-free, register-old, register-new}
-use Rattle.move_ledger.proofs.Evict.{registered}
 use Rattle.move_ledger.specs.Nodes.{placed, node_edge}
 use Rattle.move_ledger.specs.NodeLaws.{members-nodes}
 use Rattle.move_ledger.specs.NodePlaces.{placing_apart}
@@ -28,11 +27,6 @@ use Rattle.move_try.specs.Settle.{flag_tells}
 flag-none : (t : Bool) → eqb (ind t) 0 ≡ not t
 flag-none true = refl
 flag-none false = refl
-
--- the lanes are there to be read
-pub record CanPlace (area : List ℕ) (n : ℕ) : Type 0 where
-  pub small : n ≤ 1024
-  pub room : atom_at n ≤ length area
 
 -- the place of a set that has the node `node`: that one, or the smallest empty one where it is none of n
 pub record Place (area : List ℕ) (n node x : ℕ) : Type 0 where
@@ -50,6 +44,30 @@ module _ {load : Load} {N : ℕ} {s : Nodes} {l₀ l : List ℕ} (v : Stands loa
       ∙ ap₂ ◌&&◌ (flag_tells (cyclic (node_edge load s.nodes s.sets) (below N))) (flag-none (only (node_edge load s.nodes s.sets) (below N) x))
       ∙ ap (λ i. cyclic (node_edge load s.nodes s.sets) (below N) && not (only (node_edge load s.nodes s.sets) (below N) i)) q
       ∙ sym (step1-nodes v.order v.placing a N h v.few)
+
+  abbrev place : List ℕ
+  place = placed s.nodes s.sets
+
+  -- a node's count tells whether its set is empty
+  node_empty : (i : ℕ) → i < length s.sets → empty l (N * N + 24 + 8 * N) i ≡ not (occupied load place (at s.sets i))
+  node_empty i h =
+      ap (λ k. eqb k 0) (count_at v i (omega (arith, v.few)) ∙ members-nodes v.placing i h) ∙ zero-not (members load place (at s.sets i))
+    where
+      zero-not : (k : ℕ) → eqb k 0 ≡ not (ltb 0 k)
+      zero-not k = go (ℕ_discrete k 0)
+        where
+          go : Dec (k ≡ 0) → eqb k 0 ≡ not (ltb 0 k)
+          go (yes e) = rw (eq-eqb k 0 e, le-ltb 0 k (omega arith)) refl
+          go (no d) = rw (ne_eqb k 0 d, lt-ltb 0 k (omega arith)) refl
+
+  apart : Apart s.sets
+  apart = placing_apart v.placing
+
+  -- where every node has a set, some node has no atom
+  pub free-node : load.A < N → length s.sets ≡ N → (x : ℕ) × (x < N) × (empty l (N * N + 24 + 8 * N) x ≡ true)
+  free-node more full =
+      let some = some_empty s.sets apart load place (omega arith) in
+      (some.0, omega (arith, some.1), node_empty some.0 some.1 ∙ ap not some.2)
 
   -- the target's node y among the registered ones
   module _ (T y : ℕ) (f : First (lane_set l (N * N + 24) N) (length s.sets) T y) where
@@ -72,24 +90,6 @@ module _ {load : Load} {N : ℕ} {s : Nodes} {l₀ l : List ℕ} (v : Stands loa
 
     -- its place x
     module _ (more : load.A < N) (x : ℕ) (p : Place l N y x) where
-      abbrev place : List ℕ
-      place = placed s.nodes s.sets
-
-      -- a node's count tells whether its set is empty
-      node_empty : (i : ℕ) → i < length s.sets → empty l (N * N + 24 + 8 * N) i ≡ not (occupied load place (at s.sets i))
-      node_empty i h =
-          ap (λ k. eqb k 0) (count_at v i (omega (arith, v.few)) ∙ members-nodes v.placing i h) ∙ zero-not (members load place (at s.sets i))
-        where
-          zero-not : (k : ℕ) → eqb k 0 ≡ not (ltb 0 k)
-          zero-not k = go (ℕ_discrete k 0)
-            where
-              go : Dec (k ≡ 0) → eqb k 0 ≡ not (ltb 0 k)
-              go (yes e) = rw (eq-eqb k 0 e, le-ltb 0 k (omega arith)) refl
-              go (no d) = rw (ne_eqb k 0 d, lt-ltb 0 k (omega arith)) refl
-
-      apart : Apart s.sets
-      apart = placing_apart v.placing
-
       -- where all are taken, the scan finds the smallest empty set
       evicted : length s.sets ≡ N → Least (lane_set l (N * N + 24) N) (empty l (N * N + 24 + 8 * N)) N N x → x ≡ index (smallest_empty load place s.sets) s.sets
       evicted full scan = go (ℕ_discrete x N)
@@ -135,7 +135,3 @@ module _ {load : Load} {N : ℕ} {s : Nodes} {l₀ l : List ℕ} (v : Stands loa
               let w = (place-free load N place s.sets apart v.few more).within in
               rw (register-new load N place T s.sets (target_unseen e), place_is e)
               (put-there (free_place load N place s.sets) T s.sets w, put_same (free_place load N place s.sets) T s.sets w)
-
-      -- and it is a node
-      pub place-below : x < N
-      place-below = omega (arith, target_node.0, (registered load N place s.sets apart v.few more T).few)

@@ -11,4 +11,5 @@ pub mod Commit
 pub mod Trial
 pub mod Settle
 pub mod Early
+pub mod Target
 pub mod Tried

@@ -6,7 +6,7 @@ use mathlib.Core.List.{List}
 use Rattle.std.proofs.Math.ListN.{length, get_or}
 use Rattle.std.proofs.lemmas.List.{length-replicate, get_or-replicate}
 use Rattle.std.proofs.Math.Seq.{get_or-set_same}
-use Rattle.graphs.specs.Count.{ind, ind_le, count, count-more, count_le, count_ext}
+use Rattle.graphs.specs.Count.{count, count_ext}
 use Rattle.graphs.specs.Lists.{below}
 use Rattle.graphs.specs.Tab.{tab-at}
 use Rattle.graphs.specs.Walk.{via}
@@ -28,10 +28,6 @@ pub record CanReach (area : List ℕ) (n to : ℕ) (heads list : List ℕ) : Typ
   pub room : atom_at n ≤ length area
   pub marks : (get_or area (n * n + 2) 0 ≡ 0 → ⊥) → (x : ℕ) → x < n → eqb (get_or area (lane_at n 9 + x) 0) (counter_in n area) ≡ via (edge heads list n) (below n) to x
 
--- one more number is looked at
-pub counted : (p : ℕ → Bool) (x : ℕ) {k m : ℕ} → k ≡ count p x → m ≡ ind (p x) → (k + m ≡ count p (x + 1)) × (k + m ≤ x + 1)
-counted p x h e = (omega (arith, count-more p x, h, e), omega (arith, count_le p x, ind_le (p x), h, e))
-
 -- marks of its own: 1 on noughts
 pub own_can : {heads list : List ℕ} {n to : ℕ} → Graph heads list n → n ≤ 1024 → to < n → CanMark heads list n 1 to (replicate 1024 0)
 own_can g few h =
@@ -43,19 +39,17 @@ own_can g few h =
       fresh = λ x b. rw (get_or-replicate {A = ℕ} 1024 x 0 0 (omega arith)) (omega arith);
     }
 
-pub own_count : (e : ℕ → ℕ → Bool) (n to : ℕ) {m : List ℕ} → n ≤ 1024 → m ≡ marked e n 1 to (replicate 1024 0) → count (λ x. eqb (get_or m (0 + x) 0) 1) n ≡ count (via e (below n) to) n
+pub own_count : (e : ℕ → ℕ → Bool) (n to : ℕ) {m : List ℕ} → n ≤ 1024 → m ≡ marked e n 1 to (replicate 1024 0) → count (λ x. eqb (get_or m x 0) 1) n ≡ count (via e (below n) to) n
 unfolding marking
-own_count e n to {m} few q = count_ext _ _ n (λ x b. ap (λ (l : List ℕ). eqb (get_or l (0 + x) 0) 1) q ∙ cell x b)
+own_count e n to {m} few q = count_ext _ _ n (λ x b. ap (λ (l : List ℕ). eqb (get_or l x 0) 1) q ∙ cell x b)
   where
     go : (t : Bool) → eqb (cond t 1 0) 1 ≡ t
     go true = refl
     go false = refl
 
-    cell : (x : ℕ) → x < n → eqb (get_or (marked e n 1 to (replicate 1024 0)) (0 + x) 0) 1 ≡ via e (below n) to x
+    cell : (x : ℕ) → x < n → eqb (get_or (marked e n 1 to (replicate 1024 0)) x 0) 1 ≡ via e (below n) to x
     cell x b =
-        let z : 0 + x ≡ x = omega arith in
-        ap (λ i. eqb (get_or (marked e n 1 to (replicate 1024 0)) i 0) 1) z
-        ∙ ap (λ k. eqb k 1)
+        ap (λ k. eqb k 1)
         (tab-at _ (length (replicate {A = ℕ} 1024 0)) x (omega (arith, length-replicate {A = ℕ} 1024 0)) ∙ ap (cond (via e (below n) to x) 1) (get_or-replicate {A = ℕ} 1024 x 0 0 (omega arith)))
         ∙ go (via e (below n) to x)
 

@@ -1,11 +1,11 @@
 -- Step 3 with the target registered: what is asked, and that the area holds the next state. Assumes nothing.
-use Rattle.std.specs.Prelude.{◌≡◌, Bool, not, ◌&&◌, List, ℕ, ◌+◌, ◌*◌, ◌≤◌, ◌<◌, eqb, ltb, length, get_or, set}
+use Rattle.std.specs.Prelude.{◌≡◌, Bool, not, ◌&&◌, List, Option, Some, None, ℕ, ◌+◌, ◌*◌, ◌^◌, ◌≤◌, ◌<◌, eqb, ltb, length, get_or, set}
 use Rattle.std.proofs.Math.Path.{refl, sym}
 use Rattle.std.proofs.Common.{ap, ap₂, subst, ◌∙◌, zero-add}
 use Rattle.std.proofs.Math.Bool.{true, false, cond}
 use native.Mathlib.Omega.{arith}
 use Rattle.graph_neighbours.specs.Lists.{edge}
-use Rattle.graph_slots.specs.Asked.{ListRoom, SlotLists}
+use Rattle.graph_slots.specs.Asked.{SlotLists}
 use Rattle.graphs.specs.Count.{ind, count, count_ext, count_le}
 use Rattle.graphs.specs.Lists.{below}
 use Rattle.graphs.specs.Tab.{tab, tab-at, is_tab, tab_alike}
@@ -31,8 +31,7 @@ use Rattle.move_area.specs.Checked.{nodes_in, nodes_state}
 use Rattle.move_area.specs.NodeBodies.{Nodes}
 use Rattle.move_area.specs.Calls.{next}
 use Rattle.move_slots.specs.Filled.{CanFillOwn, Filled}
-use Rattle.move_try.specs.declared.Tried.{Tried}
-use Rattle.move_try.specs.declared.Tried.TheVariants.{Accepted, Rejected}
+use Rattle.move_try.specs.declared.Moved.{Moved}
 use Rattle.move_try.specs.Stands.{Stands, stands_long, registered-at, counter_at, acyclic_at, occupied-at, distinct_at, edge_at, sets-in, count_at, mark_at, node_at, marks-part, nodes-part}
 use Rattle.move_try.specs.Areas.{counter_in, raised, chunks_after, edges_after, committed}
 use Rattle.move_try.specs.Changes.{with_marks, with_node, with_raised, stands-marks, stands-raised, raised-fresh, stands-committed}
@@ -43,9 +42,9 @@ use Rattle.move_try.specs.Commit.{CanCommit, edges_now}
 use Rattle.move_try.specs.Trial.{CanTrial}
 
 -- the ledger's answer
-abbrev pub answer_of : Tried → Answer
-answer_of (Accepted m) = accepted (record { appeared = m.appeared; vanished = m.vanished; reached = m.reached })
-answer_of Rejected = rejected
+abbrev pub answer_of : Option Moved → Answer
+answer_of (Some m) = accepted (record { appeared = m.appeared; vanished = m.vanished; reached = m.reached })
+answer_of None = rejected
 
 -- the flag tells whether the graph has a cycle
 pub flag_tells : (t : Bool) → eqb (ind (not t)) 0 ≡ t
@@ -103,13 +102,14 @@ pub record CanSettle (load : Load) (n : ℕ) (area : List ℕ) (atom to : ℕ) :
   pub there : atom < load.A
   pub node : to < length (sets_in n area)
 
--- room for a trial: atom counts, and slots of the moved placement and of the present one
-pub record SettleRoom (load : Load) (n : ℕ) (counts sources targets heads list spare : List ℕ) : Type 0 where
-  pub counts_long : n ≤ length counts
-  pub sources_long : load.D + load.E ≤ length sources
-  pub targets_long : load.D + load.E ≤ length targets
-  pub lists : ListRoom (load.D + load.E) n heads list
-  pub spare_long : load.D + load.E ≤ length spare
+-- room for a trial: for the atom counts of n nodes, for their heads, and for slots and their neighbour lists
+pub record SettleRoom (load : Load) (n nodes heads slots : ℕ) : Type 0 where
+  pub counts_long : n ≤ nodes
+  pub rows : n < heads
+  pub slots_long : load.D + load.E ≤ slots
+  pub nodes_short : nodes < 2 ^ 31
+  pub heads_short : heads < 2 ^ 31
+  pub slots_short : slots < 2 ^ 31
 
 -- the graph with the atom in its new node, and the present one
 abbrev pub moved_edge : Load → ℕ → List ℕ → ℕ → ℕ → ℕ → ℕ → Bool
@@ -184,15 +184,15 @@ module _ {load : Load} {n : ℕ} {area : List ℕ} {atom to : ℕ} (can : CanSet
     ends : Ends s t n (load.D + load.E)
     ends = slotted_ends f.slots (ends-nodes can.stands.order moved n can.stands.few some)
 
-    pub settle_test : load.D + load.E ≤ length s → load.D + load.E ≤ length t → CanTest area n to s t (load.D + load.E)
-    settle_test b c =
+    pub settle_test : (m : ℕ) → m ≤ load.D + load.E → m ≤ length s → m ≤ length t → CanTest area n to s t m
+    settle_test m h b c =
         record {
           ask =
               record {
                 slots = omega (arith, can.loadable.sizes.entries, can.loadable.sizes.bits);
                 sources = b;
                 targets = c;
-                ends = ends;
+                ends = record { source = λ k z. ends.source k (omega arith); target = λ k z. ends.target k (omega arith) };
                 nodes = can.stands.small;
               };
           node = within;
@@ -212,7 +212,7 @@ module _ {load : Load} {n : ℕ} {area : List ℕ} {atom to : ℕ} (can : CanSet
 
       -- the nodes that `to` reaches may be counted
       pub settle_reach : {heads list : List ℕ} → SlotLists s t (load.D + load.E) n heads list → CanReach l n to heads list
-      settle_reach g = tested-reach (settle_test g.slots.sources g.slots.targets) g q.1
+      settle_reach g = tested-reach (settle_test _ (omega arith) g.slots.sources g.slots.targets) g q.1
 
       -- the present placement's slots may be filled: the test left nodes and sets as they were
       pub settle_fill : {counts' u v : List ℕ} → n ≤ length counts' → load.D + load.E ≤ length u → load.D + load.E ≤ length v → CanFillOwn load n l counts' u v

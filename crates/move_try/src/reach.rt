@@ -1,33 +1,18 @@
 // How many other chunks the moved atom's chunk reaches, where the moved graph has no cycle.
-ghost use Rattle.std.specs.Prelude.{◌≡◌, ◌+◌, ◌≤◌, ◌<◌, eqb, length, get_or};
-ghost use Rattle.graphs.specs.Count.{ind, count};
+ghost use Rattle.std.specs.Prelude.{◌≡◌, ◌≤◌, ◌<◌, eqb, length, get_or};
+ghost use Rattle.graphs.specs.Count.{count};
 ghost use Rattle.graphs.specs.Lists.{below};
 ghost use Rattle.graphs.specs.Walk.{via};
 ghost use Rattle.graph_neighbours.specs.Lists.{edge, Graph};
 ghost use Rattle.move_try.specs.Reached.{CanReach};
 
-// 1 where the two are the same, else 0.
-fn same(a: u32, b: u32) -> u32
-    ensures { result ≡ ind (eqb a b) }
+// How many of the numbers are the mark.
+fn count_marked(marks: &[u32], mark: u32) -> u32
+    requires { length marks.now ≤ 1024 }
+    ensures { result ≡ count (λ x. eqb (get_or marks.now x 0) mark) (length marks.now) }
 {
-    if a == b {
-        return 1;
-    }
-    0
-}
-
-// How many of the n numbers from `at` on are the mark.
-fn count_marked(l: &[u32], at: usize, n: usize, mark: u32) -> u32
-    requires { (at + n ≤ length l.now) × (n ≤ 1024) }
-    ensures { result ≡ count (λ x. eqb (get_or l.now (at + x) 0) mark) n }
-{
-    let mut marked = 0;
-    let mut x = 0;
-    while x < n {
-        marked += same(l[at + x], mark);
-        x += 1;
-    }
-    marked
+    // a sum of ones, which is vector code; a filter's count is not
+    marks.iter().map(|&x| u32::from(x == mark)).sum()
 }
 
 // How many nodes `to` reaches in one step or more, by a walk with marks of its own.
@@ -37,7 +22,7 @@ fn walk(heads: &[u32], list: &[u32], n: usize, to: usize) -> u32
 {
     let mut marks = [0u32; 1024];
     graph_slots::reach(heads, list, n, 1, to, &mut marks);
-    count_marked(&marks, 0, n, 1)
+    count_marked(&marks[..n], 1)
 }
 
 // The same after step 3's test: where the graph had no cycle before, the test's own walk has marked these nodes with the counter.
@@ -49,5 +34,6 @@ pub fn reached(area: &[u32], n: usize, to: usize, heads: &[u32], list: &[u32]) -
     if area[square + 2] == 0 {
         return walk(heads, list, n, to);
     }
-    count_marked(area, square + 24 + 9 * n, n, area[square + 1])
+    let marks = square + 24 + 9 * n;
+    count_marked(&area[marks..marks + n], area[square + 1])
 }

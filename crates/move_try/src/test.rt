@@ -8,6 +8,7 @@ ghost use Rattle.graph_slots.specs.Asked.{ListRoom, SlotLists};
 ghost use Rattle.move_try.specs.Test.{CanMarkLane, CanTest, walk_area, tested, closes};
 
 use super::writes::raise;
+use graph_neighbours::Slots;
 
 // The nodes that `to` reaches in one step or more have the counter as their mark.
 fn mark(area: &mut [u32], n: usize, counter: u32, to: usize, heads: &[u32], list: &[u32])
@@ -15,11 +16,10 @@ fn mark(area: &mut [u32], n: usize, counter: u32, to: usize, heads: &[u32], list
     ensures { area.new ≡ walk_area (edge heads.now list.now n) n counter to area.old }
 {
     let at = n * n + 24 + 9 * n;
-    let end = at + n;
-    graph_slots::reach(heads, list, n, counter, to, &mut area[at..end]);
+    graph_slots::reach(heads, list, n, counter, to, &mut area[at..at + n]);
 }
 
-// Whether `to` reaches itself in the graph of the m slots, which are grouped by source.
+// Whether `to` reaches itself in the graph of the slots, which are grouped by source.
 fn reaches_itself(
     area: &mut [u32],
     n: usize,
@@ -42,18 +42,16 @@ pub fn closes_cycle(
     area: &mut [u32],
     n: usize,
     to: usize,
-    sources: &[u32],
-    targets: &[u32],
-    m: usize,
+    slots: &Slots,
     heads: &mut [u32],
     list: &mut [u32],
 ) -> bool
-    requires { CanTest area.old n to sources.now targets.now m × ListRoom m n heads.old list.old }
-    ensures value { result ≡ closes (slot_edge sources.now targets.now m) n to area.old }
-    ensures area_after { area.new ≡ tested (slot_edge sources.now targets.now m) n to area.old }
-    ensures slot_lists { SlotLists sources.now targets.now m n heads.new list.new }
+    requires { CanTest area.old n to slots.now.sources.now slots.now.targets.now slots.now.count × ListRoom slots.now.count n heads.old list.old }
+    ensures value { result ≡ closes (slot_edge slots.now.sources.now slots.now.targets.now slots.now.count) n to area.old }
+    ensures area_after { area.new ≡ tested (slot_edge slots.now.sources.now slots.now.targets.now slots.now.count) n to area.old }
+    ensures slot_lists { SlotLists slots.now.sources.now slots.now.targets.now slots.now.count n heads.new list.new }
 {
-    graph_neighbours::group(sources, targets, m, n, heads, list);
+    graph_neighbours::group(slots, n, heads, list);
     if area[n * n + 2] == 0 {
         return graph_slots::has_cycle(heads, list, n);
     }

@@ -1,3 +1,2 @@
 -- What the loops of `moves` keep. Assumes nothing.
-pub mod Lengths
 pub mod Turning

@@ -1,11 +1,12 @@
 -- What the turns of the program's loop do. Assumes nothing.
-use Rattle.std.specs.Prelude.{◌≡◌, ℕ, ◌+◌, ◌-◌, ◌%◌, ◌^◌, ◌<◌, ◌≤◌, Bool, true, false, cond, List, [], ◌++◌, length, take, drop, slice_index, refl}
-use Rattle.std.proofs.Common.{sym, ap, ◌∙◌, arith, length-drop, length-append, length-take-le, take-add, take-take, get_or-take, ext_get_or}
+use Rattle.std.specs.Prelude.{◌≡◌, ℕ, ◌+◌, ◌-◌, ◌%◌, ◌^◌, ◌<◌, ◌≤◌, Bool, true, false, cond, Result, Ok, Err, is_ok, List, [], ◌++◌, length, take, drop, slice_index, refl}
+use Rattle.std.proofs.Common.{sym, ap, ◌∙◌, true≢false, arith, length-drop, length-append, length-take-le, take-add, take-take, get_or-take, ext_get_or}
 use Rattle.std.proofs.Math.Seq.{take-length}
 use Rattle.layout.specs.Patch.{patch, patch_in}
 use Rattle.moves_replies.specs.Room.{Put}
 use Rattle.moves_load_commands.specs.Machine.{halt}
 use Rattle.moves_commands.specs.Program.{State, with_machine, finish}
+use Rattle.moves_commands.specs.declared.Fed.{Fed}
 use Rattle.moves.specs.Bytes.{after, said, after_append}
 
 -- the state, stopped where the program doesn't go on: at the end of the input, or because its replies can't be written
@@ -34,28 +35,37 @@ pub record Took (st : State (List ℕ)) (input : List ℕ) (st' : State (List �
   pub inside : used ≤ length input
   pub state : st' ≡ stopping going (after st (take used input))
 
+-- what a turn used, and how many bytes of replies it wrote; Ok where they could be written, so that the program goes on
+abbrev pub fed_of : Result Fed Fed → Fed
+fed_of (Ok f) = f
+fed_of (Err f) = f
+
 -- a turn: at least one byte is taken, and the first `written` bytes of what is lent for replies are the replies to those taken
-pub record Answered (st : State (List ℕ)) (input : List ℕ) (st' : State (List ℕ)) (used : ℕ) (going : Bool) (out : List ℕ) (written : ℕ) : Type 0 where
-  pub took : Took st input st' used going
-  pub some : 0 < used
-  pub text : take written out ≡ said st (take used input)
+pub record Answered (st : State (List ℕ)) (input : List ℕ) (st' : State (List ℕ)) (turn : Result Fed Fed) (out : List ℕ) : Type 0 where
+  pub took : Took st input st' (fed_of turn).used (is_ok turn)
+  pub some : 0 < (fed_of turn).used
+  pub text : take (fed_of turn).written out ≡ said st (take (fed_of turn).used input)
+
+-- how many bytes of a block are taken: all of them, or so many as before the replies couldn't be written
+abbrev pub used_of : List ℕ → Result (Unit {0}) ℕ → ℕ
+used_of input (Ok u) = length input
+used_of input (Err used) = used
 
 -- a block: all of its bytes are taken, unless replies can't be written
-pub record TookAll (st : State (List ℕ)) (input : List ℕ) (st' : State (List ℕ)) (used : ℕ) (going : Bool) : Type 0 where
-  pub took : Took st input st' used going
-  pub some : 0 < length input → 0 < used
-  pub all : going ≡ true → used ≡ length input
+pub record TookAll (st : State (List ℕ)) (input : List ℕ) (st' : State (List ℕ)) (taken : Result (Unit {0}) ℕ) : Type 0 where
+  pub took : Took st input st' (used_of input taken) (is_ok taken)
+  pub some : 0 < length input → 0 < used_of input taken
 
 -- a read: its bytes are taken as a block; where there are none the program ends, with the last reply
-pub record TookRead (st : State (List ℕ)) (input : List ℕ) (st' : State (List ℕ)) (used : ℕ) (going : Bool) (out : List ℕ) : Type 0 where
-  pub block : TookAll st input st' used going
-  pub last : length input ≡ 0 → (going ≡ false) × StartsWith (finish st.reading.machine) out
+pub record TookRead (st : State (List ℕ)) (input : List ℕ) (st' : State (List ℕ)) (taken : Result (Unit {0}) ℕ) (out : List ℕ) : Type 0 where
+  pub block : TookAll st input st' taken
+  pub last : length input ≡ 0 → (is_ok taken ≡ false) × StartsWith (finish st.reading.machine) out
 
 -- so many reads, one after the other, and how many bytes they gave, modulo 2^64; which bytes is for the system's `read` to say
 pub data Ran (st : State (List ℕ)) : ℕ → ℕ → State (List ℕ) → Bool → Type 0 where
   begun : Ran st 0 0 st true
-  further : {reads bytes used : ℕ} {st' st'' : State (List ℕ)} {input out : List ℕ} {going : Bool} → Ran st reads bytes st' true → TookRead st' input st'' used going out
-      → Ran st (reads + 1) ((bytes + length input) % 2 ^ 64) st'' going
+  further : {reads bytes : ℕ} {st' st'' : State (List ℕ)} {input out : List ℕ} {taken : Result (Unit {0}) ℕ} → Ran st reads bytes st' true → TookRead st' input st'' taken out
+      → Ran st (reads + 1) ((bytes + length input) % 2 ^ 64) st'' (is_ok taken)
 
 -- the program's end: it reads until its machine has stopped, 2^63 times at most
 pub record RanOut (st st' : State (List ℕ)) (bytes : ℕ) : Type 0 where
@@ -82,10 +92,9 @@ took_on {st} {st'} {st''} {input} {at} {used} {going} h e t =
     }
 
 -- a read that the program goes on from was taken whole
-goes-whole : {st st' : State (List ℕ)} {input out : List ℕ} {used : ℕ} → TookRead st input st' used true out → st' ≡ after st input
-goes-whole {st} {st'} {input} {out} {used} t =
-    let b = t.block in
-    b.took.state ∙ ap (λ (u : List ℕ). after st u) (ap (λ (k : ℕ). take k input) (b.all refl) ∙ take-length input)
+goes-whole : (taken : Result (Unit {0}) ℕ) {st st' : State (List ℕ)} {input out : List ℕ} → is_ok taken ≡ true → TookRead st input st' taken out → st' ≡ after st input
+goes-whole (Ok u) {st} {st'} {input} e t = t.block.took.state ∙ ap (λ (u : List ℕ). after st u) (take-length input)
+goes-whole (Err used) e t = absurd (true≢false (sym e))
 
 -- while the program goes on, its state is the one after as many bytes as the reads gave
 pub record AllTaken (st st' : State (List ℕ)) (bytes : ℕ) : Type 0 where
@@ -96,10 +105,10 @@ pub record AllTaken (st st' : State (List ℕ)) (bytes : ℕ) : Type 0 where
 pub ran_all : {st st' : State (List ℕ)} {reads bytes : ℕ} {going : Bool} → Ran st reads bytes st' going → going ≡ true → AllTaken st st' bytes
 unfolding after
 ran_all begun e = record { taken = []; state = refl; many = refl }
-ran_all {st} (further {input = input} w t) e =
+ran_all {st} (further {input = input} {taken = taken} w t) e =
     let a = ran_all w refl in
     record {
       taken = a.taken ++ input;
-      state = goes-whole (rw e at t) ∙ ap (λ (s : State (List ℕ)). after s input) a.state ∙ sym (after_append a.taken input st);
+      state = goes-whole taken e t ∙ ap (λ (s : State (List ℕ)). after s input) a.state ∙ sym (after_append a.taken input st);
       many = rw length-append (omega (arith, a.many));
     }

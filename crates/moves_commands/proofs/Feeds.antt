@@ -1,42 +1,26 @@
 -- What the loop over a block of the input keeps. Assumes nothing.
-use mathlib.Core.Path.{◌≡◌, refl, sym, ap, subst, ◌∙◌}
-use mathlib.Core.Bool.{true, false, ◌&&◌}
-use mathlib.Core.List.{List, [], ◌∷◌, ◌++◌, append_assoc, append-nil}
-use Prim.Native.Nat.{ℕ, ◌+◌, ◌-◌, ◌≤◌, ◌<◌}
-use native.Mathlib.Omega.{arith}
-use native.Mathlib.Numerals.{add-one}
-use native.Mathlib.Nat.{zero-add, add-zero, sub-zero}
-use native.Mathlib.Decide.{dec_lt}
-use lib.Dec.{ltb, leb}
-use lib.ListN.{length, get_or, drop, drop_of_length-le}
-use lib.Seq.{drop-cons}
-use borrow.Author.Tests.{leb-false, lt-ltb}
-use Rattle.moves_replies.specs.Room.{Put, put_then, put-none, put_as}
+use Rattle.std.proofs.Common.{◌≡◌, refl, sym, ap, subst, ◌∙◌, List, [], ◌∷◌, ◌++◌, true, append_assoc, append-nil, ℕ, ◌+◌, ◌-◌, ◌≤◌, ◌<◌, false, length, get_or, drop, arith, le-leb, add-one, zero-add, add-zero}
+use Rattle.std.proofs.Math.Seq.{drop-cons, drop-length}
+use Rattle.moves_replies.specs.Room.{put-none, put_as}
+use Rattle.moves_replies.specs.declared.Replies.{Replies}
+use Rattle.moves_replies.specs.Wrote.{Wrote, HasRoom, wrote_then}
 use Rattle.moves_commands.specs.Program.{State, areas, step}
-use Rattle.moves_commands.specs.Fits.{Ready, step_fits, fits}
+use Rattle.moves_commands.specs.Fits.{Ready, step_fits, fits, Roomy, within}
 use Rattle.moves_commands.specs.Feed.{reserve, Fed, ahead, stay, feeding, feed, feeding-full, feeding-end, feeding-more}
-use Rattle.moves_commands.specs.Steps.{Stepped, FedAs}
+use Rattle.moves_commands.specs.Steps.{Stepped, FedAs, held}
+use Rattle.moves_commands.specs.declared.Interpreter.{Interpreter}
+use Rattle.moves_commands.proofs.Lines.{wrote_none}
+use Rattle.moves_commands.specs.declared.Fed as code
 
--- each list is as long as it was
-pub record Long (s st : State (List ℕ)) : Type 0 where
-  pub sets : length st.reading.sets ≡ length s.reading.sets
-  pub sources : length st.reading.sources ≡ length s.reading.sources
-  pub dependencies : length st.reading.dependencies ≡ length s.reading.dependencies
-  pub hosts : length st.reading.hosts ≡ length s.reading.hosts
-  pub starts : length st.starts ≡ length s.starts
-  pub area : length st.graph ≡ length s.graph
+abbrev pub room_of : Replies → ℕ
+room_of r = length r.out.now - r.at
 
 -- what is still to come after the first i bytes is all that is left
-pub record Feeding (s : State (List ℕ)) (input out₀ : List ℕ) (st : State (List ℕ)) (i at : ℕ) (out : List ℕ) : Type 0 where
-  pub within : i ≤ length input
+pub record Feeding (s : State (List ℕ)) (input : List ℕ) (r₀ : Replies) (st : State (List ℕ)) (i : ℕ) (r : Replies) : Type 0 where
   pub text : List ℕ
-  pub put : Put text out₀ 0 out at
-  pub whole : feeding areas s input (length out₀) ≡ ahead i text (feeding areas st (drop i input) (length out₀ - at))
+  pub wrote : Wrote text r₀ r
+  pub whole : feeding areas s input (room_of r₀) ≡ ahead i text (feeding areas st (drop i input) (room_of r))
   pub ready : Ready st
-  pub long : Long s st
-
-pub same_long : (s : State (List ℕ)) → Long s s
-same_long s = record { sets = refl; sources = refl; dependencies = refl; hosts = refl; starts = refl; area = refl }
 
 ahead_none : (f : Fed (List ℕ)) → f ≡ ahead 0 [] f
 ahead_none f = rw (zero-add f.used) refl
@@ -49,50 +33,67 @@ ahead_more i text more f =
 ahead-stay : (i : ℕ) (text : List ℕ) (st : State (List ℕ)) → ahead i text (stay st) ≡ record { used = i; after = st; written = text }
 ahead-stay i text st = rw (add-zero i, append-nil text) refl
 
-pub feeding-none : {s : State (List ℕ)} {input out : List ℕ} → Ready s → Feeding s input out s 0 0 out
-feeding-none {s} {input} {out} r =
-    record { within = omega arith; text = []; put = put-none out 0 (omega arith); whole = ahead_none _ ∙ ap (λ n. ahead 0 [] (feeding areas s input n)) (sym (sub-zero (length out))); ready = r; long = same_long s }
+pub feeding-none : {s : State (List ℕ)} {input : List ℕ} {r : Replies} → Ready s → HasRoom 0 r → Feeding s input r s 0 r
+feeding-none {s} {input} {r} f h = record { text = []; wrote = wrote_none r h; whole = ahead_none _; ready = f }
 
-module _ {s : State (List ℕ)} {input out₀ : List ℕ} {st : State (List ℕ)} {i at : ℕ} {out : List ℕ} (v : Feeding s input out₀ st i at out) where
-  pub feeding_on : {st' : State (List ℕ)} {at' : ℕ} {out' : List ℕ} → i < length input → reserve ≤ length out - at
-      → Stepped (step areas st (get_or input i 0)) st' out at out' at' → Long s st' → Feeding s input out₀ st' (i + 1) at' out'
-  feeding_on {st'} {at'} {out'} b g w k =
+module _ {s : State (List ℕ)} {input : List ℕ} {r₀ : Replies} {st : State (List ℕ)} {i : ℕ} {r : Replies} (v : Feeding s input r₀ st i r) where
+  -- there is a place behind what is written
+  pub feeding-room : HasRoom 0 r
+  feeding-room = omega (arith, v.wrote.put.inside, v.wrote.put.long)
+
+  pub feeding_on : {k : Interpreter} {r' : Replies} → i < length input → reserve ≤ room_of r → Stepped (step areas st (get_or input i 0)) k r r' → Feeding s input r₀ (held k) (i + 1) r'
+  feeding_on {k} {r'} b g w =
       let t = step areas st (get_or input i 0) in
       let d : drop i input ≡ get_or input i 0 ∷ drop (i + 1) input = rw add-one (drop-cons input i 0 b) in
-      let e : length out₀ - at - length t.reply ≡ length out₀ - at' = omega (arith, w.put.end) in
+      let e : room_of r - length t.reply ≡ room_of r' = omega (arith, w.wrote.put.end, w.wrote.put.long) in
       record {
-        within = omega arith;
         text = v.text ++ t.reply;
-        put = put_then v.put w.put;
+        wrote = wrote_then v.wrote w.wrote;
         whole =
             v.whole
-            ∙ ap (λ l. ahead i v.text (feeding areas st l (length out₀ - at))) d
-            ∙ ap (ahead i v.text) (feeding-more areas st (get_or input i 0) (drop (i + 1) input) (length out₀ - at) (omega (arith, v.put.long)))
+            ∙ ap (λ l. ahead i v.text (feeding areas st l (room_of r))) d
+            ∙ ap (ahead i v.text) (feeding-more areas st (get_or input i 0) (drop (i + 1) input) (room_of r) g)
             ∙ ahead_more i v.text t.reply _
             ∙ ap (λ n. ahead (i + 1) (v.text ++ t.reply) (feeding areas t.after (drop (i + 1) input) n)) e
-            ∙ ap (λ u. ahead (i + 1) (v.text ++ t.reply) (feeding areas u (drop (i + 1) input) (length out₀ - at'))) (sym w.after);
+            ∙ ap (λ u. ahead (i + 1) (v.text ++ t.reply) (feeding areas u (drop (i + 1) input) (room_of r'))) (sym w.after);
         ready = subst Ready (sym w.after) (step_fits areas st (get_or input i 0) v.ready);
-        long = k;
       }
 
-  stays : (ltb i (length input) && leb reserve (length out - at)) ≡ false → feeding areas st (drop i input) (length out₀ - at) ≡ stay st
-  stays h = go (dec_lt i (length input))
-    where
-      go : Dec (i < length input) → feeding areas st (drop i input) (length out₀ - at) ≡ stay st
-      go (yes b) = feeding-full areas st (drop i input) (length out₀ - at) (omega (arith, leb-false reserve (length out - at) (rw (lt-ltb i (length input) b) at h), v.put.long))
-      go (no b) = let past : length input ≤ i = omega arith in ap (λ l. feeding areas st l (length out₀ - at)) (drop_of_length-le input past) ∙ feeding-end areas st (length out₀ - at)
+  module _ {k : Interpreter} {out : List ℕ} (h : held k ≡ st) (first : r₀.at ≡ 0) (e : r₀.out.now ≡ out) where
+    done : feeding areas st (drop i input) (room_of r) ≡ stay st → FedAs (feeding areas s input (length out)) k out r.out.now (record { used = i; written = r.at })
+    done q =
+        let z : room_of r₀ ≡ length out = omega (arith, ap length e) in
+        let f : record { used = i; after = st; written = v.text } ≡ feeding areas s input (length out) =
+        sym (ap (feeding areas s input) (sym z) ∙ v.whole ∙ ap (ahead i v.text) q ∙ ahead-stay i v.text st) in
+        record {
+          count = ap (λ (f : Fed (List ℕ)). f.used) f;
+          after = h ∙ ap (λ (f : Fed (List ℕ)). f.after) f;
+          put = put_as (ap (λ (f : Fed (List ℕ)). f.written) f) (rw (first, e) at v.wrote.put);
+        }
 
-  pub feeding-done : (ltb i (length input) && leb reserve (length out - at)) ≡ false → FedAs (feeding areas s input (length out₀)) st i out₀ out at
-  feeding-done h =
-      let e : record { used = i; after = st; written = v.text } ≡ feeding areas s input (length out₀) = sym (v.whole ∙ ap (ahead i v.text) (stays h) ∙ ahead-stay i v.text st) in
-      record { count = ap (λ (f : Fed (List ℕ)). f.used) e; after = ap (λ (f : Fed (List ℕ)). f.after) e; put = put_as (ap (λ (f : Fed (List ℕ)). f.written) e) v.put }
+    -- without room, and at the block's end
+    pub feeding-short : room_of r < reserve → FedAs (feeding areas s input (length out)) k out r.out.now (record { used = i; written = r.at })
+    feeding-short q = done (feeding-full areas st (drop i input) (room_of r) q)
 
--- a block, and none where the lists are too short
-pub fed_all : (s : State (List ℕ)) (input : List ℕ) {st : State (List ℕ)} {out out' : List ℕ} {used at : ℕ} → fits s.reading s.starts ≡ true
-    → FedAs (feeding areas s input (length out)) st used out out' at → FedAs (feed areas s input (length out)) st used out out' at
+    pub feeding-over : i ≡ length input → FedAs (feeding areas s input (length out)) k out r.out.now (record { used = length input; written = r.at })
+    feeding-over q =
+        subst
+        (λ (j : ℕ). FedAs (feeding areas s input (length out)) k out r.out.now (record { used = j; written = r.at }))
+        q
+        (done (ap (λ l. feeding areas st l (room_of r)) (ap (λ (j : ℕ). drop j input) q ∙ drop-length input) ∙ feeding-end areas st (room_of r)))
+
+-- a block, and none where more is named than there is room for
+pub fed_all : (k : Interpreter) (input : List ℕ) {k' : Interpreter} {out out' : List ℕ} {fed : code.Fed} → fits k.reading k.starts ≡ true
+    → FedAs (feeding areas (held k) input (length out)) k' out out' fed → FedAs (feed areas (held k) input (length out)) k' out out' fed
 unfolding feed
-fed_all s input e v = rw e v
+fed_all k input e v = rw e v
 
-pub fed_none : (s : State (List ℕ)) (input : List ℕ) {out : List ℕ} → fits s.reading s.starts ≡ false → FedAs (feed areas s input (length out)) s 0 out out 0
+pub fed_none : (k : Interpreter) (input out : List ℕ) → fits k.reading k.starts ≡ false → FedAs (feed areas (held k) input (length out)) k out out (record { used = 0; written = 0 })
 unfolding feed
-fed_none s input {out} e = rw e (record { count = refl; after = refl; put = put-none out 0 (omega arith) })
+fed_none k input out e = rw e (record { count = refl; after = refl; put = put-none out 0 (omega arith) })
+
+-- the lists have room, by their types
+module _ (k : Interpreter) (l : Roomy k.reading.sets k.reading.sources k.reading.dependencies k.reading.hosts) (h : 49 ≤ length k.starts) where
+  pub fits_within : fits k.reading k.starts ≡ within k.reading.machine
+  fits_within =
+      rw (le-leb 48 _ l.for_sets, le-leb 128 _ l.for_sources, le-leb 128 _ l.for_dependencies, le-leb 16 _ l.for_hosts, le-leb 49 _ h) refl

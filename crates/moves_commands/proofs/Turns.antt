@@ -1,148 +1,70 @@
--- What the commands after the load do to the state. Assumes nothing.
-use mathlib.Core.Path.{◌≡◌, refl, sym, ap, subst, ◌∙◌}
-use mathlib.Core.Bool.{Bool, true, false, not, cond, ◌||◌}
-use mathlib.Core.List.{List, [], ◌∷◌}
-use Prim.Native.Nat.{ℕ, ◌+◌, ◌≤◌, ◌<◌}
-use lib.Dec.{eqb}
-use lib.ListN.{length, take}
-use native.Mathlib.Omega.{arith}
-use borrow.Author.Tests.{le-leb, lt-leb, eq-eqb, ne_eqb}
-use Rattle.graphs.specs.Tab.{tab}
+-- What the commands after the load do to the state, and what is said at the end. Assumes nothing.
+use Rattle.std.proofs.Common.{◌≡◌, refl, sym, ap, ◌∙◌, Bool, true, false, cond, not, ◌&&◌, Result, Ok, Err, ℕ, ◌+◌, ◌-◌, ◌<◌, ◌≤◌, List, [], ◌++◌, leb, length, take, length-take-le, arith}
+use Rattle.std.specs.Prelude.{is_some}
+use borrow.Rule.Slice.PartMut.{post_of}
+use Rattle.std.specs.Result.{is_err}
+use Rattle.std.proofs.lemmas.Bool.{lt-leb}
+use Rattle.graphs.specs.Tab.{tab, tab-length, tab_alike}
 use Rattle.layout.specs.Patch.{patch}
-use Rattle.move_ledger.specs.Answer.{Answer, refused, is_refused}
-use Rattle.move_ledger.specs.Ledger.{atom_set, has_cycle}
-use Rattle.moves_replies.specs.Words.{reply, load_reply}
-use Rattle.moves_replies.specs.Room.{Put, put_as, put-none}
+use Rattle.layout.specs.Lent.{put-patch}
+use Rattle.refusals.specs.declared.Refusal.{Refusal}
+use Rattle.move_ledger.specs.Graph as graph
+use Rattle.move_ledger.specs.Answer.{Answer, is_refused}
+use Rattle.move_area.specs.Calls as calls
+use Rattle.reduced_chunk_graph.specs.Answers.{of_load}
+use Rattle.reduced_chunk_graph.specs.declared.Verdict.{Verdict}
+use Rattle.reduced_chunk_graph.specs.declared.Verdict.TheVariants.{Acyclic, Cyclic}
 use Rattle.moves_load_commands.specs.declared.Machine.{Machine}
-use Rattle.moves_load_commands.specs.Machine.{done, start, Reading, read, taken}
-use Rattle.moves_commands.specs.Program.{State, Turn, areas, lent, begun, listing, load, move, edges, set_command, cycle, with_machine, quiet, execute, step}
-use Rattle.moves_commands.specs.Steps.{Stepped, held}
+use Rattle.moves_load_commands.specs.Machine.{start}
+use Rattle.moves_load_commands.proofs.Lists.{start_take}
+use Rattle.moves_replies.specs.Words.{load_reply}
+use Rattle.moves_load_commands.specs.declared.Reading.{Reading}
+use Rattle.moves_commands.specs.Program.{N, State, areas, unmarked, lent, begun, load, finish, refusal_line}
+use Rattle.moves_commands.specs.Feed.{finished}
 
-module _ (m : Machine) (sets sources dependencies hosts starts area : List ℕ) {machine : Machine} {out out' : List ℕ} {at p : ℕ} where
-  pub load_steps : {starts' area' : List ℕ} {a : Answer} {b : Bool}
-      → starts' ≡ patch 0 (tab (start sources m.entries) (m.atoms + 1)) starts
-      → a ≡ (areas.new (lent m dependencies starts' hosts) (take m.atoms sets) area).answer
-      → area' ≡ (areas.new (lent m dependencies starts' hosts) (take m.atoms sets) area).graph
-      → b ≡ is_refused a → machine ≡ begun m b → Put (load_reply a) out at out' p
-      → Stepped (load areas (held m sets sources dependencies hosts starts area)) (held machine sets sources dependencies hosts starts' area') out at out' p
+-- a verdict that is an error is a refusal
+pub err_refused : (r : Result Verdict Refusal) → is_err r ≡ is_refused (of_load r)
+err_refused (Ok Acyclic) = refl
+err_refused (Ok Cyclic) = refl
+err_refused (Err e) = refl
+
+-- nothing is said at the end without room for it, by a program that has stopped, and where no command is cut
+pub unsaid_short : (m : Machine) (room : ℕ) → room < 64 → [] ≡ finished m room
+unsaid_short m room h = rw (lt-leb 64 room h) refl
+
+pub unsaid_stopped : (m : Machine) (room : ℕ) → m.stopped ≡ true → [] ≡ finished m room
+unfolding finish
+unsaid_stopped m room e = rw e (none (leb 64 room))
+  where
+    none : (t : Bool) → ◌≡◌ {A = List ℕ} [] (cond t [] [])
+    none true = refl
+    none false = refl
+
+pub unsaid_done : (m : Machine) (room : ℕ) → is_some m.command ≡ false → [] ≡ finished m room
+unfolding finish
+unsaid_done m room e = rw e (go (leb 64 room) m.stopped)
+  where
+    go : (t u : Bool) → [] ≡ cond t (cond (not u && false) refusal_line []) []
+    go false u = refl
+    go true true = refl
+    go true false = refl
+
+-- the starts in use are set
+pub starts_set : (sources starts : List ℕ) {new : List ℕ} (e n : ℕ) → e ≤ length sources → n ≤ length starts → new ≡ tab (start (take e sources) (length (take e sources))) (length (take n starts))
+    → new ++ post_of 0 n starts ≡ patch 0 (tab (start sources e) n) starts
+starts_set sources starts {new} e n h b q =
+    let t : new ≡ tab (start sources e) n = q ∙ ap (tab (start (take e sources) (length (take e sources)))) (length-take-le n starts b) ∙ tab_alike _ _ n (λ k z. start_take sources e k h) in
+    let z : n - 0 ≡ n = omega arith in
+    ap (λ (k : ℕ). new ++ post_of 0 k starts) (sym z) ∙ put-patch 0 n starts new (omega arith) b (omega (arith, ap length t, tab-length (start sources e) n)) ∙ ap (λ (u : List ℕ). patch 0 u starts) t
+
+-- the load, once the starts are set
+module _ (s : Reading) (starts area : List ℕ) {starts' : List ℕ} {a : Answer} {l : graph.Load} (e₁ : starts' ≡ patch 0 (tab (start s.sources s.machine.entries) (s.machine.atoms + 1)) starts)
+    (e₂ : l ≡ lent s starts') (e₃ : a ≡ (calls.new l (unmarked l) N (take l.A s.sets) area).answer) where
+  pub load_reply_is : load_reply a ≡ (load areas (record { reading = s; starts = starts; graph = area })).reply
   unfolding load
-  load_steps e₁ e₂ e₃ e₄ e₅ w =
-      record {
-        after = rw (e₅, e₄, e₃, e₂, e₁) refl;
-        put = put_as (ap load_reply (e₂ ∙ ap (λ l. (areas.new (lent m dependencies l hosts) (take m.atoms sets) area).answer) e₁)) w;
-      }
+  load_reply_is = rw (e₃, e₂, e₁) refl
 
-  pub move_steps : {area' : List ℕ} {a : Answer}
-      → a ≡ (areas.move (lent m dependencies starts hosts) area m.x (m.y ∷ [])).answer → area' ≡ (areas.move (lent m dependencies starts hosts) area m.x (m.y ∷ [])).graph
-      → machine ≡ done m → Put (reply a) out at out' p
-      → Stepped (move areas (held m sets sources dependencies hosts starts area)) (held machine sets sources dependencies hosts starts area') out at out' p
-  unfolding move
-  move_steps e₁ e₂ e₃ w = record { after = rw (e₃, e₂) refl; put = put_as (ap reply e₁) w }
-
-  pub edges_steps : machine ≡ done m → Put (listing (areas.asks (lent m dependencies starts hosts) area)) out at out' p
-      → Stepped (edges areas (held m sets sources dependencies hosts starts area)) (held machine sets sources dependencies hosts starts area) out at out' p
-  unfolding edges
-  edges_steps e w = record { after = rw e refl; put = w }
-
-  pub set_steps : {a : Answer} → a ≡ areas.asks (lent m dependencies starts hosts) area (atom_set m.y) → machine ≡ done m → Put (reply a) out at out' p
-      → Stepped (set_command areas (held m sets sources dependencies hosts starts area)) (held machine sets sources dependencies hosts starts area) out at out' p
-  unfolding set_command
-  set_steps e₁ e₂ w = record { after = rw e₂ refl; put = put_as (ap reply e₁) w }
-
-  pub cycle_steps : {a : Answer} → a ≡ areas.asks (lent m dependencies starts hosts) area has_cycle → machine ≡ done m → Put (reply a) out at out' p
-      → Stepped (cycle areas (held m sets sources dependencies hosts starts area)) (held machine sets sources dependencies hosts starts area) out at out' p
-  unfolding cycle
-  cycle_steps e₁ e₂ w = record { after = rw e₂ refl; put = put_as (ap reply e₁) w }
-
--- one turn for another
-stepped_as : {t u : Turn (List ℕ)} {st : State (List ℕ)} {out out' : List ℕ} {at p : ℕ} → t ≡ u → Stepped t st out at out' p → Stepped u st out at out' p
-stepped_as e v = rw e at v
-
-module _ (s : State (List ℕ)) {st : State (List ℕ)} {out out' : List ℕ} {at p : ℕ} where
-  pub execute-load : s.reading.machine.command ≡ 19 → Stepped (load areas s) st out at out' p → Stepped (execute areas s) st out at out' p
-  unfolding execute
-  execute-load e v = stepped_as (rw (lt-leb s.reading.machine.command 18 (omega arith), eq-eqb s.reading.machine.command 19 e) refl) v
-
-  pub execute-move : s.reading.machine.command ≡ 32 → Stepped (move areas s) st out at out' p → Stepped (execute areas s) st out at out' p
-  unfolding execute
-  execute-move e v =
-      stepped_as (rw (lt-leb s.reading.machine.command 18 (omega arith), ne_eqb s.reading.machine.command 19 (omega arith), eq-eqb s.reading.machine.command 32 e) refl) v
-
-  pub execute-edges : s.reading.machine.command ≡ 33 → Stepped (edges areas s) st out at out' p → Stepped (execute areas s) st out at out' p
-  unfolding execute
-  execute-edges e v =
-      stepped_as
-      (rw (lt-leb s.reading.machine.command 18 (omega arith), ne_eqb s.reading.machine.command 19 (omega arith), ne_eqb s.reading.machine.command 32 (omega arith), eq-eqb s.reading.machine.command 33 e) refl)
-      v
-
-  pub execute-set : s.reading.machine.command ≡ 34 → Stepped (set_command areas s) st out at out' p → Stepped (execute areas s) st out at out' p
-  unfolding execute
-  execute-set e v =
-      stepped_as
-      (rw (lt-leb s.reading.machine.command 18 (omega arith), ne_eqb s.reading.machine.command 19 (omega arith), ne_eqb s.reading.machine.command 32 (omega arith), ne_eqb s.reading.machine.command 33 (omega arith), eq-eqb s.reading.machine.command 34 e) refl)
-      v
-
-  pub execute-cycle : 18 < s.reading.machine.command → (s.reading.machine.command ≡ 19 → ⊥) → (s.reading.machine.command ≡ 32 → ⊥) → (s.reading.machine.command ≡ 33 → ⊥)
-      → (s.reading.machine.command ≡ 34 → ⊥) → Stepped (cycle areas s) st out at out' p → Stepped (execute areas s) st out at out' p
-  unfolding execute
-  execute-cycle h a b c d v =
-      stepped_as
-      (rw (lt-leb s.reading.machine.command 18 h, ne_eqb s.reading.machine.command 19 a, ne_eqb s.reading.machine.command 32 b, ne_eqb s.reading.machine.command 33 c, ne_eqb s.reading.machine.command 34 d) refl)
-      v
-
-module _ (s : State (List ℕ)) {out out' : List ℕ} {at p : ℕ} where
-  -- 10, 11 and 12
-  pub execute-read : {r : Reading} → s.reading.machine.command ≤ 18 → r ≡ read s.reading → Put (cond r.machine.stopped (reply (refused 22)) []) out at out' p
-      → Stepped (execute areas s) (record { reading = r; starts = s.starts; graph = s.graph }) out at out' p
-  unfolding execute
-  execute-read h e w =
-      stepped_as (rw (le-leb s.reading.machine.command 18 h) refl)
-      (record {
-        after = ap (λ (r : Reading). record { reading = r; starts = s.starts; graph = s.graph }) e;
-        put = put_as (ap (λ (r : Reading). cond r.machine.stopped (reply (refused 22)) []) e) w;
-      })
-
--- a byte
-module _ (s : State (List ℕ)) (b : ℕ) where
-  abbrev byte_read : State (List ℕ)
-  byte_read = with_machine s (taken s.reading.machine b)
-
-  abbrev way : Bool → Bool → Bool → Turn (List ℕ)
-  way t u v = cond t (record { after = s; reply = [] }) (cond (u || not v) (quiet byte_read) (execute areas byte_read))
-
-  ways : {t u v : Bool} → s.reading.machine.stopped ≡ t → (taken s.reading.machine b).stopped ≡ u → eqb (taken s.reading.machine b).wanted 0 ≡ v → way t u v ≡ step areas s b
-  unfolding step
-  ways {t} {u} {v} e f g =
-      sym (ap (λ z. way z (taken s.reading.machine b).stopped (eqb (taken s.reading.machine b).wanted 0)) e
-      ∙ ap (λ z. way t z (eqb (taken s.reading.machine b).wanted 0)) f
-      ∙ ap (λ z. way t u z) g)
-
-  -- after the program has stopped
-  pub stopped_steps : {out : List ℕ} {at : ℕ} → s.reading.machine.stopped ≡ true → at ≤ length out → Stepped (step areas s b) s out at out at
-  stopped_steps e h = stepped_as (ways e refl refl) (record { after = refl; put = put-none _ _ h })
-
-  module _ (go_on : s.reading.machine.stopped ≡ false) where
-    refused_byte : {out out' : List ℕ} {at p : ℕ} → (taken s.reading.machine b).stopped ≡ true → Put (reply (refused 22)) out at out' p → Stepped (step areas s b) byte_read out at out' p
-    refused_byte f w = stepped_as (ways go_on f refl) (record { after = refl; put = put_as (ap (λ t. cond t (reply (refused 22)) []) (sym f)) w })
-
-    waiting_byte : {out : List ℕ} {at : ℕ} → (taken s.reading.machine b).stopped ≡ false → ((taken s.reading.machine b).wanted ≡ 0 → ⊥) → at ≤ length out → Stepped (step areas s b) byte_read out at out at
-    waiting_byte f g h =
-        stepped_as (ways go_on f (ne_eqb _ 0 g)) (record { after = refl; put = put_as (ap (λ t. cond t (reply (refused 22)) []) (sym f)) (put-none _ _ h) })
-
-    executed_byte : {st : State (List ℕ)} {out out' : List ℕ} {at p : ℕ} → (taken s.reading.machine b).stopped ≡ false → (taken s.reading.machine b).wanted ≡ 0
-        → Stepped (execute areas byte_read) st out at out' p → Stepped (step areas s b) st out at out' p
-    executed_byte f g v = stepped_as (ways go_on f (eq-eqb _ 0 g)) v
-
-    module _ {n : Machine} (e : n ≡ taken s.reading.machine b) where
-      -- no command of the phase
-      pub refused_steps : {out out' : List ℕ} {at p : ℕ} → n.stopped ≡ true → Put (reply (refused 22)) out at out' p → Stepped (step areas s b) (with_machine s n) out at out' p
-      refused_steps {out} {out'} {at} {p} = subst (λ (k : Machine). k.stopped ≡ true → Put (reply (refused 22)) out at out' p → Stepped (step areas s b) (with_machine s k) out at out' p) (sym e) refused_byte
-
-      -- an operand is still to come
-      pub waiting_steps : {out : List ℕ} {at : ℕ} → n.stopped ≡ false → (n.wanted ≡ 0 → ⊥) → at ≤ length out → Stepped (step areas s b) (with_machine s n) out at out at
-      waiting_steps {out} {at} = subst (λ (k : Machine). k.stopped ≡ false → (k.wanted ≡ 0 → ⊥) → at ≤ length out → Stepped (step areas s b) (with_machine s k) out at out at) (sym e) waiting_byte
-
-      -- the command is read
-      pub executed_steps : {st : State (List ℕ)} {out out' : List ℕ} {at p : ℕ} → n.stopped ≡ false → n.wanted ≡ 0 → Stepped (execute areas (with_machine s n)) st out at out' p → Stepped (step areas s b) st out at out' p
-      executed_steps {st} {out} {out'} {at} {p} =
-          subst (λ (k : Machine). k.stopped ≡ false → k.wanted ≡ 0 → Stepped (execute areas (with_machine s k)) st out at out' p → Stepped (step areas s b) st out at out' p) (sym e) executed_byte
+  pub load_after : {area' : List ℕ} {b : Bool} → area' ≡ (calls.new l (unmarked l) N (take l.A s.sets) area).area → b ≡ is_refused a
+      → ◌≡◌ {A = State (List ℕ)} (record { reading = record s { machine = begun s.machine b }; starts = starts'; graph = area' }) (load areas (record { reading = s; starts = starts; graph = area })).after
+  unfolding load
+  load_after f g = rw (g, f, e₃, e₂, e₁) refl

@@ -1,5 +1,5 @@
 -- The program's lists have room for its limits, and keep it. Assumes nothing.
-use Rattle.std.specs.Prelude.{◌≡◌, refl, Bool, true, false, cond, ◌&&◌, ◌||◌, List, ℕ, ◌≤◌, eqb, length}
+use Rattle.std.specs.Prelude.{◌≡◌, refl, Bool, true, false, cond, ◌&&◌, ◌||◌, Option, Some, None, List, ℕ, ◌≤◌, eqb, length}
 use Rattle.std.proofs.Math.Bool.{not}
 use Rattle.std.proofs.Common.{arith}
 use Rattle.std.proofs.Math.Dec.{leb}
@@ -8,10 +8,22 @@ use borrow.Author.Tests.{leb-false, leb-true}
 use Rattle.graphs.specs.Bools.{or_false_right, and_left, and_right}
 use Rattle.layout.specs.Patch.{patch_long}
 use Rattle.move_ledger.specs.Graph.{at, none}
+use Rattle.moves_load_commands.specs.declared.Command.{Command}
 use Rattle.moves_load_commands.specs.declared.Machine.{Machine}
-use Rattle.moves_load_commands.specs.Machine.{belongs, operand, taken, inserted, unnamed, Reading, add_atom, depend, add_host, read, reading}
-use Rattle.moves_load_commands.specs.Lists.{Roomy}
-use Rattle.moves_commands.specs.Program.{Graphs, State, Turn, with_machine, load, move, edges, set_command, cycle, execute, step}
+use Rattle.moves_load_commands.specs.declared.Reading.{Reading}
+use Rattle.moves_load_commands.specs.Machine.{belongs, taken, taken_by, inserted, unnamed, add_atom, depend, add_host, read}
+use Rattle.moves_commands.specs.Program.{Graphs, State, Turn, with_machine, load, move, edges, set_command, cycle, execute, run, step}
+
+-- the lists of the commands before the load have room for the program's limits
+pub record Roomy (sets sources dependencies hosts : List ℕ) : Type 0 where
+  pub for_sets : 48 ≤ length sets
+  pub for_sources : 128 ≤ length sources
+  pub for_dependencies : 128 ≤ length dependencies
+  pub for_hosts : 16 ≤ length hosts
+
+-- 48 atoms and 128 dependencies are named at most
+abbrev pub within : Machine → Bool
+within m = leb m.atoms 48 && leb m.entries 128
 
 -- room for 48 atoms and 128 dependencies, 16 hosts, and no more named
 pub record Fits (s : Reading) (starts : List ℕ) : Type 0 where
@@ -55,25 +67,26 @@ pub either : {A : Type 0} (P : A → Type 0) (t : Bool) (x y : A) → (t ≡ tru
 either P true x y f g = f refl
 either P false x y f g = g refl
 
-operand_same : (m : Machine) (b : ℕ) → Same m (operand m b)
-unfolding operand
-operand_same m b =
-    either (Same m) (eqb m.wanted 4) _ _ (λ e. (refl, refl))
-    (λ e. either (Same m) (eqb m.wanted 3) _ _ (λ e. (refl, refl)) (λ e. either (Same m) (eqb m.wanted 2) _ _ (λ e. (refl, refl)) (λ e. (refl, refl))))
-
 pub taken-same : (m : Machine) (b : ℕ) → Same m (taken m b)
 unfolding taken
-taken-same m b =
-    either (Same m) (eqb m.command 0) _ _ (λ e. either (Same m) (belongs b m.moving) _ _ (λ e. (refl, refl)) (λ e. (refl, refl))) (λ e. operand_same m b)
+taken-same m b = go m.command
+  where
+    go : (o : Option Command) → Same m (taken_by m b o)
+    go None = either (Same m) (belongs b m.moving) _ _ (λ e. (refl, refl)) (λ e. (refl, refl))
+    go (Some c) = (refl, refl)
 
 module _ {s : Reading} {starts : List ℕ} (f : Fits s starts) where
   -- another machine with as much named
-  same-fits : (n : Machine) → Same s.machine n → Fits (reading n s.sets s.sources s.dependencies s.hosts) starts
+  same-fits : (n : Machine) → Same s.machine n → Fits (record s { machine = n }) starts
   same-fits n e = record { roomy = f.roomy; for_starts = f.for_starts; atoms = rw e.0 f.atoms; entries = rw e.1 f.entries }
 
-  add_atom-fits : Fits (add_atom s) starts
+  -- a byte that is read changes no list
+  pub taken-ready : {m : Machine} (b : ℕ) → m ≡ taken s.machine b → Fits (record s { machine = m }) starts
+  taken-ready b e = rw e (same-fits (taken s.machine b) (taken-same s.machine b))
+
+  add_atom-fits : (c : Command) → Fits (add_atom c s) starts
   unfolding add_atom
-  add_atom-fits =
+  add_atom-fits c =
       either (λ s. Fits s starts) (leb 48 s.machine.atoms) _ _ (λ e. same-fits _ (refl, refl))
       (λ e.
       record {
@@ -89,11 +102,11 @@ module _ {s : Reading} {starts : List ℕ} (f : Fits s starts) where
         entries = f.entries;
       })
 
-  depend-fits : Fits (depend s) starts
+  depend-fits : (c : Command) → Fits (depend c s) starts
   unfolding depend inserted
-  depend-fits =
+  depend-fits c =
       let m = s.machine in
-      either (λ s. Fits s starts) (unnamed m m.x || (unnamed m m.y || leb 128 m.entries)) _ _ (λ e. same-fits _ (refl, refl))
+      either (λ s. Fits s starts) (unnamed m c.x || (unnamed m c.y || leb 128 m.entries)) _ _ (λ e. same-fits _ (refl, refl))
       (λ e.
       record {
         roomy =
@@ -105,14 +118,14 @@ module _ {s : Reading} {starts : List ℕ} (f : Fits s starts) where
             };
         for_starts = f.for_starts;
         atoms = f.atoms;
-        entries = omega (arith, leb-false 128 m.entries (or_false_right (unnamed m m.y) _ (or_false_right (unnamed m m.x) _ e)));
+        entries = omega (arith, leb-false 128 m.entries (or_false_right (unnamed m c.y) _ (or_false_right (unnamed m c.x) _ e)));
       })
 
-  add_host-fits : Fits (add_host s) starts
+  add_host-fits : (c : Command) → Fits (add_host c s) starts
   unfolding add_host
-  add_host-fits =
+  add_host-fits c =
       let m = s.machine in
-      either (λ s. Fits s starts) (leb 16 m.x || (unnamed m m.y || not (eqb (at s.hosts m.x) none))) _ _ (λ e. same-fits _ (refl, refl))
+      either (λ s. Fits s starts) (leb 16 c.x || (unnamed m c.y || not (eqb (at s.hosts c.x) none))) _ _ (λ e. same-fits _ (refl, refl))
       (λ e.
       record {
         roomy =
@@ -127,39 +140,35 @@ module _ {s : Reading} {starts : List ℕ} (f : Fits s starts) where
         entries = f.entries;
       })
 
-  pub read_fits : Fits (read s) starts
+  pub read_fits : (c : Command) → Fits (read c s) starts
   unfolding read
-  read_fits =
-      either (λ s. Fits s starts) (eqb s.machine.command 16) _ _ (λ e. add_atom-fits)
-      (λ e. either (λ s. Fits s starts) (eqb s.machine.command 17) _ _ (λ e. depend-fits) (λ e. add_host-fits))
+  read_fits c =
+      either (λ s. Fits s starts) (eqb c.number 16) _ _ (λ e. add_atom-fits c)
+      (λ e. either (λ s. Fits s starts) (eqb c.number 17) _ _ (λ e. depend-fits c) (λ e. add_host-fits c))
 
 -- so does a state
 abbrev pub Ready : {G : Type 0} → State G → Type 0
 Ready st = Fits st.reading st.starts
 
--- a byte that is read changes no list
-pub taken-ready : {m n : Machine} (b : ℕ) {sets sources dependencies hosts starts : List ℕ}
-    → Fits (reading m sets sources dependencies hosts) starts → n ≡ taken m b → Fits (reading n sets sources dependencies hosts) starts
-taken-ready {m} {n} b f e =
-    rw e (same-fits f (taken m b) (taken-same m b))
-
 module _ {G : Type 0} (graphs : Graphs G) where
-  execute-fits : (st : State G) → Ready st → Ready (execute graphs st).after
+  execute-fits : (c : Command) (st : State G) → Ready st → Ready (execute graphs c st).after
   unfolding execute load move edges set_command cycle
-  execute-fits st f =
-      let c = st.reading.machine.command in
+  execute-fits c st f =
       let P : Turn G → Type 0 = λ t. Ready t.after in
-      either P (leb c 18) _ _ (λ e. read_fits f)
-      (λ e. either P (eqb c 19) _ _ (λ e. record { roomy = f.roomy; for_starts = simp patch_long f.for_starts; atoms = f.atoms; entries = f.entries })
-      (λ e. either P (eqb c 32) _ _ (λ e. same-fits f _ (refl, refl))
-      (λ e. either P (eqb c 33) _ _ (λ e. same-fits f _ (refl, refl))
-      (λ e. either P (eqb c 34) _ _ (λ e. same-fits f _ (refl, refl)) (λ e. same-fits f _ (refl, refl))))))
+      either P (leb c.number 18) _ _ (λ e. read_fits f c)
+      (λ e. either P (eqb c.number 19) _ _ (λ e. record { roomy = f.roomy; for_starts = simp patch_long f.for_starts; atoms = f.atoms; entries = f.entries })
+      (λ e. either P (eqb c.number 32) _ _ (λ e. same-fits f _ (refl, refl))
+      (λ e. either P (eqb c.number 33) _ _ (λ e. same-fits f _ (refl, refl))
+      (λ e. either P (eqb c.number 34) _ _ (λ e. same-fits f _ (refl, refl)) (λ e. same-fits f _ (refl, refl))))))
 
   pub step_fits : (st : State G) (b : ℕ) → Ready st → Ready (step graphs st b).after
   unfolding step
   step_fits st b f =
-      let m = st.reading.machine in
+      let m = taken st.reading.machine b in
       let P : Turn G → Type 0 = λ t. Ready t.after in
-      let t : Ready (with_machine st (taken m b)) = same-fits f (taken m b) (taken-same m b) in
-      either P m.stopped _ _ (λ e. f)
-      (λ e. either P ((taken m b).stopped || not (eqb (taken m b).wanted 0)) _ _ (λ e. t) (λ e. execute-fits _ t))
+      let t : Ready (with_machine st m) = same-fits f m (taken-same st.reading.machine b) in
+      either P st.reading.machine.stopped _ _ (λ e. f) (λ e. go m.command (with_machine st m) t)
+    where
+      go : (o : Option Command) (st : State G) → Ready st → Ready (run graphs o st).after
+      go None st f = f
+      go (Some c) st f = let P : Turn G → Type 0 = λ t. Ready t.after in either P (eqb c.wanted 0) _ _ (λ e. execute-fits c st f) (λ e. f)

@@ -1,176 +1,176 @@
 // A command whose operands are read.
-ghost use Rattle.std.specs.Prelude.{◌≡◌, List, [], cond, ℕ, ◌+◌, ◌≤◌, length};
-ghost use Rattle.move_ledger.specs.Answer.{refused};
-ghost use Rattle.moves_replies.specs.Words.{reply};
-ghost use Rattle.moves_replies.specs.Room.{Put};
+ghost use Rattle.std.specs.Prelude.{◌≡◌, [], cond, ◌+◌, ◌≤◌, length};
+ghost use Rattle.graphs.specs.Tab.{tab};
+ghost use Rattle.layout.specs.Patch.{patch};
+ghost use Rattle.moves_load_commands.specs.Machine.{start};
+ghost use Rattle.moves_replies.specs.Wrote.{HasRoom, Wrote};
+ghost use Rattle.move_load_view.specs.View.{lent_by};
+ghost use Rattle.moves_commands.specs.Fits.{Ready};
 ghost use Rattle.moves_commands.specs.Program as def;
-ghost use Rattle.moves_commands.specs.Program.{areas};
-ghost use Rattle.moves_commands.specs.Steps.{CanLend, CanLoad, CanStep, Stepped, held};
+ghost use Rattle.moves_commands.specs.Program.{areas, lent, refusal_line};
+ghost use Rattle.moves_commands.specs.Steps.{CanLend, Stepped, held};
 
-use crate::calls;
+use crate::Interpreter;
 use crate::edge_lines::list_edges;
-use moves_answers::{is_refused, put_load, put_move, put_set_answer, put_verdict};
-use moves_load_commands::{Machine, done, fill_starts, read};
-use moves_replies::put_refused;
+use move_load_view::Load;
+use moves_answers::{put_load, put_move, put_set_answer, put_verdict};
+use moves_load_commands::{Command, Machine, Reading, fill_starts};
+use moves_replies::Replies;
+use refusals::Refusal;
 
-// The machine, and the place behind the reply.
-#[derive(Clone, Copy)]
-pub struct Turn {
-    pub machine: Machine,
-    pub at: usize,
-}
+// How many sets there is room for in the work area.
+pub(crate) const SETS: usize = 96;
 
-// After the load the moves begin.
-fn begun(mut m: Machine, stops: bool) -> Machine
-    ensures { result ≡ def.begun m stops }
+// No atom is fixed.
+pub(crate) static UNFIXED: [u32; 48] = [0; 48];
+
+// The load that the program lends: of starts and dependencies the part in use.
+fn lend<'l>(reading: &'l Reading, starts: &'l [u32; 49]) -> Load<'l>
+    requires { CanLend reading.now.machine }
+    ensures { lent_by result ≡ lent reading.now starts.now }
 {
-    m.moving = true;
-    m.stopped = stops;
-    m.command = 0;
-    m
-}
-
-// 13: load.
-fn load(
-    m: Machine,
-    sets: &[u64],
-    sources: &[u32],
-    dependencies: &[u32],
-    starts: &mut [u32],
-    hosts: &[u32],
-    area: &mut [u32],
-    out: &mut [u8],
-    at: usize,
-) -> Turn
-    requires can_load { CanLoad m sets.now sources.now dependencies.now starts.old }
-    requires at_in_bounds { at + 10240 ≤ length out.old }
-    ensures { Stepped (def.load areas (held m sets.now sources.now dependencies.now hosts.now starts.old area.old)) (held result.machine sets.now sources.now dependencies.now hosts.now starts.new area.new) out.old at out.new result.at }
-{
-    let d = m.entries;
-    let n = m.atoms + 1;
-    fill_starts(sources, d, n, starts);
-    let r = calls::new(m, sets, dependencies, starts, hosts, area);
-    let p = put_load(out, at, r);
-    let machine = begun(m, is_refused(r));
-    Turn { machine, at: p }
-}
-
-// 20: a move.
-fn move_atom(
-    m: Machine,
-    dependencies: &[u32],
-    starts: &[u32],
-    hosts: &[u32],
-    area: &mut [u32],
-    out: &mut [u8],
-    at: usize,
-) -> Turn
-    requires can_lend { CanLend m dependencies.now starts.now }
-    requires at_in_bounds { at + 10240 ≤ length out.old }
-    ensures { (u v : List ℕ) → Stepped (def.move areas (held m u v dependencies.now hosts.now starts.now area.old)) (held result.machine u v dependencies.now hosts.now starts.now area.new) out.old at out.new result.at }
-{
-    let r = calls::try_move(m, dependencies, starts, hosts, area);
-    let p = put_move(out, at, r);
-    let machine = done(m);
-    Turn { machine, at: p }
-}
-
-// 21: the edges.
-fn edges(
-    m: Machine,
-    dependencies: &[u32],
-    starts: &[u32],
-    hosts: &[u32],
-    area: &[u32],
-    out: &mut [u8],
-    at: usize,
-) -> Turn
-    requires can_lend { CanLend m dependencies.now starts.now }
-    requires at_in_bounds { at + 10240 ≤ length out.old }
-    ensures { (u v : List ℕ) → Stepped (def.edges areas (held m u v dependencies.now hosts.now starts.now area.now)) (held result.machine u v dependencies.now hosts.now starts.now area.now) out.old at out.new result.at }
-{
-    let p = list_edges(m, dependencies, starts, hosts, area, out, at);
-    let machine = done(m);
-    Turn { machine, at: p }
-}
-
-// 22: an atom's set.
-fn set_of(
-    m: Machine,
-    dependencies: &[u32],
-    starts: &[u32],
-    hosts: &[u32],
-    area: &[u32],
-    out: &mut [u8],
-    at: usize,
-) -> Turn
-    requires can_lend { CanLend m dependencies.now starts.now }
-    requires at_in_bounds { at + 10240 ≤ length out.old }
-    ensures { (u v : List ℕ) → Stepped (def.set_command areas (held m u v dependencies.now hosts.now starts.now area.now)) (held result.machine u v dependencies.now hosts.now starts.now area.now) out.old at out.new result.at }
-{
-    let s = calls::atom_set(m, dependencies, starts, hosts, area);
-    let p = put_set_answer(out, at, s);
-    let machine = done(m);
-    Turn { machine, at: p }
-}
-
-// 23: whether there is a cycle.
-fn cycle(
-    m: Machine,
-    dependencies: &[u32],
-    starts: &[u32],
-    hosts: &[u32],
-    area: &[u32],
-    out: &mut [u8],
-    at: usize,
-) -> Turn
-    requires can_lend { CanLend m dependencies.now starts.now }
-    requires at_in_bounds { at + 10240 ≤ length out.old }
-    ensures { (u v : List ℕ) → Stepped (def.cycle areas (held m u v dependencies.now hosts.now starts.now area.now)) (held result.machine u v dependencies.now hosts.now starts.now area.now) out.old at out.new result.at }
-{
-    let s = calls::has_cycle(m, dependencies, starts, hosts, area);
-    let p = put_verdict(out, at, s);
-    let machine = done(m);
-    Turn { machine, at: p }
-}
-
-// A machine that has stopped is a refusal.
-pub(crate) fn quiet(m: Machine, out: &mut [u8], at: usize) -> usize
-    requires { at + 64 ≤ length out.old }
-    ensures { Put (cond m.stopped (reply (refused 22)) []) out.old at out.new result }
-{
-    if m.stopped {
-        return put_refused(out, at, 22);
+    let machine = reading.machine;
+    Load {
+        atoms: machine.atoms,
+        entries: machine.entries,
+        bits: 16,
+        starts: &starts[..machine.atoms + 1],
+        dependencies: &reading.dependencies[..machine.entries],
+        hosts: &reading.hosts,
     }
-    at
 }
 
-pub(crate) fn execute(
-    m: Machine,
-    sets: &mut [u64],
-    sources: &mut [u32],
-    dependencies: &mut [u32],
-    starts: &mut [u32],
-    hosts: &mut [u32],
-    area: &mut [u32],
-    out: &mut [u8],
-    at: usize,
-) -> Turn
-    requires can_step { CanStep (held m sets.old sources.old dependencies.old hosts.old starts.old area.old) }
-    requires at_in_bounds { at + 10240 ≤ length out.old }
-    ensures { Stepped (def.execute areas (held m sets.old sources.old dependencies.old hosts.old starts.old area.old)) (held result.machine sets.new sources.new dependencies.new hosts.new starts.new area.new) out.old at out.new result.at }
+// Where each atom's dependencies start, and the last one's end.
+fn set_starts(reading: &Reading, starts: &mut [u32; 49])
+    requires { CanLend reading.now.machine }
+    ensures { starts.new ≡ patch 0 (tab (start reading.now.sources reading.now.machine.entries) (reading.now.machine.atoms + 1)) starts.old }
 {
-    let command = m.command;
-    match command {
-        0..=0x12 => {
-            let machine = read(m, sets, sources, dependencies, hosts);
-            let p = quiet(machine, out, at);
-            Turn { machine, at: p }
+    let machine = reading.machine;
+    fill_starts(
+        &reading.sources[..machine.entries],
+        &mut starts[..machine.atoms + 1],
+    );
+}
+
+impl Interpreter {
+    // 13: load. Then the moves begin, unless it is refused.
+    fn load(&mut self, replies: &mut Replies)
+        requires ready { Ready (held self.old) }
+        requires room { HasRoom 10240 replies.old }
+        ensures { Stepped (def.load areas (held self.old)) self.new replies.old replies.new }
+    {
+        set_starts(&self.reading, &mut self.starts);
+        let reading = &self.reading;
+        let machine = reading.machine;
+        let load = lend(reading, &self.starts);
+        let verdict = reduced_chunk_graph::new(
+            &load,
+            SETS,
+            &UNFIXED[..load.atoms],
+            &reading.sets[..load.atoms],
+            &mut self.area,
+        );
+        put_load(replies, verdict);
+        let refused = verdict.is_err();
+        self.reading.machine = Machine {
+            moving: true,
+            stopped: refused,
+            command: None,
+            ..machine
+        };
+    }
+
+    // 20: a move.
+    fn move_atom(&mut self, command: Command, replies: &mut Replies)
+        requires ready { Ready (held self.old) }
+        requires room { HasRoom 10240 replies.old }
+        ensures { Stepped (def.move areas command (held self.old)) self.new replies.old replies.new }
+    {
+        let load = lend(&self.reading, &self.starts);
+        let moved = reduced_chunk_graph::try_move(
+            &load,
+            SETS,
+            &UNFIXED[..load.atoms],
+            &mut self.area,
+            u32::from(command.x),
+            &[u64::from(command.y)],
+        );
+        put_move(replies, moved);
+        self.reading.machine.command = None;
+    }
+
+    // 21: the edges.
+    #[tactic(auto, using(moves_replies::specs::Wrote::wrote_as), unfolding(crate::specs::Program::edges))]
+    fn edges(&mut self, replies: &mut Replies)
+        requires ready { Ready (held self.old) }
+        requires room { HasRoom 10240 replies.old }
+        ensures { Stepped (def.edges areas (held self.old)) self.new replies.old replies.new }
+    {
+        list_edges(&lend(&self.reading, &self.starts), &self.area, replies);
+        self.reading.machine.command = None;
+    }
+
+    // 22: an atom's set.
+    #[tactic(auto, using(moves_replies::specs::Wrote::wrote_as), unfolding(crate::specs::Program::set_command))]
+    fn set_of(&mut self, command: Command, replies: &mut Replies)
+        requires ready { Ready (held self.old) }
+        requires room { HasRoom 10240 replies.old }
+        ensures { Stepped (def.set_command areas command (held self.old)) self.new replies.old replies.new }
+    {
+        let load = lend(&self.reading, &self.starts);
+        let fixed = &UNFIXED[..load.atoms];
+        let set = reduced_chunk_graph::atom_set(
+            &load,
+            SETS,
+            fixed,
+            &self.area,
+            u32::from(command.y),
+        );
+        put_set_answer(replies, set);
+        self.reading.machine.command = None;
+    }
+
+    // 23: whether there is a cycle.
+    #[tactic(auto, using(moves_replies::specs::Wrote::wrote_as), unfolding(crate::specs::Program::cycle))]
+    fn cycle(&mut self, replies: &mut Replies)
+        requires ready { Ready (held self.old) }
+        requires room { HasRoom 10240 replies.old }
+        ensures { Stepped (def.cycle areas (held self.old)) self.new replies.old replies.new }
+    {
+        let load = lend(&self.reading, &self.starts);
+        let fixed = &UNFIXED[..load.atoms];
+        let verdict = reduced_chunk_graph::has_cycle(&load, SETS, fixed, &self.area);
+        put_verdict(replies, verdict);
+        self.reading.machine.command = None;
+    }
+
+    // A machine that has stopped is a refusal.
+    #[tactic(auto, using(crate::proofs::Lines::wrote_none))]
+    pub(crate) fn tell_refused(&self, replies: &mut Replies)
+        requires { HasRoom 64 replies.old }
+        ensures { Wrote (cond self.now.reading.machine.stopped refusal_line []) replies.old replies.new }
+    {
+        if self.reading.machine.stopped {
+            replies.put_refused(Refusal::BadCommand);
         }
-        0x13 => load(m, sets, sources, dependencies, starts, hosts, area, out, at),
-        0x20 => move_atom(m, dependencies, starts, hosts, area, out, at),
-        0x21 => edges(m, dependencies, starts, hosts, area, out, at),
-        0x22 => set_of(m, dependencies, starts, hosts, area, out, at),
-        _ => cycle(m, dependencies, starts, hosts, area, out, at),
+    }
+
+    #[tactic(auto, using(std::proofs::lemmas::Bool::Decides::nat_tests), unfolding(crate::specs::Program::execute))]
+    pub(crate) fn execute(&mut self, command: Command, replies: &mut Replies)
+        requires ready { Ready (held self.old) }
+        requires room { HasRoom 10240 replies.old }
+        ensures { Stepped (def.execute areas command (held self.old)) self.new replies.old replies.new }
+    {
+        match command.number {
+            0..=0x12 => {
+                self.reading.read(command);
+                self.tell_refused(replies);
+            }
+            0x13 => self.load(replies),
+            0x20 => self.move_atom(command, replies),
+            0x21 => self.edges(replies),
+            0x22 => self.set_of(command, replies),
+            _ => self.cycle(replies),
+        }
     }
 }

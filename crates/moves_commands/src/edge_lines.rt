@@ -1,97 +1,80 @@
 // Command 21: the edges, a line for each, and their count. The area is checked once for all of them.
 ghost use Rattle.std.specs.Prelude.{◌+◌, ◌*◌, ◌≤◌, length};
-ghost use Rattle.move_ledger.specs.Graph.{Load};
+ghost use Rattle.move_ledger.specs.Graph as graph;
 ghost use Rattle.move_ledger.specs.Ledger.{edge_at};
+ghost use Rattle.move_load_view.specs.View.{lent_by};
 ghost use Rattle.moves_replies.specs.Words.{reply};
-ghost use Rattle.moves_replies.specs.Room.{Put};
-ghost use Rattle.moves_commands.specs.Program.{areas, lent, lines, listing};
-ghost use Rattle.moves_commands.specs.Steps.{CanLend, CanList, CanListAll};
+ghost use Rattle.moves_replies.specs.Wrote.{HasRoom, Wrote};
+ghost use Rattle.moves_commands.specs.Program.{areas, lines, listing};
+ghost use Rattle.moves_commands.specs.Steps.{CanList, CanListAll, CanListEdges};
 
-use crate::calls;
+use crate::commands::{SETS, UNFIXED};
+use move_load_view::Load;
+use move_questions::{edge_at, edge_count};
+use move_rows::listed::listed_row;
 use move_rows::registered;
 use moves_answers::put_listed;
-use moves_load_commands::Machine;
-use moves_replies::{put_edges, put_refused};
+use moves_replies::Replies;
 
-// The line of edge k.
-fn put_line(
-    area: &[u32],
-    known: usize,
-    order: &[u32],
-    degrees: &[u32],
-    k: u64,
-    out: &mut [u8],
-    at: usize,
-) -> usize
-    requires can_list { (load : Load) × CanList load area.now known order.now degrees.now }
-    requires at_in_bounds { at + 64 ≤ length out.old }
-    ensures { (load : Load) → CanList load area.now known order.now degrees.now → Put (reply (areas.asks load area.now (edge_at k))) out.old at out.new result }
-{
-    let e = move_questions::edge_at(area, 96, known, order, degrees, k);
-    put_listed(out, at, e)
+// An area that was checked, the nodes by rising sets, and each node's number of edges.
+#[derive(Clone, Copy)]
+struct Listing<'l> {
+    area: &'l [u32],
+    order: &'l [u32],
+    degrees: &'l [u32],
 }
 
-// The lines of the first n edges.
-fn put_lines(
-    area: &[u32],
-    known: usize,
-    order: &[u32],
-    degrees: &[u32],
-    n: u64,
-    out: &mut [u8],
-    at: usize,
-) -> usize
-    requires can_list { (load : Load) × CanList load area.now known order.now degrees.now }
-    requires n_in_bounds { at + 64 * n ≤ length out.old }
-    ensures { (load : Load) → CanList load area.now known order.now degrees.now → Put (lines (areas.asks load area.now) n) out.old at out.new result }
-{
-    let mut p = at;
-    let mut k = 0;
-    while k < n {
-        p = put_line(area, known, order, degrees, k, out, p);
-        k += 1;
+impl Listing<'_> {
+    // The line of edge k, where so many sets are registered.
+    fn put_line(&self, known: usize, k: u64, replies: &mut Replies)
+        requires can_list { (load : graph.Load) × CanList load self.now.area.now known self.now.order.now self.now.degrees.now }
+        requires room { HasRoom 64 replies.old }
+        ensures { (load : graph.Load) → CanList load self.now.area.now known self.now.order.now self.now.degrees.now → Wrote (reply (areas.asks load self.now.area.now (edge_at k))) replies.old replies.new }
+    {
+        let edge = edge_at(self.area, SETS, known, self.order, self.degrees, k);
+        put_listed(replies, edge);
     }
-    p
+
+    // The lines of the first n edges.
+    fn put_lines(&self, known: usize, n: u64, replies: &mut Replies)
+        requires can_list { (load : graph.Load) × CanList load self.now.area.now known self.now.order.now self.now.degrees.now }
+        requires room { HasRoom (64 * n) replies.old }
+        ensures { (load : graph.Load) → CanList load self.now.area.now known self.now.order.now self.now.degrees.now → Wrote (lines (areas.asks load self.now.area.now) n) replies.old replies.new }
+    {
+        for k in 0..n {
+            self.put_line(known, k, replies);
+        }
+    }
+
+    // The lines of all edges, and then their count.
+    fn put_all(&self, replies: &mut Replies)
+        requires can_list_all { (load : graph.Load) × CanListAll load self.now.area.now self.now.order.now self.now.degrees.now }
+        requires room { HasRoom 10240 replies.old }
+        ensures { (load : graph.Load) → CanListAll load self.now.area.now self.now.order.now self.now.degrees.now → Wrote (listing (areas.asks load self.now.area.now)) replies.old replies.new }
+    {
+        let known = registered(self.area, SETS);
+        let n = edge_count(self.area, SETS);
+        self.put_lines(known, n, replies);
+        replies.put_edges(n);
+    }
 }
 
-// The lines of all edges, and then their count.
-fn put_all(area: &[u32], order: &[u32], degrees: &[u32], out: &mut [u8], at: usize) -> usize
-    requires can_list_all { (load : Load) × CanListAll load area.now order.now degrees.now }
-    requires at_in_bounds { at + 10240 ≤ length out.old }
-    ensures { (load : Load) → CanListAll load area.now order.now degrees.now → Put (listing (areas.asks load area.now)) out.old at out.new result }
-{
-    let known = registered(area, 96);
-    let n = move_questions::edge_count(area, 96);
-    let p = put_lines(area, known, order, degrees, n, out, at);
-    put_edges(out, p, n)
-}
-
-pub(crate) fn list_edges(
-    m: Machine,
-    dependencies: &[u32],
-    starts: &[u32],
-    hosts: &[u32],
-    area: &[u32],
-    out: &mut [u8],
-    at: usize,
-) -> usize
-    requires can_lend { CanLend m dependencies.now starts.now }
-    requires at_in_bounds { at + 10240 ≤ length out.old }
-    ensures { Put (listing (areas.asks (lent m dependencies.now starts.now hosts.now) area.now)) out.old at out.new result }
+pub(crate) fn list_edges(load: &Load, area: &[u32], replies: &mut Replies)
+    requires can_list { CanListEdges (lent_by load.now) }
+    requires room { HasRoom 10240 replies.old }
+    ensures { Wrote (listing (areas.asks (lent_by load.now) area.now)) replies.old replies.new }
 {
     let mut degrees = [0u32; 1024];
     let mut order = [0u32; 1024];
-    let row = calls::listed_row(
-        m,
-        dependencies,
-        starts,
-        hosts,
-        area,
-        &mut degrees,
-        &mut order,
-    );
-    if row != 0 {
-        return put_refused(out, at, row);
+    let fixed = &UNFIXED[..load.atoms];
+    if let Err(refusal) = listed_row(load, SETS, fixed, area, &mut degrees, &mut order) {
+        replies.put_refused(refusal);
+        return;
     }
-    put_all(area, &order, &degrees, out, at)
+    let listing = Listing {
+        area,
+        order: &order,
+        degrees: &degrees,
+    };
+    listing.put_all(replies);
 }

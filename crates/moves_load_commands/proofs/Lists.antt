@@ -1,116 +1,80 @@
--- What the loops of `src/lib.rt` keep. Assumes nothing.
-use mathlib.Core.Path.{◌≡◌, refl, sym, ap, ◌∙◌}
-use mathlib.Core.List.{List, [], ◌∷◌}
-use Prim.Native.Nat.{ℕ, suc, ◌+◌, ◌-◌, ◌≤◌, ◌<◌}
-use native.Mathlib.Omega.{arith}
-use native.Mathlib.Nat.{zero-add, sub_self}
-use native.Mathlib.Decide.{ℕ_discrete}
-use lib.Dec.{ltb}
-use lib.ListN.{length, get_or, set, length-set}
-use lib.Seq.{get_or-set_same, get_or-set_other}
-use Rattle.graphs.specs.Count.{ind, count_none, count-more, ind_le}
-use Rattle.graphs.specs.Tab.{tab, tab-length, tab-at}
-use Rattle.layout.specs.Patch.{patch, part, patch_long, patch-none, patch_one, patch_far, patch-set, patch-out, part_none, part-more, is_patch}
+-- Where an atom's dependencies start, and one more of them put in. Assumes nothing.
+use Rattle.std.proofs.Common.{◌≡◌, refl, sym, ap, ◌∙◌, Bool, true, false, cond, ℕ, zero, suc, ◌+◌, ◌-◌, ◌≤◌, ◌<◌, ltb, List, ◌∷◌, length, get_or, set, take, arith, zero-add, length-take-le, length-set, get_or-take, get_or-set_same, get_or-set_other}
+use Rattle.std.specs.List.{count_by, RotatedRight}
+use Rattle.std.proofs.lemmas.List.Recursion.{is_count_by}
+use Rattle.std.proofs.Math.Decide.{dec_lt}
+use borrow.Rule.Slice.PartMut.{put_mid, mid_of, mid_len}
+use Rattle.graphs.specs.Count.{ind, count, count_ext}
+use Rattle.layout.specs.Patch.{part, part_long, part_at, is_patch}
+use Rattle.layout.specs.Lent.{mid_at, put_long, put-inside, put-before, put-after}
+use Rattle.move_ledger.specs.Graph.{at}
 use Rattle.moves_load_commands.specs.Machine.{start, inserted}
-use Rattle.moves_load_commands.specs.Lists.{CanStart}
 
--- counting
-pub record Counting (sources : List ℕ) (d i n k : ℕ) : Type 0 where
-  pub within : k ≤ d
-  pub so_far : n ≡ start sources k i
-  pub few : n ≤ k
+-- counting from the front
+count-shift : (q : ℕ → Bool) (n : ℕ) → count q (suc n) ≡ ind (q 0) + count (λ k. q (suc k)) n
+unfolding count
+count-shift q zero = omega arith
+count-shift q (suc n) = omega (arith, count-shift q n)
 
-pub counting_none : {sources : List ℕ} {d i : ℕ} → Counting sources d i 0 0
+counted : (p : ℕ → Bool) (l : List ℕ) → count (λ k. p (at l k)) (length l) ≡ count_by p l
+unfolding count
+counted p = is_count_by (λ l. count (λ k. p (at l k)) (length l)) p refl (λ x l. count-shift (λ k. p (at (x ∷ l) k)) (length l) ∙ one (p x) (count (λ k. p (at l k)) (length l)))
+  where
+    one : (t : Bool) (n : ℕ) → ind t + n ≡ cond t (1 + n) n
+    one true n = refl
+    one false n = zero-add n
+
+pub start-counted : (l : List ℕ) (i : ℕ) → count_by (λ x. ltb x i) l ≡ start l (length l) i
 unfolding start
-counting_none = record { within = omega arith; so_far = sym (count_none _); few = omega arith }
+start-counted l i = sym (counted (λ x. ltb x i) l)
 
-pub counting_more : {sources : List ℕ} {d i n k r : ℕ} → Counting sources d i n k → k < d → r ≡ ind (ltb (get_or sources k 0) i) → Counting sources d i (n + r) (k + 1)
+-- the sources behind the first d make no difference
+pub start_take : (l : List ℕ) (d i : ℕ) → d ≤ length l → start (take d l) (length (take d l)) i ≡ start l d i
 unfolding start
-counting_more {sources} {d} {i} {n} {k} {r} v h e =
-    record {
-      within = omega arith;
-      so_far = omega (arith, v.so_far, e, count-more (λ j. ltb (get_or sources j 0) i) k);
-      few = omega (arith, v.few, e, ind_le (ltb (get_or sources k 0) i));
-    }
+start_take l d i h = rw (length-take-le d l h) (count_ext _ _ d (λ k b. ap (λ x. ltb x i) (get_or-take d l k 0 b)))
 
-pub counting_done : {sources : List ℕ} {d i n k : ℕ} → Counting sources d i n k → d ≤ k → n ≡ start sources d i
-counting_done {sources} {d} {i} {n} {k} v h = let e : k ≡ d = omega (arith, v.within) in v.so_far ∙ ap (λ j. start sources j i) e
+-- v written behind the part from p on, and that part turned round by one
+module _ (l : List ℕ) (p d v : ℕ) (w : List ℕ) (h : p ≤ d) (b : d < length l) where
+  abbrev lent : List ℕ
+  lent = mid_of p (d + 1 - p) (set l d v)
 
--- a number put before a patch
-set-patch : (p x : ℕ) (v l : List ℕ) → p < length l → set (patch (p + 1) v l) p x ≡ patch p (x ∷ v) l
-set-patch p x v l h =
-    patch_one p x (patch (p + 1) v l) (omega (arith, patch_long (p + 1) v l))
-    ∙ patch_far p (p + 1) (x ∷ []) v l (omega arith)
-    ∙ ap (patch (p + 1) v) (sym (patch_one p x l h))
-    ∙ patch-set p x v l h
+  many : length lent ≡ d + 1 - p
+  many = mid_len p (d + 1) (set l d v) (rw length-set (omega arith))
 
--- shifting up from the end
-pub record Shifting (l₀ : List ℕ) (p d i : ℕ) (l : List ℕ) : Type 0 where
-  pub above : p ≤ i
-  pub within : i ≤ d
-  pub long : length l ≡ length l₀
-  pub moved : l ≡ patch (i + 1) (part i (d - i) l₀) l₀
-
-pub shifting_none : {l : List ℕ} {p d : ℕ} → p ≤ d → Shifting l p d d l
-shifting_none {l} {p} {d} h =
-    record {
-      above = h;
-      within = omega arith;
-      long = refl;
-      moved = sym (ap (λ (k : ℕ). patch (d + 1) (part d k l) l) (sub_self d) ∙ ap (λ u. patch (d + 1) u l) (part_none d l) ∙ patch-none (d + 1) l);
-    }
-
-module _ {l₀ : List ℕ} {p d i : ℕ} {l : List ℕ} (v : Shifting l₀ p d i l) (room : d < length l₀) where
-  pub shifting_more : {j : ℕ} → p < i → j ≡ i - 1 → Shifting l₀ p d j (set l i (get_or l j 0))
-  shifting_more {j} h q =
-      let e : i ≡ j + 1 = omega arith in
-      let f : d - j ≡ suc (d - i) = omega (arith, v.within) in
-      let same : get_or l j 0 ≡ get_or l₀ j 0 = ap (λ u. get_or u j 0) v.moved ∙ patch-out (i + 1) _ l₀ j (omega (arith, v.within)) (λ b. absurd (omega arith)) in
-      record {
-        above = omega arith;
-        within = omega (arith, v.within);
-        long = length-set l i _ ∙ v.long;
-        moved =
-            rw same
-            (ap (λ u. set u i (get_or l₀ j 0)) v.moved
-            ∙ set-patch i (get_or l₀ j 0) (part i (d - i) l₀) l₀ (omega (arith, v.within))
-            ∙ ap (λ (k : ℕ). patch k (get_or l₀ j 0 ∷ part k (d - i) l₀) l₀) e
-            ∙ sym (ap (λ u. patch (j + 1) u l₀) (ap (λ (k : ℕ). part j k l₀) f ∙ part-more j (d - i) l₀)));
-      }
-
-  pub shifting_done : (x : ℕ) → i ≤ p → set l p x ≡ inserted p d x l₀
+  pub inserted-turned : length w ≡ length lent → RotatedRight lent w (length lent) 1 → put_mid p (d + 1 - p) (set l d v) w ≡ inserted p d v l
   unfolding inserted
-  shifting_done x h =
-      let e : i ≡ p = omega (arith, v.above) in
-      ap (λ u. set u p x) (v.moved ∙ ap (λ (k : ℕ). patch (k + 1) (part k (d - k) l₀) l₀) e) ∙ set-patch p x (part p (d - p) l₀) l₀ (omega (arith, v.within))
-
--- filling in where the dependencies of each atom start
-pub record Starting (sources : List ℕ) (d n : ℕ) (l₀ : List ℕ) (i : ℕ) (l : List ℕ) : Type 0 where
-  pub within : i ≤ n
-  pub long : length l ≡ length l₀
-  pub so_far : (k : ℕ) → k < i → get_or l k 0 ≡ start sources d k
-  pub beyond : (k : ℕ) → i ≤ k → get_or l k 0 ≡ get_or l₀ k 0
-
-pub starting_none : {sources : List ℕ} {d n : ℕ} {l : List ℕ} → Starting sources d n l 0 l
-starting_none = record { within = omega arith; long = refl; so_far = λ k b. absurd (omega arith); beyond = λ k b. refl }
-
-module _ {sources : List ℕ} {d n : ℕ} {l₀ : List ℕ} {i : ℕ} {l : List ℕ} (v : Starting sources d n l₀ i l) (can : CanStart sources d n l₀) where
-  pub starting_more : {r : ℕ} → i < n → r ≡ start sources d i → Starting sources d n l₀ (i + 1) (set l i r)
-  starting_more {r} h e =
-      record {
-        within = omega arith;
-        long = length-set l i r ∙ v.long;
-        so_far = λ k b. pick k b (ℕ_discrete k i);
-        beyond = λ k b. get_or-set_other l i k r 0 (omega arith) ∙ v.beyond k (omega arith);
-      }
+  inserted-turned e r = is_patch p (v ∷ part p (d - p) l) l (put_mid p (d + 1 - p) (set l d v) w) (put_long p (d + 1) (set l d v) w up in_list fits ∙ length-set l d v) inside outside
     where
-      pick : (k : ℕ) → k < i + 1 → Dec (k ≡ i) → get_or (set l i r) k 0 ≡ start sources d k
-      pick k b (yes q) = rw (q, get_or-set_same l i r 0 (omega (arith, v.long, can.inside))) e
-      pick k b (no q) = get_or-set_other l i k r 0 q ∙ v.so_far k (omega arith)
+      up : p ≤ d + 1
+      up = omega arith
 
-  pub starting_done : n ≤ i → l ≡ patch 0 (tab (start sources d) n) l₀
-  starting_done h =
-      is_patch 0 (tab (start sources d) n) l₀ l v.long
-      (λ k b z. let y : k < n = omega (arith, tab-length (start sources d) n) in
-      ap (λ j. get_or l j 0) (zero-add k) ∙ v.so_far k (omega (arith, v.within)) ∙ sym (tab-at (start sources d) n k y))
-      (λ k b z. v.beyond k (omega (arith, z (omega arith), tab-length (start sources d) n, v.within)))
+      in_list : d + 1 ≤ length (set l d v)
+      in_list = rw length-set (omega arith)
+
+      fits : length w ≡ d + 1 - p
+      fits = e ∙ many
+
+      inside : (i : ℕ) → i < length (v ∷ part p (d - p) l) → p + i < length l → get_or (put_mid p (d + 1 - p) (set l d v) w) (p + i) 0 ≡ get_or (v ∷ part p (d - p) l) i 0
+      inside zero z y =
+          let q : p + (length lent - 1 + 0) ≡ d = omega (arith, many) in
+          put-inside p (d + 1) (set l d v) w up in_list fits 0 (omega arith)
+          ∙ r.0 0 0 (omega arith)
+          ∙ mid_at p (d + 1 - p) (set l d v) (length lent - 1 + 0) (omega (arith, many))
+          ∙ (rw q (get_or-set_same l d v 0 b))
+      inside (suc i) z y =
+          let short : suc i < d + 1 - p = omega (arith, part_long p (d - p) l) in
+          let q : suc i - 1 ≡ i = omega arith in
+          put-inside p (d + 1) (set l d v) w up in_list fits (suc i) short
+          ∙ r.1 (suc i) 0 (omega arith) (omega (arith, many))
+          ∙ (rw q (mid_at p (d + 1 - p) (set l d v) i (omega arith)))
+          ∙ get_or-set_other l d (p + i) v 0 (λ o. omega arith)
+          ∙ sym (part_at p (d - p) l i (omega arith))
+
+      outside : (k : ℕ) → k < length l → (p ≤ k → p + length (v ∷ part p (d - p) l) ≤ k) → get_or (put_mid p (d + 1 - p) (set l d v) w) k 0 ≡ get_or l k 0
+      outside k y z = go (dec_lt k p)
+        where
+          go : Dec (k < p) → get_or (put_mid p (d + 1 - p) (set l d v) w) k 0 ≡ get_or l k 0
+          go (yes o) = put-before p (d + 1) (set l d v) w up in_list fits k o ∙ get_or-set_other l d k v 0 (λ q. omega arith)
+          go (no o) =
+              let far : d + 1 ≤ k = omega (arith, z (omega arith), part_long p (d - p) l) in
+              put-after p (d + 1) (set l d v) w up in_list fits k far ∙ get_or-set_other l d k v 0 (λ q. omega arith)

@@ -2,3 +2,4 @@
 pub mod Decimal
 pub mod Words
 pub mod Room
+pub mod Wrote

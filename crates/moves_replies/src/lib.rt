@@ -1,70 +1,87 @@
-// The lines of replies, written into a list of bytes. Each function answers the place behind what it wrote.
+// The lines of replies, written into a list of bytes one behind the other.
 #![tactic(auto)]
 
-ghost use Rattle.std.specs.Prelude.{◌≡◌, [], ◌∷◌, ◌++◌, ◌+◌, ◌≤◌, length};
-ghost use Rattle.move_ledger.specs.Answer.{refused, acyclic, cyclic, accepted, rejected, number};
+ghost use Rattle.std.specs.Prelude.{◌≡◌, ◌∷◌, ◌++◌, ◌+◌, ◌-◌, ◌≤◌, length};
+ghost use Rattle.move_ledger.specs.Answer.{refused, number};
+ghost use Rattle.refusals.specs.Rows.{row};
 ghost use Rattle.moves_replies.specs.Decimal.{decimal};
-ghost use Rattle.moves_replies.specs.Words.{reply, load_word, line, space};
-ghost use Rattle.moves_replies.specs.Room.{Put};
+ghost use Rattle.moves_replies.specs.Words.{reply, line, space};
+ghost use Rattle.moves_replies.specs.Wrote.{HasRoom, Wrote};
 
-pub fn put(out: &mut [u8], at: usize, text: &[u8]) -> usize
-    requires { at + length text.now ≤ length out.old }
-    ensures { Put text.now out.old at out.new result }
-{
-    let mut i = 0;
-    while i < text.len() {
-        out[at + i] = text[i];
-        i += 1;
+use refusals::Refusal;
+
+// The list that is written into, and the place behind what is written already.
+#[derive(Drop)]
+pub struct Replies<'o> {
+    pub out: &'o mut [u8],
+    pub at: usize,
+}
+
+impl<'o> Replies<'o> {
+    // How many bytes still fit.
+    pub fn room(&self) -> usize
+        requires { HasRoom 0 self.now }
+        ensures { result ≡ length self.now.out.now - self.now.at }
+    {
+        self.out.len() - self.at
     }
-    at + text.len()
-}
 
-// A number in base ten.
-pub fn put_number(out: &mut [u8], at: usize, n: u64) -> usize
-    requires { at + 20 ≤ length out.old }
-    ensures put { Put (decimal n) out.old at out.new result }
-    ensures upper_bound { result ≤ at + 20 }
-{
-    let mut text = [0u8; 20];
-    let k = io::decimal(n, &mut text);
-    put(out, at, &text[..k])
-}
+    pub fn put(&mut self, text: &[u8])
+        requires { HasRoom (length text.now) self.old }
+        ensures { Wrote text.now self.old self.new }
+    {
+        let end = self.at + text.len();
+        self.out[self.at..end].copy_from_slice(text);
+        self.at = end;
+    }
 
-// A number in base ten as a line.
-pub fn put_set(out: &mut [u8], at: usize, n: u64) -> usize
-    requires { at + 21 ≤ length out.old }
-    ensures { Put (line (decimal n)) out.old at out.new result }
-{
-    let p = put_number(out, at, n);
-    put(out, p, b"\n")
-}
+    // A number in base ten.
+    pub fn put_number(&mut self, n: u64)
+        requires { HasRoom 20 self.old }
+        ensures put { Wrote (decimal n) self.old self.new }
+        ensures upper_bound { self.new.at ≤ self.old.at + 20 }
+    {
+        let mut text = [0u8; 20];
+        let k = io::decimal(n, &mut text);
+        self.put(&text[..k]);
+    }
 
-pub fn put_refused(out: &mut [u8], at: usize, row: u32) -> usize
-    requires { at + 64 ≤ length out.old }
-    ensures { Put (reply (refused row)) out.old at out.new result }
-{
-    let p = put(out, at, b"refused ");
-    put_set(out, p, row as u64)
-}
+    // A number in base ten as a line.
+    pub fn put_set(&mut self, n: u64)
+        requires { HasRoom 21 self.old }
+        ensures { Wrote (line (decimal n)) self.old self.new }
+    {
+        self.put_number(n);
+        self.put(b"\n");
+    }
 
-// The count of distinct edges as a line.
-pub fn put_edges(out: &mut [u8], at: usize, n: u64) -> usize
-    requires { at + 64 ≤ length out.old }
-    ensures { Put (reply (number n)) out.old at out.new result }
-{
-    let p = put(out, at, b"edges ");
-    put_set(out, p, n)
-}
+    pub fn put_refused(&mut self, refusal: Refusal)
+        requires { HasRoom 64 self.old }
+        ensures { Wrote (reply (refused (row refusal))) self.old self.new }
+    {
+        self.put(b"refused ");
+        self.put_set(u64::from(refusal.row()));
+    }
 
-// An edge as a line.
-pub fn put_edge(out: &mut [u8], at: usize, from: u64, to: u64, multiplicity: u64) -> usize
-    requires { at + 64 ≤ length out.old }
-    ensures { Put (line (decimal from ++ space ∷ decimal to ++ space ∷ decimal multiplicity)) out.old at out.new result }
-{
-    let p = put_number(out, at, from);
-    let q = put(out, p, b" ");
-    let s = put_number(out, q, to);
-    let t = put(out, s, b" ");
-    let u = put_number(out, t, multiplicity);
-    put(out, u, b"\n")
+    // The count of distinct edges as a line.
+    pub fn put_edges(&mut self, n: u64)
+        requires { HasRoom 64 self.old }
+        ensures { Wrote (reply (number n)) self.old self.new }
+    {
+        self.put(b"edges ");
+        self.put_set(n);
+    }
+
+    // An edge as a line.
+    pub fn put_edge(&mut self, from: u64, to: u64, multiplicity: u64)
+        requires { HasRoom 64 self.old }
+        ensures { Wrote (line (decimal from ++ space ∷ decimal to ++ space ∷ decimal multiplicity)) self.old self.new }
+    {
+        self.put_number(from);
+        self.put(b" ");
+        self.put_number(to);
+        self.put(b" ");
+        self.put_number(multiplicity);
+        self.put(b"\n");
+    }
 }

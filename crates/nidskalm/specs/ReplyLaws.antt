@@ -1,13 +1,12 @@
 -- Replies of calls whose answers are known. Assumes nothing.
-use Rattle.std.specs.Prelude.{ℕ, ◌≡◌, List}
+use Rattle.std.specs.Prelude.{ℕ, ◌≡◌, List, Result, Ok, Err}
 use Rattle.std.proofs.Common.{sym, ap, ◌∙◌}
+use Rattle.refusals.specs.declared.Refusal.{Refusal}
 use Rattle.merge_state.specs.declared.Sizes.{Sizes}
 use Rattle.merge_state.specs.Loading.{Lent}
 use Rattle.merge_state.specs.Table.{Answer, Call}
 use Rattle.merge_area.specs.Calls.{Called, PassCalled, step, candidates, lists_after}
 use Rattle.merge_loading.specs.Loading.{Loaded, load_step}
-use Rattle.chunk_optimizer.specs.declared.PassAnswer.{PassAnswer}
-use Rattle.chunk_optimizer.specs.declared.PassAnswer.TheVariants as passed
 use Rattle.chunk_optimizer.specs.Answers.{pass_told, assigned}
 use Rattle.nidskalm_replies.specs.declared.Reply.{Reply}
 use Rattle.nidskalm_replies.specs.Replies.{answering, merge_reply, pass_reply}
@@ -29,12 +28,12 @@ module _ {z y : Sizes} {n : Lent} {a after : List ℕ} {told : Answer} {r : Repl
   load-left = loaded.area ∙ ap (λ (x : Sizes). (load_step x n a).1) e
 
 -- and for a pass: its count is that of the candidates, as many as each list has
-pass_is : (x : PassAnswer) (l : List ℕ × List ℕ) {s : Answer} → pass_told x l ≡ s → assigned x ≡ candidates s → pass_reply x ≡ merge_reply s
+pass_is : (x : Result ℕ Refusal) (l : List ℕ × List ℕ) {s : Answer} → pass_told x l ≡ s → assigned x ≡ candidates s → pass_reply x ≡ merge_reply s
 unfolding merge_reply candidates
-pass_is (passed.Assigned n) l e count = ap answering (count ∙ ap candidates (sym e)) ∙ ap merge_reply e
-pass_is (passed.Refused q) l e count = ap merge_reply e
+pass_is (Ok n) l e count = ap answering (count ∙ ap candidates (sym e)) ∙ ap merge_reply e
+pass_is (Err r) l e count = ap merge_reply e
 
-module _ {z y : Sizes} {a after : List ℕ} {c : Call} (x : PassAnswer) {before : List ℕ × List ℕ} (left : List ℕ × List ℕ) {r : Reply} (e : z ≡ y) (called : PassCalled z a c before (pass_told x left) (assigned x) after left) (replied : r ≡ pass_reply x) where
+module _ {z y : Sizes} {a after : List ℕ} {c : Call} (x : Result ℕ Refusal) {before : List ℕ × List ℕ} (left : List ℕ × List ℕ) {r : Reply} (e : z ≡ y) (called : PassCalled z a c before (pass_told x left) (assigned x) after left) (replied : r ≡ pass_reply x) where
   pub pass_replied : r ≡ merge_reply (step y a c).0
   pass_replied = replied ∙ pass_is x left called.called.answer called.counted ∙ ap (λ (w : Sizes). merge_reply (step w a c).0) e
 

@@ -1,5 +1,5 @@
-// The C interface of both graphs and of the choice of a merge target, as include/nidskalm.h declares it. A list is a pointer and a length; a reply is returned by value (crates/nidskalm_replies).
-// Here each call is a function for Rattle; crates/nidskalm_c exports it to C under the same name.
+// The calls of both graphs and of the choice of a merge target, each with its reply of the C interface (crates/nidskalm_replies).
+// A call is lent its load, sizes or lists as a struct; crates/nidskalm_c makes it of C's parameters and exports each call under its name.
 #![tactic(auto)]
 
 pub mod merges;

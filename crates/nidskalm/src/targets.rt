@@ -1,106 +1,30 @@
 // The choice of a merge target.
-ghost use Rattle.std.specs.Prelude.{◌≡◌, [], ◌∷◌};
-ghost use Rattle.entry_set.specs.Sets.{value};
+ghost use Rattle.std.specs.Prelude.{◌≡◌};
+ghost use Rattle.entry_set.specs.Sets.{number};
 ghost use Rattle.merge_choice.specs.Find.{find, find_by};
-ghost use Rattle.merge_choice.specs.Chosen.{lent};
+ghost use Rattle.merge_target.specs.Lent.{lent_by};
 ghost use Rattle.nidskalm_replies.specs.Replies.{merge_reply};
 
-use entry_set::EntrySet;
-use merge_target::Counts;
-use nidskalm_replies::{Reply, of_target};
+use merge_target::{Bundle, Candidate};
+use nidskalm_replies::{Reply, of_chunk};
 
 // The chunk that a candidate may be merged into, or 4,294,967,295.
-#[unsafe(no_mangle)]
-pub extern "C" fn nidskalm_chunk_optimization_graph_merge_target(
-    k: u64,
-    m: u64,
-    kinds: &[u32],
-    entries: &[u32],
-    mstarts: &[u32],
-    modules: &[u32],
-    istarts: &[u32],
-    importers: &[u32],
-    dstarts: &[u32],
-    dynamics: &[u32],
-    rstarts: &[u32],
-    reached: &[u32],
-    effects: &[u32],
-    exports: &[u32],
-    candidate: &[u32],
-    set0: u64,
-    set1: u64,
-    set2: u64,
-    set3: u64,
+pub fn nidskalm_chunk_optimization_graph_merge_target(
+    bundle: &Bundle,
+    candidate: &Candidate,
 ) -> Reply
-    ensures { result ≡ merge_reply (find k m kinds.now (value (set0 ∷ set1 ∷ set2 ∷ set3 ∷ [])) (lent entries.now mstarts.now modules.now istarts.now importers.now dstarts.now dynamics.now rstarts.now reached.now effects.now exports.now candidate.now)) }
+    ensures { result ≡ merge_reply (find bundle.now.chunks bundle.now.modules bundle.now.kinds.now (number candidate.now.set) (lent_by bundle.now candidate.now)) }
 {
-    of_target(merge_target::merge_target(
-        Counts {
-            chunks: k as usize,
-            modules: m as usize,
-        },
-        kinds,
-        entries,
-        mstarts,
-        modules,
-        istarts,
-        importers,
-        dstarts,
-        dynamics,
-        rstarts,
-        reached,
-        effects,
-        exports,
-        candidate,
-        EntrySet(set0, set1, set2, set3),
-    ))
+    of_chunk(merge_target::merge_target(bundle, candidate))
 }
 
 // The same by a bank's own classes of the entry kinds.
-#[unsafe(no_mangle)]
-pub extern "C" fn nidskalm_chunk_optimization_graph_merge_target_by_classes(
-    k: u64,
-    m: u64,
-    kinds: &[u32],
-    entries: &[u32],
-    mstarts: &[u32],
-    modules: &[u32],
-    istarts: &[u32],
-    importers: &[u32],
-    dstarts: &[u32],
-    dynamics: &[u32],
-    rstarts: &[u32],
-    reached: &[u32],
-    effects: &[u32],
-    exports: &[u32],
-    candidate: &[u32],
-    set0: u64,
-    set1: u64,
-    set2: u64,
-    set3: u64,
+pub fn nidskalm_chunk_optimization_graph_merge_target_by_classes(
+    bundle: &Bundle,
+    candidate: &Candidate,
     classes: &[u32],
 ) -> Reply
-    ensures { result ≡ merge_reply (find_by classes.now k m kinds.now (value (set0 ∷ set1 ∷ set2 ∷ set3 ∷ [])) (lent entries.now mstarts.now modules.now istarts.now importers.now dstarts.now dynamics.now rstarts.now reached.now effects.now exports.now candidate.now)) }
+    ensures { result ≡ merge_reply (find_by classes.now bundle.now.chunks bundle.now.modules bundle.now.kinds.now (number candidate.now.set) (lent_by bundle.now candidate.now)) }
 {
-    of_target(merge_target::merge_target_by_classes(
-        Counts {
-            chunks: k as usize,
-            modules: m as usize,
-        },
-        kinds,
-        entries,
-        mstarts,
-        modules,
-        istarts,
-        importers,
-        dstarts,
-        dynamics,
-        rstarts,
-        reached,
-        effects,
-        exports,
-        candidate,
-        EntrySet(set0, set1, set2, set3),
-        classes,
-    ))
+    of_chunk(merge_target::merge_target_by_classes(bundle, candidate, classes))
 }

@@ -6,7 +6,21 @@ ghost use Rattle.merge_loading.specs.Loading.{lent, load_step};
 ghost use Rattle.nidskalm_replies.specs.Replies.{merge_reply};
 ghost use Rattle.nidskalm.specs.Sized.{sized};
 
+use merge_loading::Loading;
+use merge_state::{ChunkIdx, ModuleIdx, Sizes};
 use nidskalm_replies::Reply;
+
+// The four sizes in one.
+fn sizes(c: u64, m: u64, l: u64, e: u64) -> Sizes
+    ensures { result ≡ sized c m l e }
+{
+    Sizes {
+        chunks: c as usize,
+        modules: m as usize,
+        entries: l as usize,
+        bits: e as usize,
+    }
+}
 
 // Loads each initial chunk's modules, and pairs of a set and its chunk; where mode isn't 0, merged chunks stand for their target.
 #[unsafe(no_mangle)]
@@ -27,9 +41,16 @@ pub extern "C" fn nidskalm_chunk_optimization_graph_new(
     ensures value { result ≡ merge_reply (load_step (sized c m l e) (lent initial starts.now modules.now sets.now chunks.now effects.now mode) area.old).0 }
     ensures area_after { area.new ≡ (load_step (sized c m l e) (lent initial starts.now modules.now sets.now chunks.now effects.now mode) area.old).1 }
 {
-    nidskalm::merges::nidskalm_chunk_optimization_graph_new(
-        c, m, l, e, initial, mode, starts, modules, sets, chunks, effects, area,
-    )
+    let loading = Loading {
+        initial: initial as usize,
+        starts,
+        modules,
+        sets,
+        chunks,
+        effects,
+        follows_merges: mode != 0,
+    };
+    nidskalm::merges::nidskalm_chunk_optimization_graph_new(sizes(c, m, l, e), area, &loading)
 }
 
 // Lists a module with the chunk of its set, or with a new chunk that needs creation.
@@ -48,7 +69,11 @@ pub extern "C" fn nidskalm_chunk_optimization_graph_init_module_assignment(
     ensures area_after { area.new ≡ (step (sized c m l e) area.old (init_module_assignment idx bits.now effects.now)).1 }
 {
     nidskalm::merges::nidskalm_chunk_optimization_graph_init_module_assignment(
-        c, m, l, e, area, idx, bits, effects,
+        sizes(c, m, l, e),
+        area,
+        ModuleIdx(idx),
+        bits,
+        effects,
     )
 }
 
@@ -68,7 +93,11 @@ pub extern "C" fn nidskalm_chunk_optimization_graph_add_module_to_chunk(
     ensures area_after { area.new ≡ (step (sized c m l e) area.old (add_module_to_chunk idx chunk effects.now)).1 }
 {
     nidskalm::merges::nidskalm_chunk_optimization_graph_add_module_to_chunk(
-        c, m, l, e, area, idx, chunk, effects,
+        sizes(c, m, l, e),
+        area,
+        ModuleIdx(idx),
+        ChunkIdx(chunk),
+        effects,
     )
 }
 
@@ -87,7 +116,10 @@ pub extern "C" fn nidskalm_chunk_optimization_graph_register_chunk_graph_index(
     ensures area_after { area.new ≡ (step (sized c m l e) area.old (register_chunk_graph_index key chunk)).1 }
 {
     nidskalm::merges::nidskalm_chunk_optimization_graph_register_chunk_graph_index(
-        c, m, l, e, area, key, chunk,
+        sizes(c, m, l, e),
+        area,
+        ChunkIdx(key),
+        ChunkIdx(chunk),
     )
 }
 
@@ -103,7 +135,11 @@ pub extern "C" fn nidskalm_chunk_optimization_graph_to_temp_idx(
 ) -> Reply
     ensures { result ≡ merge_reply (step (sized c m l e) area.now (to_temp_idx key)).0 }
 {
-    nidskalm::merges::nidskalm_chunk_optimization_graph_to_temp_idx(c, m, l, e, area, key)
+    nidskalm::merges::nidskalm_chunk_optimization_graph_to_temp_idx(
+        sizes(c, m, l, e),
+        area,
+        ChunkIdx(key),
+    )
 }
 
 // Adds to each chunk's dependencies those that the module dependencies give.
@@ -121,10 +157,7 @@ pub extern "C" fn nidskalm_chunk_optimization_graph_calc_chunk_dependencies(
     ensures area_after { area.new ≡ (step (sized c m l e) area.old (calc_chunk_dependencies starts.now dependencies.now)).1 }
 {
     nidskalm::merges::nidskalm_chunk_optimization_graph_calc_chunk_dependencies(
-        c,
-        m,
-        l,
-        e,
+        sizes(c, m, l, e),
         area,
         starts,
         dependencies,
@@ -145,7 +178,10 @@ pub extern "C" fn nidskalm_chunk_optimization_graph_would_create_circular_depend
     ensures { result ≡ merge_reply (step (sized c m l e) area.now (would_create_circular_dependency source target)).0 }
 {
     nidskalm::merges::nidskalm_chunk_optimization_graph_would_create_circular_dependency(
-        c, m, l, e, area, source, target,
+        sizes(c, m, l, e),
+        area,
+        ChunkIdx(source),
+        ChunkIdx(target),
     )
 }
 
@@ -162,7 +198,12 @@ pub extern "C" fn nidskalm_chunk_optimization_graph_is_reachable(
 ) -> Reply
     ensures { result ≡ merge_reply (step (sized c m l e) area.now (is_reachable from to)).0 }
 {
-    nidskalm::merges::nidskalm_chunk_optimization_graph_is_reachable(c, m, l, e, area, from, to)
+    nidskalm::merges::nidskalm_chunk_optimization_graph_is_reachable(
+        sizes(c, m, l, e),
+        area,
+        ChunkIdx(from),
+        ChunkIdx(to),
+    )
 }
 
 // The target takes over the source's dependencies and side effects.
@@ -180,7 +221,10 @@ pub extern "C" fn nidskalm_chunk_optimization_graph_merge_chunk_dependencies(
     ensures area_after { area.new ≡ (step (sized c m l e) area.old (merge_chunk_dependencies target source)).1 }
 {
     nidskalm::merges::nidskalm_chunk_optimization_graph_merge_chunk_dependencies(
-        c, m, l, e, area, target, source,
+        sizes(c, m, l, e),
+        area,
+        ChunkIdx(target),
+        ChunkIdx(source),
     )
 }
 
@@ -202,6 +246,11 @@ pub extern "C" fn nidskalm_chunk_optimization_graph_pass(
     ensures numbers_after { (kinds.new, numbers.new) ≡ lists_after (step (sized c m l e) area.old (pass proposals.now bars.now kinds.old numbers.old)).0 (kinds.old, numbers.old) }
 {
     nidskalm::merges::nidskalm_chunk_optimization_graph_pass(
-        c, m, l, e, area, proposals, bars, kinds, numbers,
+        sizes(c, m, l, e),
+        area,
+        proposals,
+        bars,
+        kinds,
+        numbers,
     )
 }

@@ -2,13 +2,36 @@
 ghost use Rattle.std.specs.Prelude.{◌≡◌};
 ghost use Rattle.move_ledger.specs.Graph.{lent};
 ghost use Rattle.move_ledger.specs.Ledger as ledger;
+ghost use Rattle.move_load_view.specs.View.{lent_by};
 ghost use Rattle.move_area.specs.Calls as calls;
 ghost use Rattle.move_order.specs.Order.{started};
 ghost use Rattle.move_rank.specs.Ranking.{ranking};
 ghost use Rattle.nidskalm_replies.specs.Replies.{move_reply, try_reply, set_reply, edge_reply, freedom_reply};
 ghost use Rattle.plan_freedom.specs.Told.{told};
 
+use move_load_view::Load;
 use nidskalm_replies::{EdgeReply, FreedomReply, MoveReply, Reply, SetReply};
+
+// The load that a call is lent, as one.
+fn lent<'l>(
+    a: u64,
+    d: u64,
+    e: u64,
+    starts: &'l [u32],
+    dependencies: &'l [u32],
+    hosts: &'l [u32],
+) -> Load<'l>
+    ensures { lent_by result ≡ lent a d e starts.now dependencies.now hosts.now }
+{
+    Load {
+        atoms: a as usize,
+        entries: d as usize,
+        bits: e as usize,
+        starts,
+        dependencies,
+        hosts,
+    }
+}
 
 // Loads a graph: 0 where it is acyclic, 1 where it is cyclic.
 #[unsafe(no_mangle)]
@@ -27,18 +50,8 @@ pub extern "C" fn nidskalm_reduced_chunk_graph_new(
     ensures value { result ≡ move_reply (calls.new (lent a d e starts.now dependencies.now hosts.now) fixed.now n sets.now area.old).answer }
     ensures area_after { area.new ≡ (calls.new (lent a d e starts.now dependencies.now hosts.now) fixed.now n sets.now area.old).area }
 {
-    nidskalm::moves::nidskalm_reduced_chunk_graph_new(
-        a,
-        d,
-        e,
-        n,
-        starts,
-        dependencies,
-        hosts,
-        fixed,
-        sets,
-        area,
-    )
+    let load = lent(a, d, e, starts, dependencies, hosts);
+    nidskalm::moves::nidskalm_reduced_chunk_graph_new(&load, n, fixed, sets, area)
 }
 
 // Moves an atom to a set if no cycle arises: how many distinct edges then appear and vanish, and how many other chunks
@@ -60,19 +73,8 @@ pub extern "C" fn nidskalm_reduced_chunk_graph_try_move(
     ensures value { result ≡ try_reply (calls.try_move (lent a d e starts.now dependencies.now hosts.now) fixed.now n area.old atom bits.now).answer }
     ensures area_after { area.new ≡ (calls.try_move (lent a d e starts.now dependencies.now hosts.now) fixed.now n area.old atom bits.now).area }
 {
-    nidskalm::moves::nidskalm_reduced_chunk_graph_try_move(
-        a,
-        d,
-        e,
-        n,
-        starts,
-        dependencies,
-        hosts,
-        fixed,
-        area,
-        atom,
-        bits,
-    )
+    let load = lent(a, d, e, starts, dependencies, hosts);
+    nidskalm::moves::nidskalm_reduced_chunk_graph_try_move(&load, n, fixed, area, atom, bits)
 }
 
 // An atom's set.
@@ -91,18 +93,8 @@ pub extern "C" fn nidskalm_reduced_chunk_graph_atom_set(
 ) -> SetReply
     ensures { result ≡ set_reply (calls.asked (lent a d e starts.now dependencies.now hosts.now) fixed.now n area.now (ledger.atom_set atom)) }
 {
-    nidskalm::moves::nidskalm_reduced_chunk_graph_atom_set(
-        a,
-        d,
-        e,
-        n,
-        starts,
-        dependencies,
-        hosts,
-        fixed,
-        area,
-        atom,
-    )
+    let load = lent(a, d, e, starts, dependencies, hosts);
+    nidskalm::moves::nidskalm_reduced_chunk_graph_atom_set(&load, n, fixed, area, atom)
 }
 
 // A set's atom count.
@@ -121,18 +113,8 @@ pub extern "C" fn nidskalm_reduced_chunk_graph_atom_count(
 ) -> Reply
     ensures { result ≡ move_reply (calls.asked (lent a d e starts.now dependencies.now hosts.now) fixed.now n area.now (ledger.atom_count bits.now)) }
 {
-    nidskalm::moves::nidskalm_reduced_chunk_graph_atom_count(
-        a,
-        d,
-        e,
-        n,
-        starts,
-        dependencies,
-        hosts,
-        fixed,
-        area,
-        bits,
-    )
+    let load = lent(a, d, e, starts, dependencies, hosts);
+    nidskalm::moves::nidskalm_reduced_chunk_graph_atom_count(&load, n, fixed, area, bits)
 }
 
 // The multiplicity of the edge from one set to another.
@@ -152,19 +134,8 @@ pub extern "C" fn nidskalm_reduced_chunk_graph_multiplicity(
 ) -> Reply
     ensures { result ≡ move_reply (calls.asked (lent a d e starts.now dependencies.now hosts.now) fixed.now n area.now (ledger.multiplicity from.now to.now)) }
 {
-    nidskalm::moves::nidskalm_reduced_chunk_graph_multiplicity(
-        a,
-        d,
-        e,
-        n,
-        starts,
-        dependencies,
-        hosts,
-        fixed,
-        area,
-        from,
-        to,
-    )
+    let load = lent(a, d, e, starts, dependencies, hosts);
+    nidskalm::moves::nidskalm_reduced_chunk_graph_multiplicity(&load, n, fixed, area, from, to)
 }
 
 // The number of distinct edges.
@@ -182,17 +153,8 @@ pub extern "C" fn nidskalm_reduced_chunk_graph_edge_count(
 ) -> Reply
     ensures { result ≡ move_reply (calls.asked (lent a d e starts.now dependencies.now hosts.now) fixed.now n area.now ledger.edge_count) }
 {
-    nidskalm::moves::nidskalm_reduced_chunk_graph_edge_count(
-        a,
-        d,
-        e,
-        n,
-        starts,
-        dependencies,
-        hosts,
-        fixed,
-        area,
-    )
+    let load = lent(a, d, e, starts, dependencies, hosts);
+    nidskalm::moves::nidskalm_reduced_chunk_graph_edge_count(&load, n, fixed, area)
 }
 
 // The number of chunks: sets that have an atom.
@@ -210,17 +172,8 @@ pub extern "C" fn nidskalm_reduced_chunk_graph_chunk_count(
 ) -> Reply
     ensures { result ≡ move_reply (calls.asked (lent a d e starts.now dependencies.now hosts.now) fixed.now n area.now ledger.chunk_count) }
 {
-    nidskalm::moves::nidskalm_reduced_chunk_graph_chunk_count(
-        a,
-        d,
-        e,
-        n,
-        starts,
-        dependencies,
-        hosts,
-        fixed,
-        area,
-    )
+    let load = lent(a, d, e, starts, dependencies, hosts);
+    nidskalm::moves::nidskalm_reduced_chunk_graph_chunk_count(&load, n, fixed, area)
 }
 
 // The k-th edge, from 0, by rising source set, then target set.
@@ -239,18 +192,8 @@ pub extern "C" fn nidskalm_reduced_chunk_graph_edge_at(
 ) -> EdgeReply
     ensures { result ≡ edge_reply (calls.asked (lent a d e starts.now dependencies.now hosts.now) fixed.now n area.now (ledger.edge_at k)) }
 {
-    nidskalm::moves::nidskalm_reduced_chunk_graph_edge_at(
-        a,
-        d,
-        e,
-        n,
-        starts,
-        dependencies,
-        hosts,
-        fixed,
-        area,
-        k,
-    )
+    let load = lent(a, d, e, starts, dependencies, hosts);
+    nidskalm::moves::nidskalm_reduced_chunk_graph_edge_at(&load, n, fixed, area, k)
 }
 
 // Ranks the placements of two areas: 0 where the first comes before the second, 1 where they are equal, 2 where it comes after.
@@ -269,18 +212,8 @@ pub extern "C" fn nidskalm_reduced_chunk_graph_rank(
 ) -> Reply
     ensures { result ≡ move_reply (ranking (lent a d e starts.now dependencies.now hosts.now) fixed.now n first.now second.now) }
 {
-    nidskalm::moves::nidskalm_reduced_chunk_graph_rank(
-        a,
-        d,
-        e,
-        n,
-        starts,
-        dependencies,
-        hosts,
-        fixed,
-        first,
-        second,
-    )
+    let load = lent(a, d, e, starts, dependencies, hosts);
+    nidskalm::moves::nidskalm_reduced_chunk_graph_rank(&load, n, fixed, first, second)
 }
 
 // Whether there is a cycle, by the book's search: 0 where there is none, 1 where there is one.
@@ -298,17 +231,8 @@ pub extern "C" fn nidskalm_reduced_chunk_graph_has_cycle(
 ) -> Reply
     ensures { result ≡ move_reply (calls.asked (lent a d e starts.now dependencies.now hosts.now) fixed.now n area.now ledger.has_cycle) }
 {
-    nidskalm::moves::nidskalm_reduced_chunk_graph_has_cycle(
-        a,
-        d,
-        e,
-        n,
-        starts,
-        dependencies,
-        hosts,
-        fixed,
-        area,
-    )
+    let load = lent(a, d, e, starts, dependencies, hosts);
+    nidskalm::moves::nidskalm_reduced_chunk_graph_has_cycle(&load, n, fixed, area)
 }
 
 // The chunks to fetch for an entry bit, each behind all that its edges lead to, by their lowest atoms: how many there are.
@@ -329,19 +253,8 @@ pub extern "C" fn nidskalm_reduced_chunk_graph_start_order(
     ensures value { result ≡ move_reply (started (lent a d e starts.now dependencies.now hosts.now) fixed.now n area.now bit chunks.old).answer }
     ensures chunks_after { chunks.new ≡ (started (lent a d e starts.now dependencies.now hosts.now) fixed.now n area.now bit chunks.old).chunks }
 {
-    nidskalm::moves::nidskalm_reduced_chunk_graph_start_order(
-        a,
-        d,
-        e,
-        n,
-        starts,
-        dependencies,
-        hosts,
-        fixed,
-        area,
-        bit,
-        chunks,
-    )
+    let load = lent(a, d, e, starts, dependencies, hosts);
+    nidskalm::moves::nidskalm_reduced_chunk_graph_start_order(&load, n, fixed, area, bit, chunks)
 }
 
 // For every atom and every occupied set other than its own, how many moves would be accepted, rejected, or refused as the atom is fixed.
@@ -359,15 +272,6 @@ pub extern "C" fn nidskalm_reduced_chunk_graph_freedom(
 ) -> FreedomReply
     ensures { result ≡ freedom_reply (told (lent a d e starts.now dependencies.now hosts.now) fixed.now n area.now) }
 {
-    nidskalm::moves::nidskalm_reduced_chunk_graph_freedom(
-        a,
-        d,
-        e,
-        n,
-        starts,
-        dependencies,
-        hosts,
-        fixed,
-        area,
-    )
+    let load = lent(a, d, e, starts, dependencies, hosts);
+    nidskalm::moves::nidskalm_reduced_chunk_graph_freedom(&load, n, fixed, area)
 }

@@ -1,14 +1,13 @@
 -- What the replies of the C interface say, field by field. Assumes nothing.
-use Rattle.std.specs.Prelude.{ℕ, cond, List, [], length, get_or}
+use Rattle.std.specs.Prelude.{ℕ, cond, List, [], Result, Ok, Err, length, get_or}
+use Rattle.refusals.specs.declared.Refusal.{Refusal}
+use Rattle.refusals.specs.Rows.{row}
 use Rattle.entry_set.specs.Sets.{entry_set}
 use Rattle.entry_set.specs.declared.EntrySet.{EntrySet}
-use Rattle.move_ledger.specs.Graph.{Edge}
 use Rattle.move_ledger.specs.Answer as moved
 use Rattle.plan_freedom.specs.Told as told
 use Rattle.merge_state.specs.State.{None}
 use Rattle.merge_state.specs.Table as merged
-use Rattle.chunk_optimizer.specs.declared.PassAnswer.{PassAnswer}
-use Rattle.chunk_optimizer.specs.declared.PassAnswer.TheVariants as passed
 use Rattle.nidskalm_replies.specs.declared.Reply.{Reply}
 use Rattle.nidskalm_replies.specs.declared.MoveReply.{MoveReply}
 use Rattle.nidskalm_replies.specs.declared.SetReply.{SetReply}
@@ -109,6 +108,6 @@ merge_reply merged.nothing = answering None
 merge_reply (merged.lists kinds numbers) = answering (length kinds)
 
 -- the pass's own answer, without its lists
-abbrev pub pass_reply : PassAnswer → Reply
-pass_reply (passed.Assigned n) = answering n
-pass_reply (passed.Refused q) = refusing q
+abbrev pub pass_reply : Result ℕ Refusal → Reply
+pass_reply (Ok n) = answering n
+pass_reply (Err r) = refusing (row r)

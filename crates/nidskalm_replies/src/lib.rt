@@ -1,25 +1,27 @@
 // The replies of the C interface, and what each is of the answers of both graphs and of the choice of a merge target.
 #![tactic(auto)]
 
-ghost use Rattle.std.specs.Prelude.{◌≡◌, [], ◌∷◌};
+ghost use Rattle.std.specs.Prelude.{◌≡◌};
 ghost use Rattle.reduced_chunk_graph.specs.Answers.{of_load, of_move, of_set, of_number, of_rank, of_edge};
 ghost use Rattle.chunk_optimizer.specs.Answers.{done_told, temp_told, said_told};
 ghost use Rattle.merge_target.specs.Answers.{target_told};
 ghost use Rattle.plan_freedom.specs.Told.{of_freedom};
-ghost use Rattle.entry_set.specs.Sets.{value};
-ghost use Rattle.chunk_optimizer.specs.declared.TempIdxAnswer.TheVariants as temps;
-ghost use Rattle.nidskalm_replies.specs.Replies.{refusing, answering, moving, no_edge, an_edge, move_reply, try_reply, set_reply, edge_reply, freedom_reply, merge_reply, pass_reply};
+ghost use Rattle.entry_set.specs.Sets.{number};
+ghost use Rattle.refusals.specs.Rows.{row};
+ghost use Rattle.nidskalm_replies.specs.Replies.{refusing, answering, an_edge, move_reply, try_reply, set_reply, edge_reply, freedom_reply, merge_reply, pass_reply};
 
-use chunk_optimizer::{DoneAnswer, OptionChunkIdx, PassAnswer, TempIdxAnswer, YesNoAnswer};
-use merge_target::TargetAnswer;
-use plan_freedom::FreedomAnswer;
-use reduced_chunk_graph::{
-    EdgeAnswer, LoadAnswer, MoveAnswer, NumberAnswer, RankAnswer, SetAnswer,
-};
+use entry_set::EntrySet;
+use merge_state::{ChunkIdx, NONE};
+use move_freedom::Counts;
+use move_questions::Edge;
+use move_try::Moved;
+use reduced_chunk_graph::Verdict;
+use refusals::Refusal;
+use std::cmp::Ordering;
 
 // `refusal` is 0 or the number of the row that refuses the call, here and below; the other fields are 0 when refused.
 #[repr(C)]
-#[derive(Clone, Copy)]
+#[derive(Clone, Copy, PartialEq, Eq, Debug, Default)]
 pub struct Reply {
     pub refusal: u64,
     pub value: u64,
@@ -28,7 +30,7 @@ pub struct Reply {
 // `accepted` is 1 or 0; where it is 1, how many distinct edges appeared and vanished, and how many other chunks the atom's
 // chunk then reaches.
 #[repr(C)]
-#[derive(Clone, Copy)]
+#[derive(Clone, Copy, PartialEq, Eq, Debug, Default)]
 pub struct MoveReply {
     pub refusal: u64,
     pub accepted: u64,
@@ -39,7 +41,7 @@ pub struct MoveReply {
 
 // A set is four numbers, the lowest first.
 #[repr(C)]
-#[derive(Clone, Copy)]
+#[derive(Clone, Copy, PartialEq, Eq, Debug, Default)]
 pub struct SetReply {
     pub refusal: u64,
     pub set0: u64,
@@ -50,7 +52,7 @@ pub struct SetReply {
 
 // `found` is 1, or 0 past the last edge.
 #[repr(C)]
-#[derive(Clone, Copy)]
+#[derive(Clone, Copy, PartialEq, Eq, Debug, Default)]
 pub struct EdgeReply {
     pub refusal: u64,
     pub found: u64,
@@ -67,7 +69,7 @@ pub struct EdgeReply {
 
 // For every atom and every occupied set other than its own, how many moves would be accepted, rejected, or refused as the atom is fixed.
 #[repr(C)]
-#[derive(Clone, Copy)]
+#[derive(Clone, Copy, PartialEq, Eq, Debug, Default)]
 pub struct FreedomReply {
     pub refusal: u64,
     pub accepted: u64,
@@ -75,12 +77,12 @@ pub struct FreedomReply {
     pub fixed: u64,
 }
 
-// Row q refuses the call.
-fn refused(q: u32) -> Reply
-    ensures { result ≡ refusing q }
+// A row refuses the call.
+fn refused(refusal: Refusal) -> Reply
+    ensures { result ≡ refusing (row refusal) }
 {
     Reply {
-        refusal: q as u64,
+        refusal: u64::from(refusal.row()),
         value: 0,
     }
 }
@@ -89,240 +91,172 @@ fn refused(q: u32) -> Reply
 fn answered(value: u64) -> Reply
     ensures { result ≡ answering value }
 {
-    Reply {
-        refusal: 0,
-        value: value,
-    }
+    Reply { refusal: 0, value }
 }
 
-pub fn of_load(answer: LoadAnswer) -> Reply
+#[tactic(auto, unfolding(crate::specs::Replies::move_reply))]
+pub fn of_load(answer: Result<Verdict, Refusal>) -> Reply
     ensures { result ≡ move_reply (of_load answer) }
 {
     match answer {
-        LoadAnswer::Acyclic => answered(0),
-        LoadAnswer::Cyclic => answered(1),
-        LoadAnswer::Refused(q) => refused(q),
+        Ok(Verdict::Acyclic) => answered(0),
+        Ok(Verdict::Cyclic) => answered(1),
+        Err(refusal) => refused(refusal),
     }
 }
 
-// The move isn't refused.
-fn tried(accepted: u64, appeared: u64, vanished: u64, reached: u64) -> MoveReply
-    ensures { result ≡ moving accepted appeared vanished reached }
-{
-    MoveReply {
-        refusal: 0,
-        accepted: accepted,
-        appeared: appeared,
-        vanished: vanished,
-        reached: reached,
-    }
-}
-
-pub fn of_move(answer: MoveAnswer) -> MoveReply
+#[tactic(auto, unfolding(crate::specs::Replies::try_reply))]
+pub fn of_move(answer: Result<Option<Moved>, Refusal>) -> MoveReply
     ensures { result ≡ try_reply (of_move answer) }
 {
     match answer {
-        MoveAnswer::Accepted(moved) => tried(
-            1,
-            moved.appeared as u64,
-            moved.vanished as u64,
-            moved.reached as u64,
-        ),
-        MoveAnswer::Rejected => tried(0, 0, 0, 0),
-        MoveAnswer::Refused(q) => MoveReply {
-            refusal: q as u64,
-            accepted: 0,
-            appeared: 0,
-            vanished: 0,
-            reached: 0,
+        Ok(Some(moved)) => MoveReply {
+            refusal: 0,
+            accepted: 1,
+            appeared: u64::from(moved.appeared),
+            vanished: u64::from(moved.vanished),
+            reached: u64::from(moved.reached),
+        },
+        Ok(None) => MoveReply::default(),
+        Err(refusal) => MoveReply {
+            refusal: u64::from(refusal.row()),
+            ..MoveReply::default()
         },
     }
 }
 
-pub fn of_freedom(answer: FreedomAnswer) -> FreedomReply
+#[tactic(auto, unfolding(crate::specs::Replies::freedom_reply))]
+pub fn of_freedom(answer: Result<Counts, Refusal>) -> FreedomReply
     ensures { result ≡ freedom_reply (of_freedom answer) }
 {
     match answer {
-        FreedomAnswer::Counts(counts) => FreedomReply {
+        Ok(counts) => FreedomReply {
             refusal: 0,
             accepted: counts.accepted,
             rejected: counts.rejected,
             fixed: counts.fixed,
         },
-        FreedomAnswer::Refused(q) => FreedomReply {
-            refusal: q as u64,
-            accepted: 0,
-            rejected: 0,
-            fixed: 0,
+        Err(refusal) => FreedomReply {
+            refusal: u64::from(refusal.row()),
+            ..FreedomReply::default()
         },
     }
 }
 
-pub fn of_number(answer: NumberAnswer) -> Reply
+#[tactic(auto, unfolding(crate::specs::Replies::move_reply))]
+pub fn of_number(answer: Result<u64, Refusal>) -> Reply
     ensures { result ≡ move_reply (of_number answer) }
 {
     match answer {
-        NumberAnswer::Number(k) => answered(k),
-        NumberAnswer::Refused(q) => refused(q),
+        Ok(number) => answered(number),
+        Err(refusal) => refused(refusal),
     }
 }
 
-pub fn of_rank(answer: RankAnswer) -> Reply
+#[tactic(auto, unfolding(crate::specs::Replies::move_reply))]
+pub fn of_rank(answer: Result<Ordering, Refusal>) -> Reply
     ensures { result ≡ move_reply (of_rank answer) }
 {
     match answer {
-        RankAnswer::Before => answered(0),
-        RankAnswer::Equal => answered(1),
-        RankAnswer::After => answered(2),
-        RankAnswer::Refused(q) => refused(q),
+        Ok(Ordering::Less) => answered(0),
+        Ok(Ordering::Equal) => answered(1),
+        Ok(Ordering::Greater) => answered(2),
+        Err(refusal) => refused(refusal),
     }
 }
 
-pub fn of_set(answer: SetAnswer) -> SetReply
+#[tactic(auto, unfolding(crate::specs::Replies::set_reply))]
+pub fn of_set(answer: Result<EntrySet, Refusal>) -> SetReply
     ensures { result ≡ set_reply (of_set answer) }
 {
     match answer {
-        SetAnswer::Set(s) => SetReply {
+        Ok(set) => SetReply {
             refusal: 0,
-            set0: s.0,
-            set1: s.1,
-            set2: s.2,
-            set3: s.3,
+            set0: set.0,
+            set1: set.1,
+            set2: set.2,
+            set3: set.3,
         },
-        SetAnswer::Refused(q) => SetReply {
-            refusal: q as u64,
-            set0: 0,
-            set1: 0,
-            set2: 0,
-            set3: 0,
+        Err(refusal) => SetReply {
+            refusal: u64::from(refusal.row()),
+            ..SetReply::default()
         },
     }
 }
 
-// An edge reply without an edge.
-fn no_edge(refusal: u64) -> EdgeReply
-    ensures { result ≡ no_edge refusal }
+// An edge reply with an edge.
+fn found(edge: Edge) -> EdgeReply
+    ensures { result ≡ an_edge (number edge.from) (number edge.to) edge.multiplicity }
 {
-    EdgeReply {
-        refusal: refusal,
-        found: 0,
-        from0: 0,
-        from1: 0,
-        from2: 0,
-        from3: 0,
-        to0: 0,
-        to1: 0,
-        to2: 0,
-        to3: 0,
-        multiplicity: 0,
-    }
-}
-
-// An edge reply with an edge, from the numbers f0 to f3 of its source and t0 to t3 of its target.
-fn found(
-    f0: u64,
-    f1: u64,
-    f2: u64,
-    f3: u64,
-    t0: u64,
-    t1: u64,
-    t2: u64,
-    t3: u64,
-    multiplicity: u64,
-) -> EdgeReply
-    ensures { result ≡ an_edge (value (f0 ∷ f1 ∷ f2 ∷ f3 ∷ [])) (value (t0 ∷ t1 ∷ t2 ∷ t3 ∷ [])) multiplicity }
-{
+    let from = edge.from;
+    let to = edge.to;
     EdgeReply {
         refusal: 0,
         found: 1,
-        from0: f0,
-        from1: f1,
-        from2: f2,
-        from3: f3,
-        to0: t0,
-        to1: t1,
-        to2: t2,
-        to3: t3,
-        multiplicity: multiplicity,
+        from0: from.0,
+        from1: from.1,
+        from2: from.2,
+        from3: from.3,
+        to0: to.0,
+        to1: to.1,
+        to2: to.2,
+        to3: to.3,
+        multiplicity: u64::from(edge.multiplicity),
     }
 }
 
-pub fn of_edge(answer: EdgeAnswer) -> EdgeReply
+#[tactic(auto, unfolding(crate::specs::Replies::edge_reply))]
+pub fn of_edge(answer: Result<Option<Edge>, Refusal>) -> EdgeReply
     ensures { result ≡ edge_reply (of_edge answer) }
 {
     match answer {
-        EdgeAnswer::Found(edge) => {
-            let from = edge.from;
-            let to = edge.to;
-            found(
-                from.0,
-                from.1,
-                from.2,
-                from.3,
-                to.0,
-                to.1,
-                to.2,
-                to.3,
-                edge.multiplicity as u64,
-            )
-        }
-        EdgeAnswer::None => no_edge(0),
-        EdgeAnswer::Refused(q) => no_edge(q as u64),
+        Ok(Some(edge)) => found(edge),
+        Ok(None) => EdgeReply::default(),
+        Err(refusal) => EdgeReply {
+            refusal: u64::from(refusal.row()),
+            ..EdgeReply::default()
+        },
     }
 }
 
-pub fn of_done(answer: DoneAnswer) -> Reply
+#[tactic(auto, unfolding(crate::specs::Replies::merge_reply))]
+pub fn of_done(answer: Result<(), Refusal>) -> Reply
     ensures { result ≡ merge_reply (done_told answer) }
 {
     match answer {
-        DoneAnswer::Done => answered(0),
-        DoneAnswer::Refused(q) => refused(q),
+        Ok(()) => answered(0),
+        Err(refusal) => refused(refusal),
     }
 }
 
-// A chunk's number, or 4,294,967,295.
-fn of_option(chunk: OptionChunkIdx) -> Reply
-    ensures { result ≡ merge_reply (temp_told (temps.Is chunk)) }
-{
-    match chunk {
-        OptionChunkIdx::Some(x) => answered(x.0 as u64),
-        OptionChunkIdx::None => answered(4294967295),
-    }
-}
-
-pub fn of_temp(answer: TempIdxAnswer) -> Reply
-    ensures { result ≡ merge_reply (temp_told answer) }
+// A chunk's number, or 4,294,967,295: the chunk of a key, and the target of a merge.
+#[tactic(auto, unfolding(crate::specs::Replies::merge_reply))]
+pub fn of_chunk(answer: Result<Option<ChunkIdx>, Refusal>) -> Reply
+    ensures key { result ≡ merge_reply (temp_told answer) }
+    ensures target { result ≡ merge_reply (target_told answer) }
 {
     match answer {
-        TempIdxAnswer::Is(chunk) => of_option(chunk),
-        TempIdxAnswer::Refused(q) => refused(q),
+        Ok(Some(chunk)) => answered(u64::from(chunk.0)),
+        Ok(None) => answered(u64::from(NONE)),
+        Err(refusal) => refused(refusal),
     }
 }
 
-pub fn of_target(answer: TargetAnswer) -> Reply
-    ensures { result ≡ merge_reply (target_told answer) }
-{
-    match answer {
-        TargetAnswer::Into(x) => answered(x.0 as u64),
-        TargetAnswer::Nothing => answered(4294967295),
-        TargetAnswer::Refused(q) => refused(q),
-    }
-}
-
-pub fn of_said(answer: YesNoAnswer) -> Reply
+#[tactic(auto, unfolding(crate::specs::Replies::merge_reply))]
+pub fn of_said(answer: Result<bool, Refusal>) -> Reply
     ensures { result ≡ merge_reply (said_told answer) }
 {
     match answer {
-        YesNoAnswer::Is(yes) => answered(yes as u64),
-        YesNoAnswer::Refused(q) => refused(q),
+        Ok(yes) => answered(u64::from(yes)),
+        Err(refusal) => refused(refusal),
     }
 }
 
-pub fn of_pass(answer: PassAnswer) -> Reply
+pub fn of_pass(answer: Result<u32, Refusal>) -> Reply
     ensures { result ≡ pass_reply answer }
 {
     match answer {
-        PassAnswer::Assigned(n) => answered(n as u64),
-        PassAnswer::Refused(q) => refused(q),
+        Ok(count) => answered(u64::from(count)),
+        Err(refusal) => refused(refusal),
     }
 }

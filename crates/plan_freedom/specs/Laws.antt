@@ -1,5 +1,5 @@
 -- How the call comes to its answer, and that the counts add up. Assumes nothing.
-use Rattle.std.specs.Prelude.{ℕ, ◌+◌, ◌-◌, ◌*◌, ◌^◌, ◌≤◌, ◌<◌, ◌≡◌, refl, Bool, true, false, List, eqb, length}
+use Rattle.std.specs.Prelude.{ℕ, ◌+◌, ◌-◌, ◌*◌, ◌^◌, ◌≤◌, ◌<◌, ◌≡◌, refl, Bool, true, false, Ok, List, eqb, length}
 use Rattle.std.proofs.Common.{arith, ◌∙◌, true≢false, eqb-true, eq-eqb, ne_eqb}
 use Rattle.std.proofs.Math.Path.{sym, ap, subst}
 use Rattle.std.proofs.Math.Bool.{cond}
@@ -14,15 +14,15 @@ use Rattle.move_area.specs.Checked.{nodes_in, sets-length, ranged_placing, consi
 use Rattle.move_rows.specs.Later.{later, later-legal, later-consistent}
 use Rattle.move_free_walks.specs.HowFree.{is_rejected, is_fixed, pairs, Freedom, how_free}
 use Rattle.move_free_walks.specs.Sums.{free-sum}
+use Rattle.move_freedom.specs.declared.Counts.{Counts}
 use Rattle.move_freedom.specs.Atoms.{place_in, CanFree, Freed}
-use Rattle.plan_freedom.specs.Told.{Told, refused, counts, told}
+use Rattle.plan_freedom.specs.Told.{Told, refused, counts, of_freedom, told}
 
 module _ (load : Load) (fixed : List ℕ) (N : ℕ) (area : List ℕ) where
   -- a row turns the call back
   pub told_refused : {q : ℕ} → q ≡ later load fixed N area → (q ≡ 0 → ⊥) → refused q ≡ told load fixed N area
   unfolding told
-  told_refused e h =
-      ap refused e ∙ sym (ap (λ t. cond t (counts (how_free load fixed (decode load N area).ledger.place)) (refused (later load fixed N area))) (ne_eqb (later load fixed N area) 0 (λ z. h (e ∙ z))))
+  told_refused e h = rw (← e, ne_eqb _ 0 h) refl
 
   -- none does
   module _ (none : later load fixed N area ≡ 0) where
@@ -44,9 +44,9 @@ module _ (load : Load) (fixed : List ℕ) (N : ℕ) (area : List ℕ) where
     unfolding told
     told_on = sym (ap (λ t. cond t (counts (how_free load fixed (decode load N area).ledger.place)) (refused (later load fixed N area))) (eq-eqb (later load fixed N area) 0 none))
 
-    pub told-counts : {acc rej fix : ℕ} → Freed load fixed (place_in load N area) acc rej fix → counts (record { accepted = acc; rejected = rej; fixed = fix }) ≡ told load fixed N area
+    pub told-counts : {all : Counts} → Freed load fixed (place_in load N area) all → of_freedom (Ok all) ≡ told load fixed N area
     unfolding decode
-    told-counts {acc} {rej} {fix} v = rw (v.accepted, v.rejected, v.fixed) told_on
+    told-counts v = rw (v.accepted, v.rejected, v.fixed) told_on
 
     whole : pairs load fixed (decode load N area).ledger.place is_accepted + pairs load fixed (decode load N area).ledger.place is_rejected + pairs load fixed (decode load N area).ledger.place is_fixed
         ≡ load.A * (length (rising (decode load N area).ledger.place) - 1)
@@ -58,7 +58,7 @@ module _ (load : Load) (fixed : List ℕ) (N : ℕ) (area : List ℕ) where
         subst (λ k. k < 2 ^ load.E) (sym (placed_at (nodes_in load N area) (sets_in N area) i (omega (arith, p.atoms))))
         (can_free.ranged.range (at (nodes_in load N area) i) (omega (arith, p.inside i b, sets-length N area))))
 
--- "The three counts add up to atoms × (occupied sets - 1), or 0 without atoms"
+-- the three counts add up to the atoms times one less than the occupied sets, or to 0 without atoms
 pub call-sum : (load : Load) (fixed : List ℕ) (N : ℕ) (area : List ℕ) (f : Freedom) → told load fixed N area ≡ counts f
     → f.accepted + f.rejected + f.fixed ≡ load.A * (length (rising (decode load N area).ledger.place) - 1)
 unfolding told

@@ -1,11 +1,13 @@
 -- What a question about a move graph answers, row by row, on an area that no earlier row turns back. Assumes nothing.
-use Rattle.std.specs.Prelude.{ℕ, ◌+◌, ◌*◌, ◌≤◌, ◌<◌, ◌≡◌, Bool, not, ◌&&◌, List, length}
+use Rattle.std.specs.Prelude.{ℕ, ◌+◌, ◌*◌, ◌≤◌, ◌<◌, ◌≡◌, Bool, ◌&&◌, List, Result, Ok, Err, length}
 use native.Mathlib.Omega.{arith}
 use Rattle.std.proofs.Math.Path.{refl, sym, ap, ap₂}
 use Rattle.std.proofs.Common.{◌∙◌, le-leb}
 use Rattle.std.proofs.Math.Bool.{true, false, cond}
 use Rattle.std.proofs.Math.ListN.{get_or}
-use Rattle.std.proofs.lemmas.Bool.{lt-leb, not-true, not-false}
+use Rattle.std.proofs.lemmas.Bool.{lt-leb}
+use Rattle.std.proofs.lemmas.Result.{err_from_is_err_and}
+use Rattle.std.specs.Result.{IsErrAnd}
 use Rattle.layout.specs.Patch.{part_long, part_at}
 use Rattle.graphs.specs.Walk.{cyclic}
 use Rattle.entry_set.specs.Sets.{value, words, legal, numbers, number, Holds}
@@ -23,45 +25,43 @@ use Rattle.move_area.specs.Area.{sets_in, decode}
 use Rattle.move_area.specs.Bodies.{lane_at, atom_at}
 use Rattle.move_area.specs.Calls.{asked}
 use Rattle.move_area.specs.Checked.{nodes_in, sets-at, consistent_ranged, consistent_worked}
-use Rattle.move_questions.specs.Answers.{place_in, Checked}
+use Rattle.move_questions.specs.Answers.{place_in, set_of, CanReadSet, Checked}
 use Rattle.move_verdict.specs.Verdict.{CanSearch}
-use Rattle.move_rows.specs.Later.{later, turned-back, goes_on, later-legal, later-consistent}
+use Rattle.move_rows.specs.Later.{later, turned_by, goes_on, later-legal, later-consistent}
+use Rattle.refusals.specs.Rows.{row}
+use Rattle.refusals.specs.declared.Refusal.{Refusal}
 
--- what is read for the set of atom i
-pub record CanReadSet (area : List ℕ) (n i : ℕ) : Type 0 where
-  pub room : n * n + 24 + 24 * n + i < length area
-  pub node : get_or area (n * n + 24 + 24 * n + i) 0 < n
+-- the set that a list lends, where it is legal; else row 11
+abbrev pub SetTold : ℕ → List ℕ → Result EntrySet Refusal → Type 0
+SetTold e bits (Ok set) = (legal e bits ≡ true) × Holds (value bits) set
+SetTold e bits (Err r) = (legal e bits ≡ false) × (row r ≡ 11)
 
--- where the set of atom i stands
-abbrev pub set_of : List ℕ → ℕ → ℕ → ℕ
-set_of area n i = lanes area (n * n + 24 + get_or area (n * n + 24 + 24 * n + i) 0) n
+-- what `?` hands on: the same refusal
+pub handed_on : {T : Type 0} {result : Result T Refusal} (of : Result T Refusal → Answer) (r : Refusal) → ((x : Refusal) → of (Err x) ≡ refused (row x)) → IsErrAnd result (λ x. x ≡ r) → of result ≡ refused (row r)
+handed_on {result = result} of r f e = let p = err_from_is_err_and result e in ap of p.1 ∙ f p.0 ∙ ap (λ x. refused (row x)) p.2
 
--- q is the first of the rows 1 to 6 and 9 that fits
-module _ (load : Load) (fixed : List ℕ) (N : ℕ) (area : List ℕ) (q : ℕ) (first : q ≡ later load fixed N area) where
-  -- it turns a question back
-  pub asked-back : (q ≡ 0 → ⊥) → (x : Question) → refused q ≡ asked load fixed N area x
+module _ (load : Load) (fixed : List ℕ) (N : ℕ) (area : List ℕ) where
+  -- one of the rows 1 to 6 and 9 turns a question back
+  pub asked-back : (r : Refusal) → row r ≡ later load fixed N area → (x : Question) → refused (row r) ≡ asked load fixed N area x
   unfolding asked
-  asked-back h x = ap refused first ∙ sym (turned-back load fixed N area (λ z. h (first ∙ z)) _)
+  asked-back r first x = sym (turned_by load fixed N area r first _)
 
   -- or none fits
-  module _ (zero : q ≡ 0) where
-    none : later load fixed N area ≡ 0
-    none = sym first ∙ zero
-
+  module _ (none : 0 ≡ later load fixed N area) where
     pub asked_on : (x : Question) → ask load (place_in load N area) x ≡ asked load fixed N area x
     unfolding asked
-    asked_on x = sym (goes_on load fixed N area none _)
+    asked_on x = sym (goes_on load fixed N area (sym none) _)
 
     pub loads : Loadable load N true (length area)
-    loads = refusal-none load fixed N (length area) (later-legal load fixed N area none)
+    loads = refusal-none load fixed N (length area) (later-legal load fixed N area (sym none))
 
     pub checks : Checked load N area (get_or area (N * N) 0)
     checks =
         let room : atom_at N + load.A ≤ length area = omega (arith, loads.sizes.area) in
         record {
           loadable = loads;
-          ranged = consistent_ranged load N area loads.order loads.sizes.sets room (later-consistent load fixed N area none);
-          worked = consistent_worked load N area loads.order loads.sizes.sets room (later-consistent load fixed N area none);
+          ranged = consistent_ranged load N area loads.order loads.sizes.sets room (later-consistent load fixed N area (sym none));
+          worked = consistent_worked load N area loads.order loads.sizes.sets room (later-consistent load fixed N area (sym none));
           sets = refl;
         }
 
@@ -84,9 +84,9 @@ module _ (load : Load) (fixed : List ℕ) (N : ℕ) (area : List ℕ) (q : ℕ) 
           placed_at (nodes_in load N area) (sets_in N area) i (omega (arith, part_long (atom_at N) load.A area))
           ∙ ap (at (sets_in N area)) (part_at (atom_at N) load.A area i b) ∙ sets-at N area _ node_below ∙ ap (λ k. lanes area k N) e
 
-      pub set_told : (s : EntrySet) → Holds (set_of area N i) s → answer.set (numbers s) ≡ asked load fixed N area (atom_set i)
+      pub set_told : {s : EntrySet} → Holds (set_of area N i) s → answer.set (numbers s) ≡ asked load fixed N area (atom_set i)
       unfolding ask
-      set_told s h =
+      set_told h =
           ap answer.set (holds-numbers h ∙ sym (ap (words 4) set_is))
           ∙ sym (ap (λ t. cond t (refused 10) (answer.set (words 4 (at (place_in load N area) i)))) (lt-leb load.A i b)) ∙ asked_on (atom_set i)
 
@@ -103,49 +103,50 @@ module _ (load : Load) (fixed : List ℕ) (N : ℕ) (area : List ℕ) (q : ℕ) 
     pub totals_inside : N * N + 5 ≤ length area
     totals_inside = omega (arith, loads.sizes.area)
 
-    -- row 11: t tells whether the lent set s is legal
+    -- a set's atom count, or row 11
     module _ (s : List ℕ) where
       one : Bool → Answer
       one t = cond t (answer.number (members load (place_in load N area) (value s))) (refused 11)
 
-      one_told : (t u : Bool) → t ≡ legal load.E s → t ≡ u → one u ≡ asked load fixed N area (atom_count s)
+      one_told : {t : Bool} → legal load.E s ≡ t → one t ≡ asked load fixed N area (atom_count s)
       unfolding ask one
-      one_told t u e f = ap one (sym f ∙ e) ∙ asked_on (atom_count s)
+      one_told e = ap one (sym e) ∙ asked_on (atom_count s)
 
-      pub count_eleven : (t : Bool) → t ≡ legal load.E s → not t ≡ true → refused 11 ≡ asked load fixed N area (atom_count s)
+      pub count_eleven : (r : Refusal) → SetTold load.E s (Err r) → refused (row r) ≡ asked load fixed N area (atom_count s)
       unfolding one
-      count_eleven t e h = one_told t false e (not-true t h)
+      count_eleven r e = ap refused e.1 ∙ one_told e.0
 
-      pub count-told : (t : Bool) → t ≡ legal load.E s → not t ≡ false → {set : EntrySet} → Holds (value s) set → {known count k : ℕ} → known ≡ get_or area (N * N) 0
+      pub count-told : {set : EntrySet} → SetTold load.E s (Ok set) → {known count k : ℕ} → known ≡ get_or area (N * N) 0
           → ((load' : Load) → Checked load' N area known → count ≡ members load' (place_in load' N area) (number set)) → k ≡ count
           → answer.number k ≡ asked load fixed N area (atom_count s)
       unfolding one
-      count-told t e h holds r f z = ap answer.number (z ∙ f load (checks_known r) ∙ ap (members load (place_in load N area)) holds.value) ∙ one_told t true e (not-false t h)
+      count-told e r f z = ap answer.number (z ∙ f load (checks_known r) ∙ ap (members load (place_in load N area)) e.1.value) ∙ one_told e.0
 
+    -- the multiplicity between two sets, or row 11 for one of them
     module _ (s t : List ℕ) where
       both : Bool → Bool → Answer
       both x y = cond (x && y) (answer.number (mult load (place_in load N area) (value s) (value t))) (refused 11)
 
-      both_told : (x y : Bool) → x ≡ legal load.E s → y ≡ legal load.E t → both x y ≡ asked load fixed N area (multiplicity s t)
+      both_told : {x y : Bool} → legal load.E s ≡ x → legal load.E t ≡ y → both x y ≡ asked load fixed N area (multiplicity s t)
       unfolding ask both
-      both_told x y e f = ap (λ u. both u y) e ∙ ap (both (legal load.E s)) f ∙ asked_on (multiplicity s t)
+      both_told {x} {y} e f = ap (λ u. both u y) (sym e) ∙ ap (both (legal load.E s)) (sym f) ∙ asked_on (multiplicity s t)
 
-      pub from_eleven : (x : Bool) → x ≡ legal load.E s → not x ≡ true → refused 11 ≡ asked load fixed N area (multiplicity s t)
+      pub from_eleven : (r : Refusal) → SetTold load.E s (Err r) → refused (row r) ≡ asked load fixed N area (multiplicity s t)
       unfolding both
-      from_eleven x e h = both_told false (legal load.E t) (sym (not-true x h) ∙ e) refl
+      from_eleven r e = ap refused e.1 ∙ both_told e.0 refl
 
-      module _ (x y : Bool) (e : x ≡ legal load.E s) (f : y ≡ legal load.E t) (h : not x ≡ false) where
-        pub to_eleven : not y ≡ true → refused 11 ≡ asked load fixed N area (multiplicity s t)
+      module _ {from : EntrySet} (source : SetTold load.E s (Ok from)) where
+        pub to_eleven : (r : Refusal) → SetTold load.E t (Err r) → refused (row r) ≡ asked load fixed N area (multiplicity s t)
         unfolding both
-        to_eleven g = both_told true false (sym (not-false x h) ∙ e) (sym (not-true y g) ∙ f)
+        to_eleven r e = ap refused e.1 ∙ both_told source.0 e.0
 
-        pub multiplicity_told : not y ≡ false → {from to : EntrySet} → Holds (value s) from → Holds (value t) to → {known count k : ℕ} → known ≡ get_or area (N * N) 0
+        pub multiplicity_told : {to : EntrySet} → SetTold load.E t (Ok to) → {known count k : ℕ} → known ≡ get_or area (N * N) 0
             → ((load' : Load) → Checked load' N area known → count ≡ mult load' (place_in load' N area) (number from) (number to)) → k ≡ count
             → answer.number k ≡ asked load fixed N area (multiplicity s t)
         unfolding both
-        multiplicity_told g a b r m z =
-            ap answer.number (z ∙ m load (checks_known r) ∙ ap₂ (mult load (place_in load N area)) a.value b.value)
-            ∙ both_told true true (sym (not-false x h) ∙ e) (sym (not-false y g) ∙ f)
+        multiplicity_told e r m z =
+            ap answer.number (z ∙ m load (checks_known r) ∙ ap₂ (mult load (place_in load N area)) source.1.value e.1.value)
+            ∙ both_told source.0 e.0
 
     -- questions that no row of their own refuses
     pub edges-told : (k : ℕ) → k ≡ length (edges load (place_in load N area)) → answer.number k ≡ asked load fixed N area edge_count

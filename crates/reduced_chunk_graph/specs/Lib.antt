@@ -2,6 +2,6 @@
 pub mod Answers
 pub mod Loads
 pub mod Moves
-pub mod MoveLaws
 pub mod Asked
+pub mod MoveLaws
 pub mod Ranks

@@ -1,7 +1,7 @@
 -- What a loading asks for the flags of fixed atoms, and the area that it leaves. Assumes nothing.
 use Rattle.std.specs.Prelude.{◌≡◌, List, ℕ}
 use Rattle.std.proofs.Math.Path.{ap}
-use Rattle.std.proofs.Common.{◌∙◌, arith}
+use Rattle.std.proofs.Common.{◌∙◌, arith, sym}
 use Rattle.std.proofs.Math.ListN.{length}
 use Rattle.move_ledger.specs.Graph.{Load}
 use Rattle.move_ledger.specs.Loading.{loading_row}
@@ -14,17 +14,17 @@ use Rattle.move_fixed.specs.Flags.{atoms, CanKeep, flag-atoms}
 
 module _ (load : Load) (fixed : List ℕ) (n : ℕ) (sets area : List ℕ) where
   -- no row fits, and l holds the first state
-  pub can_flag : loading_row load fixed n sets (length area) ≡ 0 → (l : List ℕ) → l ≡ encode load n (first load n sets) area → CanKeep load.A n fixed l
-  unfolding encode
-  can_flag none l e =
-      let z = (loading_row-none load fixed n sets (length area) none).loadable.sizes in
-      let long : length l ≡ length area = ap length e ∙ write_long n (bodies load n (first load n sets)) area in
-      record {
-        few = z.atoms;
-        marks = refusal-marks load fixed n (length area) (loading_row-later load fixed n sets (length area) none);
-        room = omega (arith, z.area);
-      }
+  module _ (none : 0 ≡ loading_row load fixed n sets (length area)) where
+    marks : length fixed ≡ load.A
+    marks = refusal-marks load fixed n (length area) (loading_row-later load fixed n sets (length area) (sym none))
 
-  -- with the flags it is what `new` leaves
-  pub flagged_area : {l l' : List ℕ} → l ≡ encode load n (first load n sets) area → l' ≡ flag (atoms load.A) fixed n l → l' ≡ flag load fixed n (encode load n (first load n sets) area)
-  flagged_area {l} e f = f ∙ flag-atoms load fixed n l ∙ ap (flag load fixed n) e
+    pub can_flag : {l : List ℕ} → l ≡ encode load n (first load n sets) area → CanKeep n fixed l
+    unfolding encode
+    can_flag {l} e =
+        let z = (loading_row-none load fixed n sets (length area) (sym none)).loadable.sizes in
+        let long : length l ≡ length area = ap length e ∙ write_long n (bodies load n (first load n sets)) area in
+        record { room = omega (arith, z.area, marks) }
+
+    -- with the flags it is what `new` leaves
+    pub flagged_area : {l l' : List ℕ} → l ≡ encode load n (first load n sets) area → l' ≡ flag (atoms (length fixed)) fixed n l → l' ≡ flag load fixed n (encode load n (first load n sets) area)
+    flagged_area {l} e f = f ∙ flag-atoms load fixed n l marks ∙ ap (flag load fixed n) e

@@ -1,12 +1,13 @@
 -- The rows 10, 24, 11 and 12 of a move, and what comes after them. Assumes nothing.
-use Rattle.std.specs.Prelude.{ℕ, ◌+◌, ◌*◌, ◌≤◌, ◌<◌, ◌≡◌, Bool, true, false, not, List, eqb, length, get_or}
+use Rattle.std.specs.Prelude.{ℕ, ◌+◌, ◌*◌, ◌≤◌, ◌<◌, ◌≡◌, Bool, true, false, not, List, Ok, Err, eqb, length, get_or}
 use native.Mathlib.Omega.{arith}
 use Rattle.std.proofs.Math.Path.{refl, sym, ap}
 use Rattle.std.proofs.Common.{◌∙◌}
 use Rattle.std.proofs.Math.Bool.{cond}
 use borrow.Author.Tests.{le-leb, lt-leb, eqb-true, eqb-false, eq-eqb, ne_eqb}
 use Rattle.layout.specs.Patch.{part_at}
-use Rattle.entry_set.specs.Sets.{value, legal}
+use Rattle.entry_set.specs.Sets.{value, legal, number}
+use Rattle.entry_set.specs.declared.EntrySet.{EntrySet}
 use Rattle.entry_set.specs.SetLaws.{legal-below}
 use Rattle.entry_set.specs.Lanes.{lanes}
 use Rattle.move_ledger.specs.Graph.{Load, at}
@@ -20,8 +21,12 @@ use Rattle.move_area.specs.Held.{consistent-whole}
 use Rattle.move_area.specs.Checked.{nodes_in, Ranged, consistent_ranged, ranged_placing, sets-at}
 use Rattle.move_area.specs.Calls.{after}
 use Rattle.move_area.specs.Calls as calls
-use Rattle.move_rows.specs.Later.{later, turned-back, goes_on, later-legal, later-consistent}
+use Rattle.move_rows.specs.Later.{later, turned_by, goes_on, later-legal, later-consistent}
+use Rattle.move_questions.specs.Answers.{set_of, CanReadSet}
+use Rattle.refusals.specs.Rows.{row}
+use Rattle.refusals.specs.declared.Refusal.{Refusal}
 use Rattle.move_try.specs.Tried.{CanTry, Answers}
+use Rattle.reduced_chunk_graph.specs.Asked.{SetTold}
 use Rattle.reduced_chunk_graph.specs.Moves.{CanGoOn, GoesOn}
 
 -- a refused move leaves the state
@@ -40,9 +45,9 @@ module _ {load : Load} {fixed : List ℕ} {n : ℕ} {area : List ℕ} (can : Can
   goes_fixed h f = record { answer = rw (lt-leb load.A atom h, ne_eqb (at fixed atom) 0 f) refl; area_after = refl }
 
   module _ (h : atom < load.A) (free : at fixed atom ≡ 0) where
-    pub goes_eleven : legal load.E bits ≡ false → GoesOn load fixed n area atom bits (refused 11) area
+    pub goes_eleven : (r : Refusal) → SetTold load.E bits (Err r) → GoesOn load fixed n area atom bits (refused (row r)) area
     unfolding move decide
-    goes_eleven q = record { answer = rw (lt-leb load.A atom h, free, q) refl; area_after = refl }
+    goes_eleven r t = record { answer = ap refused t.1 ∙ rw (lt-leb load.A atom h, free, t.0) refl; area_after = refl }
 
     pub goes_twelve : legal load.E bits ≡ true → eqb (value bits) (at (decode load n area).ledger.place atom) ≡ true → GoesOn load fixed n area atom bits (refused 12) area
     unfolding move decide
@@ -61,59 +66,59 @@ module _ {load : Load} {fixed : List ℕ} {n : ℕ} {area : List ℕ} (can : Can
       go false b x y = y
 
   -- the atom's node and its set
-  pub go_ranged : Ranged load n area
+  go_ranged : Ranged load n area
   go_ranged = let z = can.loadable.sizes in consistent_ranged load n area can.loadable.order z.sets (omega (arith, z.area)) can.sane
 
-  pub go_node : atom < load.A → get_or area (n * n + 24 + 24 * n + atom) 0 < n
-  go_node h = omega (arith, go_ranged.nodes atom h, go_ranged.few)
+  pub go_node : atom < load.A → CanReadSet area n atom
+  go_node h = record { room = omega (arith, can.loadable.sizes.area); node = omega (arith, go_ranged.nodes atom h, go_ranged.few) }
 
-  pub go_set : atom < load.A → (x : ℕ) → x ≡ get_or area (n * n + 24 + 24 * n + atom) 0 → lanes area (n * n + 24 + x) n ≡ at (decode load n area).ledger.place atom
+  go_set : atom < load.A → set_of area n atom ≡ at (decode load n area).ledger.place atom
   unfolding decode
-  go_set h x e =
+  go_set h =
+      let x = get_or area (n * n + 24 + 24 * n + atom) 0 in
       let p = ranged_placing can.loadable.sizes.sets go_ranged in
       let i : n * n + 24 + x ≡ lane_at n 0 + x = omega arith in
       ap (λ k. lanes area k n) i
       ∙ sym (sets-at n area x (omega (arith, go_ranged.nodes atom h)))
-      ∙ ap (at (sets_in n area)) (e ∙ sym (part_at (atom_at n) load.A area atom h))
+      ∙ ap (at (sets_in n area)) (sym (part_at (atom_at n) load.A area atom h))
       ∙ sym (placed_at (nodes_in load n area) (sets_in n area) atom (omega (arith, p.atoms)))
+
+  -- row 12 and what the move asks, with the target by value
+  module _ (here : atom < load.A) (free : at fixed atom ≡ 0) {target : EntrySet} (lent : SetTold load.E bits (Ok target)) where
+    pub twelve_fits : eqb (set_of area n atom) (value bits) ≡ true → GoesOn load fixed n area atom bits (refused 12) area
+    twelve_fits h = goes_twelve here free lent.0 (eq-eqb _ _ (sym (eqb-true _ _ h) ∙ go_set here))
+
+    pub can_try : eqb (set_of area n atom) (value bits) ≡ false → CanTry load n area atom (number target)
+    can_try h =
+        record {
+          loadable = can.loadable;
+          sane = can.sane;
+          there = here;
+          range = rw lent.1.value (legal-below load.E bits lent.0);
+          other = ne_eqb _ _ (λ e. eqb-false _ _ h (go_set here ∙ sym e ∙ lent.1.value));
+        }
+
+    pub tried-goes : {r : Answer} {l : List ℕ} → Answers load n area atom (number target) r l → GoesOn load fixed n area atom bits r l
+    tried-goes {r} {l} a = goes-tried (number target) r l free (sym lent.1.value) lent.0 a
 
 -- the whole call
 module _ (load : Load) (fixed : List ℕ) (n : ℕ) (area : List ℕ) (atom : ℕ) (bits : List ℕ) where
-  pub call_refused : (q : ℕ) → q ≡ later load fixed n area → (q ≡ 0 → ⊥) → (refused q ≡ (calls.try_move load fixed n area atom bits).answer) × (area ≡ (calls.try_move load fixed n area atom bits).area)
+  pub call_refused : (r : Refusal) → row r ≡ later load fixed n area → (refused (row r) ≡ (calls.try_move load fixed n area atom bits).answer) × (area ≡ (calls.try_move load fixed n area atom bits).area)
   unfolding calls.try_move
-  call_refused q e h = rw (turned-back load fixed n area (λ z. h (e ∙ z)) (move load fixed n (decode load n area).ledger atom bits).answer) (ap refused e, refl)
+  call_refused r e = rw (turned_by load fixed n area r e (move load fixed n (decode load n area).ledger atom bits).answer) (refl, refl)
 
-  module _ {q : ℕ} (e : q ≡ later load fixed n area) (z : q ≡ 0) where
+  module _ (none : 0 ≡ later load fixed n area) where
     pub call_on : CanGoOn load fixed n area
     call_on =
-        let legal = later-legal load fixed n area (sym e ∙ z) in
+        let legal = later-legal load fixed n area (sym none) in
         record {
           loadable = refusal-none load fixed n (length area) legal;
           marks = refusal-marks load fixed n (length area) legal;
-          sane = later-consistent load fixed n area (sym e ∙ z);
+          sane = later-consistent load fixed n area (sym none);
         }
 
     pub call-answer : {r : Answer} {l : List ℕ} → GoesOn load fixed n area atom bits r l → (r ≡ (calls.try_move load fixed n area atom bits).answer) × (l ≡ (calls.try_move load fixed n area atom bits).area)
     unfolding calls.try_move
     call-answer {r} {l} f =
-        rw (goes_on load fixed n area (sym e ∙ z) (move load fixed n (decode load n area).ledger atom bits).answer)
+        rw (goes_on load fixed n area (sym none) (move load fixed n (decode load n area).ledger atom bits).answer)
         (f.answer, f.area_after ∙ ap (λ (x : Answer). cond (is_refused x) area (encode load n (after load fixed n (decode load n area) atom bits) area)) f.answer)
-
--- rows 12 and what the move asks, with the present set and the target by value
-module _ {load : Load} {fixed : List ℕ} {n : ℕ} {area : List ℕ} (can : CanGoOn load fixed n area) (atom : ℕ) (bits : List ℕ) (here : atom < load.A) (free : at fixed atom ≡ 0) (ok : legal load.E bits ≡ true)
-    (present target x : ℕ) (node : x ≡ get_or area (n * n + 24 + 24 * n + atom) 0) (there : present ≡ lanes area (n * n + 24 + x) n) (is : target ≡ value bits) where
-  pub twelve_fits : eqb present target ≡ true → GoesOn load fixed n area atom bits (refused 12) area
-  twelve_fits h = goes_twelve can atom bits here free ok (eq-eqb _ _ (sym is ∙ sym (eqb-true _ _ h) ∙ there ∙ go_set can atom bits here x node))
-
-  pub can_try : eqb present target ≡ false → CanTry load n area atom target
-  can_try h =
-      record {
-        loadable = can.loadable;
-        sane = can.sane;
-        there = here;
-        range = rw is (legal-below load.E bits ok);
-        other = ne_eqb _ _ (λ e. eqb-false _ _ h (there ∙ go_set can atom bits here x node ∙ sym e));
-      }
-
-  pub tried-goes : (r : Answer) (l : List ℕ) → Answers load n area atom target r l → GoesOn load fixed n area atom bits r l
-  tried-goes r l a = goes-tried can atom bits target r l free (sym is) ok a

@@ -6,34 +6,36 @@ use Rattle.move_ledger.specs.Graph.{Load}
 use Rattle.move_ledger.specs.Answer.{Answer, refused}
 use Rattle.move_area.specs.Calls.{checked}
 use Rattle.move_questions.specs.Answers.{place_in}
-use Rattle.move_rows.specs.Later.{later, turned-back, goes_on}
+use Rattle.move_rows.specs.Later.{later, turned_by, goes_on}
 use Rattle.move_rank.specs.Rank.{Rank, rank}
 use Rattle.move_rank.specs.Ranking.{told, ranking}
 use Rattle.move_rank.specs.Atoms.{Both}
+use Rattle.refusals.specs.Rows.{row}
+use Rattle.refusals.specs.declared.Refusal.{Refusal}
 use Rattle.reduced_chunk_graph.specs.Asked.{checks}
 
-module _ (load : Load) (fixed : List ℕ) (N : ℕ) (first second : List ℕ) (q : ℕ) (row : q ≡ later load fixed N first) where
+module _ (load : Load) (fixed : List ℕ) (N : ℕ) (first second : List ℕ) where
   -- the first area is turned back
-  pub first_back : (q ≡ 0 → ⊥) → refused q ≡ ranking load fixed N first second
+  pub first_back : (r : Refusal) → row r ≡ later load fixed N first → refused (row r) ≡ ranking load fixed N first second
   unfolding ranking
-  first_back h = ap refused row ∙ sym (turned-back load fixed N first (λ z. h (row ∙ z)) _)
+  first_back r e = sym (turned_by load fixed N first r e _)
 
-  module _ (zero : q ≡ 0) (t : ℕ) (other : t ≡ later load fixed N second) where
+  module _ (none : 0 ≡ later load fixed N first) where
     first_on : (x : Answer) → x ≡ checked load fixed N first x
-    first_on x = sym (goes_on load fixed N first (sym row ∙ zero) x)
+    first_on x = sym (goes_on load fixed N first (sym none) x)
 
     -- the second is
-    pub second_back : (t ≡ 0 → ⊥) → refused t ≡ ranking load fixed N first second
+    pub second_back : (r : Refusal) → row r ≡ later load fixed N second → refused (row r) ≡ ranking load fixed N first second
     unfolding ranking
-    second_back h = ap refused other ∙ sym (turned-back load fixed N second (λ z. h (other ∙ z)) _) ∙ first_on _
+    second_back r e = sym (turned_by load fixed N second r e _) ∙ first_on _
 
-    module _ (none : t ≡ 0) where
+    module _ (other : 0 ≡ later load fixed N second) where
       pub both : Both load load.A N first second
-      both = record { atoms = refl; one = checks load fixed N first q row zero; other = checks load fixed N second t other none }
+      both = record { atoms = refl; one = checks load fixed N first none; other = checks load fixed N second other }
 
       pub both_some : (load' : Load) × Both load' load.A N first second
       both_some = (load, both)
 
       pub rank-told : {r : Rank} → r ≡ rank load (place_in load N first) (place_in load N second) → told r ≡ ranking load fixed N first second
       unfolding ranking
-      rank-told e = ap told e ∙ sym (goes_on load fixed N second (sym other ∙ none) _) ∙ first_on _
+      rank-told e = ap told e ∙ sym (goes_on load fixed N second (sym other) _) ∙ first_on _

@@ -1,83 +1,53 @@
 // Trial moves: `try_move`.
 ghost use Rattle.std.specs.Prelude.{◌≡◌};
-ghost use Rattle.move_ledger.specs.Graph.{lent};
 ghost use Rattle.move_area.specs.Calls as calls;
+ghost use Rattle.move_load_view.specs.View.{lent_by};
 ghost use Rattle.reduced_chunk_graph.specs.Answers.{of_move};
 ghost use Rattle.reduced_chunk_graph.specs.Moves.{CanGoOn, GoesOn};
 
-use super::MoveAnswer;
+use super::sets::lent_set;
+use move_load_view::Load;
+use move_try::Moved;
+use refusals::Refusal;
 
 // The rows 10, 24, 11 and 12 and the move itself, on a consistent area.
 fn go_on(
-    a: usize,
-    d: usize,
-    e: usize,
+    load: &Load,
     n: usize,
-    starts: &[u32],
-    dependencies: &[u32],
-    hosts: &[u32],
     fixed: &[u32],
     area: &mut [u32],
     atom: usize,
     bits: &[u64],
-) -> MoveAnswer
-    requires { CanGoOn (lent a d e starts.now dependencies.now hosts.now) fixed.now n area.old }
-    ensures { GoesOn (lent a d e starts.now dependencies.now hosts.now) fixed.now n area.old atom bits.now (of_move result) area.new }
+) -> Result<Option<Moved>, Refusal>
+    requires { CanGoOn (lent_by load.now) fixed.now n area.old }
+    ensures { GoesOn (lent_by load.now) fixed.now n area.old atom bits.now (of_move result) area.new }
 {
-    if a <= atom {
-        return MoveAnswer::Refused(10);
+    if load.atoms <= atom {
+        return Err(Refusal::NoSuchAtom);
     }
     if fixed[atom] != 0 {
-        return MoveAnswer::Refused(24);
+        return Err(Refusal::AtomFixed);
     }
-    if !entry_set::is_legal(bits, e) {
-        return MoveAnswer::Refused(11);
+    let target = lent_set(bits, load.bits)?;
+    if move_questions::atom_set(area, n, atom) == target {
+        return Err(Refusal::SetUnchanged);
     }
-    let target = entry_set::from_list(bits);
-    let lanes = n * n + 24;
-    let node = area[lanes + 24 * n + atom] as usize;
-    if entry_set::equal(entry_set::read_lanes(area, lanes + node, n), target) {
-        return MoveAnswer::Refused(12);
-    }
-    let tried = move_try::try_checked(a, d, e, n, starts, dependencies, hosts, area, atom, target);
-    match tried {
-        move_try::Tried::Accepted(moved) => MoveAnswer::Accepted(moved),
-        move_try::Tried::Rejected => MoveAnswer::Rejected,
-    }
+    Ok(move_try::try_checked(load, n, area, atom, target))
 }
 
-// Moves the atom to the set if the chunk graph then has no cycle; else the atom stays where it is.
+// Moves the atom to the set if the chunk graph then has no cycle; else the atom stays where it is, and there is no report. An accepted move reports
+// how many distinct edges appeared and vanished, and how many other chunks the atom's chunk then reaches.
 pub fn try_move(
-    a: usize,
-    d: usize,
-    e: usize,
+    load: &Load,
     n: usize,
-    starts: &[u32],
-    dependencies: &[u32],
-    hosts: &[u32],
     fixed: &[u32],
     area: &mut [u32],
     atom: u32,
     bits: &[u64],
-) -> MoveAnswer
-    ensures result_value { of_move result ≡ (calls.try_move (lent a d e starts.now dependencies.now hosts.now) fixed.now n area.old atom bits.now).answer }
-    ensures area_after { area.new ≡ (calls.try_move (lent a d e starts.now dependencies.now hosts.now) fixed.now n area.old atom bits.now).area }
+) -> Result<Option<Moved>, Refusal>
+    ensures result_value { of_move result ≡ (calls.try_move (lent_by load.now) fixed.now n area.old atom bits.now).answer }
+    ensures area_after { area.new ≡ (calls.try_move (lent_by load.now) fixed.now n area.old atom bits.now).area }
 {
-    let q = move_rows::check::later_row(a, d, e, n, starts, dependencies, hosts, fixed, area);
-    if q != 0 {
-        return MoveAnswer::Refused(q);
-    }
-    go_on(
-        a,
-        d,
-        e,
-        n,
-        starts,
-        dependencies,
-        hosts,
-        fixed,
-        area,
-        atom as usize,
-        bits,
-    )
+    move_rows::check::later_row(load, n, fixed, area)?;
+    go_on(load, n, fixed, area, atom as usize, bits)
 }

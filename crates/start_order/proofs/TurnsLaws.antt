@@ -6,13 +6,14 @@ use Rattle.std.specs.Prelude.{◌≡◌, refl, Bool, ◌||◌, List, [], ◌∷�
 use Rattle.std.proofs.Common.{sym, ◌∙◌, ⊎_elim, get_or-set_same, get_or-set_other, eqb-true, eq-eqb, ne_eqb}
 use Rattle.std.proofs.Math.Path.{ap}
 use Rattle.std.proofs.Math.Bool.{true, false, cond, true≢false}
+use Rattle.std.proofs.lemmas.List.{map_push}
 use Rattle.graphs.specs.Bools.{or_cases, or_right}
 use Rattle.graphs.specs.Count.{ind}
 use Rattle.graphs.specs.Lists.{any, has, any_give}
 use Rattle.move_ledger.specs.Graph.{at}
 use Rattle.move_order.specs.Order.{first, listing}
 use Rattle.move_order.specs.Listing.{snoc_length, has_snoc, first_is, first_least}
-use Rattle.start_order.specs.Turns.{Setting, Fits, whole, Row, is_ready, Turn, map_snoc, sets, test, to_node, z, zr, test-z, fit_z, left_over}
+use Rattle.start_order.specs.Turns.{Setting, Fits, whole, Row, is_ready, Turn, sets, test, to_node, z, zr, test-z, fit_z, left_over}
 use Rattle.start_order.specs.Turns as turns_here
 
 module _ {s : Setting} {n r a k : ℕ} {listed marks degrees : List ℕ} (fits : Fits s r) (few : r ≤ n) (t : Turn s n r a k listed marks degrees) where
@@ -51,7 +52,7 @@ module _ {s : Setting} {n r a k : ℕ} {listed marks degrees : List ℕ} (fits :
         t.goes ∙ ap (λ j. listing s.over s.wanted s.chunks j (turns_here.sets fits few t)) e
         ∙ ap (λ u. cond u (listing s.over s.wanted s.chunks (a - (k + 1)) ((turns_here.sets fits few t) ++ first (turns_here.test fits few t) s.chunks ∷ [])) (turns_here.sets fits few t)) some
         ∙ ap (λ X. listing s.over s.wanted s.chunks (a - (k + 1)) ((turns_here.sets fits few t) ++ X ∷ [])) chosen
-        ∙ ap (listing s.over s.wanted s.chunks (a - (k + 1))) (sym (map_snoc s.set listed (turns_here.z fits few t row here can before less)))
+        ∙ ap (listing s.over s.wanted s.chunks (a - (k + 1))) (sym (map_push s.set listed (turns_here.z fits few t row here can before less)))
 
     pub turn_more : {marks' degrees' : List ℕ} → marks' ≡ set marks (turns_here.z fits few t row here can before less) 2 → r ≤ length marks → ((x : ℕ) → x < r → at degrees' x + ind (s.edge x (turns_here.z fits few t row here can before less)) ≡ at degrees x)
         → Turn s n r a (k + 1) (listed ++ (turns_here.z fits few t row here can before less) ∷ []) marks' degrees'

@@ -1,64 +1,62 @@
 -- The call on a checked area: what it asks and shows, and what comes before it. Assumes nothing.
-use Rattle.std.specs.Prelude.{ℕ, ◌+◌, ◌*◌, ◌≤◌, ◌<◌, ◌≡◌, Bool, not, get_or, drop, replicate}
+use Rattle.std.specs.Prelude.{ℕ, ◌+◌, ◌*◌, ◌≤◌, ◌<◌, ◌≡◌, Bool, not, get_or, replicate}
 use Rattle.std.proofs.Common.{arith, ◌∙◌}
 use Rattle.std.proofs.Math.Path.{refl, sym, ap}
 use Rattle.std.proofs.Math.Bool.{true, false, cond}
-use mathlib.Core.List.{List, ◌++◌}
-use Rattle.std.proofs.Math.ListN.{length, get_or-append}
+use mathlib.Core.List.{List}
+use Rattle.std.proofs.Math.ListN.{length}
 use Rattle.std.proofs.lemmas.List.{length-replicate}
 use borrow.Author.Tests.{le-leb, lt-leb, lt-ltb, le-ltb}
 use Rattle.graphs.specs.Count.{ind}
 use Rattle.graphs.specs.Tab.{zeros}
 use Rattle.graphs.specs.Walk.{cyclic}
 use Rattle.layout.specs.Patch.{patch}
-use Rattle.move_ledger.specs.Graph.{Load, at, edge}
+use Rattle.move_ledger.specs.Graph.{Load, edge}
 use Rattle.move_ledger.specs.Answer.{Answer, refused, is_refused}
 use Rattle.move_ledger.specs.Answer as answer
 use Rattle.move_ledger.proofs.NodeWalks.{cyclic-nodes}
 use Rattle.move_area.specs.Area.{decode}
 use Rattle.move_questions.specs.Answers.{place_in, Checked, Listable}
-use Rattle.move_rows.specs.Later.{turned-back, goes_on}
+use Rattle.move_rows.specs.Later.{turned_by, goes_on}
 use Rattle.move_rows.specs.Listed.{RowTold}
 use Rattle.move_order.specs.Order.{names, told, started}
+use Rattle.refusals.specs.Rows.{row}
+use Rattle.refusals.specs.declared.Refusal.{Refusal}
+use Rattle.start_order.specs.declared.nodes.Nodes.{Nodes}
 use Rattle.start_order.specs.Nodes.{order_of, placing, long, few}
 use Rattle.start_order.specs.Walked.{CanMark}
 use Rattle.start_order.specs.Lowest.{CanLower}
 
--- the first n numbers are cleared
-pub cleared : (l : List ℕ) {l' : List ℕ} (n : ℕ) → l' ≡ replicate n 0 ++ drop n l → (x : ℕ) → x < n → at l' x ≡ 0
-cleared l n e x b = ap (λ u. at u x) e ∙ get_or-append (replicate n 0) (drop n l) 0 x (omega (arith, length-replicate {A = ℕ} n 0)) ∙ zeros n x
-
 -- rows 26 and 27 don't fit
-pub record CanFetch (load : Load) (n : ℕ) (area : List ℕ) (r b : ℕ) (order degrees chunks : List ℕ) : Type 0 where
-  pub listable : Listable load n area r order degrees
+pub record CanFetch (load : Load) (g : Nodes) (b : ℕ) (order degrees chunks : List ℕ) : Type 0 where
+  pub listable : Listable load g.n g.area.now g.registered order degrees
   pub bit : b < 256
   pub room : load.A ≤ length chunks
-
--- a number for each node, of as many as there can be
-pub record FetchRoom (marks low : List ℕ) : Type 0 where
-  pub marks_long : 1024 ≤ length marks
-  pub lows : 1024 ≤ length low
 
 -- as many as there are names, and these stand first
 pub record Fetched (load : Load) (n : ℕ) (area : List ℕ) (b : ℕ) (chunks chunks' : List ℕ) (k : ℕ) : Type 0 where
   pub many : k ≡ length (names load (place_in load n area) b)
   pub named : chunks' ≡ patch 0 (names load (place_in load n area) b) chunks
 
-module _ {load : Load} {n : ℕ} {area : List ℕ} {r b : ℕ} {order degrees chunks marks low : List ℕ} (can : CanFetch load n area r b order degrees chunks) (lists : FetchRoom marks low) where
-  pub checked : Checked load n area r
+-- a number for each node, of as many as there can be
+abbrev pub blank : List ℕ
+blank = replicate 1024 0
+
+module _ {load : Load} {g : Nodes} {b : ℕ} {order degrees chunks : List ℕ} (can : CanFetch load g b order degrees chunks) where
+  pub checked : Checked load g.n g.area.now g.registered
   checked = can.listable.checked
 
-  pub fetch_clear : n ≤ length marks
-  fetch_clear = omega (arith, checked.loadable.sizes.sets, lists.marks_long)
+  pub few_blank : g.n ≤ length blank
+  few_blank = omega (arith, g.small, length-replicate {A = ℕ} 1024 0)
 
-  pub fetch_mark : {blank : List ℕ} → length blank ≡ length marks → ((x : ℕ) → x < n → at blank x ≡ 0) → CanMark load n area r b blank
-  fetch_mark e z = record { checked = checked; bit = can.bit; long = omega (arith, fetch_clear); clear = z }
+  pub fetch_mark : CanMark load g b blank
+  fetch_mark = record { checked = checked; bit = can.bit; long = few_blank; clear = λ x l. zeros 1024 x }
 
-  pub fetch_low : CanLower area load.A n low
+  pub fetch_low : CanLower g.area.now load.A g.n blank
   fetch_low = record {
     few = checked.loadable.sizes.atoms;
     room = omega (arith, checked.loadable.sizes.area);
-    node = λ i l. omega (arith, checked.ranged.nodes i l, checked.ranged.few, checked.loadable.sizes.sets, lists.lows);
+    node = λ i l. omega (arith, checked.ranged.nodes i l, checked.ranged.few, few_blank);
   }
 
 -- no earlier row fits
@@ -103,29 +101,28 @@ module _ {load : Load} {n : ℕ} {area order degrees : List ℕ} (can : CanGoOn 
       go_short s = record { answer = rw (lt-leb load.E b low, free, lt-ltb (length chunks) load.A s) refl; list = refl }
 
       module _ (s : load.A ≤ length chunks) where
-        pub go_fetch : {r : ℕ} → r ≡ get_or area (n * n) 0 → CanFetch load n area r b order degrees chunks
-        go_fetch e = record { listable = rw e can.listable; bit = omega (arith, can.listable.checked.loadable.sizes.bits); room = s }
+        pub go_fetch : {g : Nodes} → g.area.now ≡ area → g.n ≡ n → g.registered ≡ get_or area (n * n) 0 → CanFetch load g b order degrees chunks
+        go_fetch p q e = record { listable = rw (p, q, e) can.listable; bit = omega (arith, can.listable.checked.loadable.sizes.bits); room = s }
 
-        pub go_told : {chunks' : List ℕ} {k j : ℕ} → Fetched load n area b chunks chunks' k → j ≡ k → GoesOn load n area b chunks (answer.number j) chunks'
+        pub go_told : {chunks' : List ℕ} {k : ℕ} → Fetched load n area b chunks chunks' k → GoesOn load n area b chunks (answer.number k) chunks'
         unfolding told
-        go_told f e = record {
-          answer = rw (lt-leb load.E b low, free, le-ltb (length chunks) load.A s) (ap answer.number (e ∙ f.many));
+        go_told f = record {
+          answer = rw (lt-leb load.E b low, free, le-ltb (length chunks) load.A s) (ap answer.number f.many);
           list = f.named;
         }
 
 -- the whole call
-pub call_on : {load : Load} {fixed : List ℕ} {n : ℕ} {area order degrees : List ℕ} {q : ℕ} → RowTold load fixed n area degrees order q → q ≡ 0 → CanGoOn load n area order degrees
-call_on t z = record { listable = t.listable z }
+pub call_on : {load : Load} {fixed : List ℕ} {n : ℕ} {area order degrees : List ℕ} → RowTold load fixed n area degrees order 0 → CanGoOn load n area order degrees
+call_on t = record { listable = t.listable refl }
 
-module _ (load : Load) (fixed : List ℕ) (n : ℕ) (area : List ℕ) (b : ℕ) (chunks : List ℕ) {order degrees : List ℕ} {q : ℕ} (t : RowTold load fixed n area degrees order q) where
-  pub call_refused : (q ≡ 0 → ⊥) → (refused q ≡ (started load fixed n area b chunks).answer) × (chunks ≡ (started load fixed n area b chunks).chunks)
+module _ {load : Load} {fixed : List ℕ} {n : ℕ} {area : List ℕ} (b : ℕ) (chunks : List ℕ) {order degrees : List ℕ} where
+  pub call_refused : (r : Refusal) → RowTold load fixed n area degrees order (row r) → (refused (row r) ≡ (started load fixed n area b chunks).answer) × (chunks ≡ (started load fixed n area b chunks).chunks)
   unfolding started
-  call_refused h = rw (turned-back load fixed n area (λ z. h (t.row ∙ z)) (told load (place_in load n area) b chunks)) (ap refused t.row, refl)
+  call_refused r t = rw (turned_by load fixed n area r t.row (told load (place_in load n area) b chunks)) (refl, refl)
 
-  module _ (z : q ≡ 0) where
-    pub call-answer : {x : Answer} {chunks' : List ℕ} → GoesOn load n area b chunks x chunks'
-        → (x ≡ (started load fixed n area b chunks).answer) × (chunks' ≡ (started load fixed n area b chunks).chunks)
-    unfolding started
-    call-answer f =
-        rw (goes_on load fixed n area (sym t.row ∙ z) (told load (place_in load n area) b chunks))
-        (f.answer, f.list ∙ ap (λ (y : Answer). cond (is_refused y) chunks (patch 0 (names load (place_in load n area) b) chunks)) f.answer)
+  pub call-answer : RowTold load fixed n area degrees order 0 → {x : Answer} {chunks' : List ℕ} → GoesOn load n area b chunks x chunks'
+      → (x ≡ (started load fixed n area b chunks).answer) × (chunks' ≡ (started load fixed n area b chunks).chunks)
+  unfolding started
+  call-answer t f =
+      rw (goes_on load fixed n area (sym t.row) (told load (place_in load n area) b chunks))
+      (f.answer, f.list ∙ ap (λ (y : Answer). cond (is_refused y) chunks (patch 0 (names load (place_in load n area) b) chunks)) f.answer)

@@ -7,7 +7,6 @@ pub mod Bits
 pub mod Lowest
 pub mod Steps
 pub mod Walked
-pub mod StepLaws
 pub mod Running
 pub mod Walking
 pub mod Calls

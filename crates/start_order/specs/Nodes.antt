@@ -1,26 +1,24 @@
 -- A checked area as the setting of the turns. Assumes nothing.
-use Rattle.std.specs.Prelude.{ℕ, zero, suc, ◌+◌, ◌-◌, ◌*◌, ◌≤◌, ◌<◌, ◌≡◌, refl, Bool, not, ◌&&◌, List, [], eqb, ltb, length, get_or}
-use Rattle.std.proofs.Common.{arith, ◌∙◌, ne_eqb, lt-ltb}
+use Rattle.std.specs.Prelude.{ℕ, ◌-◌, ◌<◌, ◌≡◌, refl, Bool, ◌&&◌, List, [], ltb, length, take}
+use Rattle.std.proofs.Common.{arith, ◌∙◌}
 use Rattle.std.proofs.Math.Path.{sym, ap}
+use Rattle.std.proofs.lemmas.List.{length-take-le, get_or-take}
 use Rattle.std.proofs.Math.Bool.{true, false, true≢false}
 use Rattle.graphs.specs.Count.{ind, count_ext}
 use Rattle.graphs.specs.Lists.{any, has, has-place}
 use Rattle.graphs.specs.Slots.{slot_edge}
-use Rattle.graphs.specs.SlotLaws.{flat-mult}
-use Rattle.graphs.specs.Square.{index_lt}
-use Rattle.entry_set.specs.Lanes.{lanes}
 use Rattle.set_order.specs.Order.{lane_set, order_inside, order_place}
 use Rattle.move_ledger.specs.Graph.{Load, at, edge, rising}
 use Rattle.move_ledger.proofs.GraphLaws.{edge-target}
 use Rattle.move_ledger.specs.Listing.{rising-rising, has-rising}
-use Rattle.move_ledger.specs.LoadLaws.{InOrder}
-use Rattle.move_ledger.specs.Nodes.{Placing, node_edge}
+use Rattle.move_ledger.specs.Nodes.{node_edge}
 use Rattle.move_ledger.specs.NodeLaws.{placed-length, placed_at}
-use Rattle.move_ledger.specs.NodeWalks.{ends-nodes, edge-inside}
+use Rattle.move_ledger.specs.NodeWalks.{edge-inside}
 use Rattle.move_ledger.proofs.NodeWalks.{mult-nodes}
 use Rattle.move_area.specs.Area.{sets_in, decode}
-use Rattle.move_area.specs.Bodies.{lane_at}
-use Rattle.move_area.specs.Checked.{nodes_in, sets-length, sets-at, ranged_placing}
+use Rattle.move_area.specs.Checked.{nodes_in}
+use Rattle.move_questions.proofs.Asking as asking
+pub use Rattle.move_questions.proofs.Asking.{order_of, placing, long, few, cell-edge}
 use Rattle.move_questions.specs.Answers.{place_in, set_lane, Checked, Listable}
 use Rattle.move_order.specs.Order.{wanted, listing}
 use Rattle.move_order.specs.Wanted.{wanted-inside}
@@ -36,65 +34,40 @@ setting load n area b = record {
   edge = node_edge load (nodes_in load n area) (sets_in n area);
 }
 
-above_none : (a : ℕ) → not (eqb a 0) ≡ ltb 0 a
-above_none zero = refl
-above_none (suc a) = ap not (ne_eqb (suc a) 0 (λ e. omega arith)) ∙ sym (lt-ltb 0 (suc a) (omega arith))
-
 module _ {load : Load} {n : ℕ} {area : List ℕ} {r : ℕ} (h : Checked load n area r) where
-  pub order_of : InOrder load
-  order_of = h.loadable.order
-
-  pub placing : Placing load (nodes_in load n area) (sets_in n area)
-  placing = ranged_placing h.loadable.sizes.sets h.ranged
-
-  pub long : length (sets_in n area) ≡ r
-  long = sets-length n area ∙ sym h.sets
-
-  pub few : r ≤ n
-  few = omega (arith, h.sets, h.ranged.few)
-
   pub atoms : length (place_in load n area) ≡ load.A
   unfolding decode
-  atoms = placed-length (nodes_in load n area) (sets_in n area) ∙ placing.atoms
+  atoms = placed-length (nodes_in load n area) (sets_in n area) ∙ (placing h).atoms
 
   pub place_at : (i : ℕ) → i < load.A → at (place_in load n area) i ≡ at (sets_in n area) (at (nodes_in load n area) i)
   unfolding decode
-  place_at i b = placed_at (nodes_in load n area) (sets_in n area) i (omega (arith, placing.atoms))
+  place_at i b = placed_at (nodes_in load n area) (sets_in n area) i (omega (arith, (placing h).atoms))
 
   -- the set of a node
   pub set_at : (x : ℕ) → x < r → lane_set area (set_lane n) n x ≡ at (sets_in n area) x
-  set_at x b =
-      let e : set_lane n + x ≡ lane_at n 0 + x = omega arith in
-      ap (λ i. lanes area i n) e ∙ sym (sets-at n area x (omega (arith, sets-length n area, long)))
+  set_at x b = asking.set_at h x (omega (arith, long h))
 
   -- a chunk is the set of an atom's node
   pub chunk_node : (X : ℕ) → has X (place_in load n area) ≡ true → (i : ℕ) × (i < load.A) × (at (nodes_in load n area) i < r) × (at (sets_in n area) (at (nodes_in load n area) i) ≡ X)
   chunk_node X m =
       let q = has-place X (place_in load n area) m in
       let b : q.0 < load.A = omega (arith, q.1, atoms) in
-      (q.0, b, omega (arith, placing.inside q.0 b, long), sym (place_at q.0 b) ∙ q.2)
+      (q.0, b, omega (arith, (placing h).inside q.0 b, long h), sym (place_at q.0 b) ∙ q.2)
 
   -- the edges between nodes are those between their sets
   pub same-edge : (x y : ℕ) → x < r → y < r → edge load (place_in load n area) (at (sets_in n area) x) (at (sets_in n area) y) ≡ node_edge load (nodes_in load n area) (sets_in n area) x y
   unfolding decode edge slot_edge
-  same-edge x y a b = ap (ltb 0) (sym (mult-nodes order_of placing x y (omega (arith, long)) (omega (arith, long))))
+  same-edge x y a b = ap (ltb 0) (sym (mult-nodes (order_of h) (placing h) x y (omega (arith, long h)) (omega (arith, long h))))
 
   pub edge-ends : (x y : ℕ) → node_edge load (nodes_in load n area) (sets_in n area) x y ≡ true → (x < r) × (y < r)
-  edge-ends x y e = let q = edge-inside order_of placing x y e in (omega (arith, q.0, long), omega (arith, q.1, long))
-
-  -- a cell of the matrix isn't 0 where there is an edge
-  pub cell-edge : (x y : ℕ) → x < n → y < n → not (eqb (get_or area (x * n + y) 0) 0) ≡ node_edge load (nodes_in load n area) (sets_in n area) x y
-  unfolding slot_edge
-  cell-edge x y a b =
-      above_none (get_or area (x * n + y) 0)
-      ∙ ap (ltb 0) (h.worked.edges (x * n + y) (index_lt n x y a b) ∙ flat-mult _ _ n _ x y (ends-nodes order_of placing n (omega (arith, long, few)) (omega arith)) b)
+  edge-ends x y e = let q = edge-inside (order_of h) (placing h) x y e in (omega (arith, q.0, long h), omega (arith, q.1, long h))
 
   pub fits : (b : ℕ) → Fits (setting load n area b) r
   fits b = record {
     rises = rising-rising (place_in load n area);
     node = λ X m. let q = chunk_node X (sym (has-rising X (place_in load n area)) ∙ m) in (at (nodes_in load n area) q.0, q.2, q.3);
     member = λ x w. has-rising _ (place_in load n area) ∙ wanted-inside load (place_in load n area) b _ w;
-    apart = λ x y c d e. placing.distinct x y (omega (arith, long)) (omega (arith, long)) e;
+    apart = λ x y c d e. (placing h).distinct x y (omega (arith, long h)) (omega (arith, long h)) e;
     same = same-edge;
     inside = λ x y e. (edge-ends x y e).1;
     target = λ x y e.
@@ -103,13 +76,21 @@ module _ {load : Load} {n : ℕ} {area : List ℕ} {r : ℕ} (h : Checked load n
   }
 
 module _ {load : Load} {n : ℕ} {area : List ℕ} {r : ℕ} {order degrees : List ℕ} (h : Listable load n area r order degrees) (b : ℕ) where
-  pub row : Row (setting load n area b) r order
+  -- as many numbers of the order as there are nodes
+  pub row_long : length (take r order) ≡ r
+  row_long = length-take-le r order h.order_long
+
+  pub row : Row (setting load n area b) r (take r order)
   row = record {
-    node = order_inside h.ordered;
-    place = order_place h.ordered;
+    node = λ i c. rw (front i c) (order_inside h.ordered i c);
+    place = λ x c. let p = order_place h.ordered x c in (p.0, p.1, front p.0 p.1 ∙ p.2);
     rise = λ i j l c.
-        omega (arith, h.ordered.rise i j l c, set_at h.checked (at order i) (order_inside h.ordered i (omega arith)), set_at h.checked (at order j) (order_inside h.ordered j c));
+        rw (front i (omega arith), front j c)
+        (omega (arith, h.ordered.rise i j l c, set_at h.checked (at order i) (order_inside h.ordered i (omega arith)), set_at h.checked (at order j) (order_inside h.ordered j c)));
   }
+    where
+      front : (i : ℕ) → i < r → at (take r order) i ≡ at order i
+      front i c = get_or-take r order i 0 c
 
   -- before the first turn
   pub turn-none : {marks : List ℕ} → ((x : ℕ) → x < r → at marks x ≡ ind (wanted load (place_in load n area) b (at (sets_in n area) x))) → Turn (setting load n area b) n r load.A 0 [] marks degrees

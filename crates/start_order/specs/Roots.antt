@@ -1,5 +1,5 @@
 -- The nodes from which a desk starts: marked 1 and put on the stack, by rising number. Assumes nothing.
-use Rattle.std.specs.Prelude.{ℕ, ◌+◌, ◌≤◌, ◌<◌, ◌≡◌, refl, Bool, true, false, not, List, ltb, length, set}
+use Rattle.std.specs.Prelude.{ℕ, ◌+◌, ◌≤◌, ◌<◌, ◌≡◌, Bool, true, false, not, List, ltb, length, set}
 use Rattle.std.proofs.Common.{arith, sym, ap, ◌∙◌, true≢false, length-set, get_or-set_same, get_or-set_other, lt-ltb, le-ltb}
 use Rattle.std.proofs.Math.Decide.{ℕ_discrete}
 use Rattle.graphs.specs.Count.{ind}
@@ -20,11 +20,6 @@ pub record Blank (n : ℕ) (marks stack : List ℕ) : Type 0 where
   pub cells : n ≤ length marks
   pub room : n ≤ length stack
   pub clear : (x : ℕ) → x < n → at marks x ≡ 0
-
--- x is marked and goes on the stack where the test says so
-pub record Seeded (b : Bool) (x : ℕ) (marks stack : List ℕ) (h : ℕ) (marks' stack' : List ℕ) (h' : ℕ) : Type 0 where
-  pub no : b ≡ false → (marks' ≡ marks) × (stack' ≡ stack) × (h' ≡ h)
-  pub yes : b ≡ true → Looked marks stack 1 h x marks' stack' h'
 
 met_no : (l : List ℕ) (x : ℕ) → at l x ≡ 0 → met 1 l x ≡ 0
 met_no l x h = ap (λ b. ind (not b)) (lt-ltb (at l x) 1 (omega arith))
@@ -92,8 +87,9 @@ module _ {p : ℕ → Bool} {n x : ℕ} {marks stack : List ℕ} {h : ℕ} (v : 
     ];
   }
 
-  passed : p x ≡ false → Roots p n (x + 1) marks stack h
-  passed q = record {
+  -- a node that does not start
+  pub roots_same : p x ≡ false → Roots p n (x + 1) marks stack h
+  roots_same q = record {
     ready = v.ready;
     marked = λ y b. elim (ℕ_discrete y x) [ yes e ↦ ap (at marks) e ∙ free ∙ sym (ap ind (ap p e ∙ q)) | no e ↦ v.marked y (omega arith) ];
     beyond = λ y b c. v.beyond y (omega arith) c;
@@ -101,9 +97,6 @@ module _ {p : ℕ → Bool} {n x : ℕ} {marks stack : List ℕ} {h : ℕ} (v : 
     of_stack = λ j b. let r = v.of_stack j b in (omega (arith, r.0), r.1);
   }
 
-  pub roots_more : {marks'' stack'' : List ℕ} {h' : ℕ} → Seeded (p x) x marks stack h marks'' stack'' h' → Roots p n (x + 1) marks'' stack'' h'
-  roots_more {marks''} {stack''} {h'} s = go (p x) refl
-    where
-      go : (b : Bool) → p x ≡ b → Roots p n (x + 1) marks'' stack'' h'
-      go true q = let w = (s.yes q).new (omega (arith, free)) in rw (w.0, w.1, w.2) (pushed q)
-      go false q = let w = s.no q in rw (w.0, w.1, w.2) (passed q)
+  -- and one that does
+  pub roots_more : p x ≡ true → {marks'' stack'' : List ℕ} {h' : ℕ} → Looked marks stack 1 h x marks'' stack'' h' → Roots p n (x + 1) marks'' stack'' h'
+  roots_more q s = let w = s.new (omega (arith, free)) in rw (w.0, w.1, w.2) (pushed q)

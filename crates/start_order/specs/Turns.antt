@@ -69,10 +69,6 @@ has-map f Y (y ∷ l) h =
     ⊎_elim (λ a. (y, or_left (eqb y y) _ (eq-eqb y y refl), sym (eqb-true Y (f y) a)))
     (λ b. let r = has-map f Y l b in (r.0, or_right (eqb r.0 y) _ r.1, r.2)) (or_cases (eqb Y (f y)) _ h)
 
-pub map_snoc : (f : ℕ → ℕ) (l : List ℕ) (z : ℕ) → map f (l ++ z ∷ []) ≡ map f l ++ f z ∷ []
-map_snoc f [] z = refl
-map_snoc f (x ∷ l) z = ap (λ m. f x ∷ m) (map_snoc f l z)
-
 -- one edge fewer is left where there is one to z
 pub one_less : (e : ℕ → Bool) (l : List ℕ) (n z : ℕ) → z < n → has z l ≡ false
     → count (λ y. e y && not (has y (l ++ z ∷ []))) n + ind (e z) ≡ count (λ y. e y && not (has y l)) n

@@ -3,118 +3,66 @@
 
 mod atoms;
 mod fetch;
+mod nodes;
 mod turns;
 mod wanted;
 
-ghost use Rattle.std.specs.Prelude.{◌≡◌, ◌*◌, ◌+◌, ◌<◌, length, get_or};
-ghost use Rattle.move_ledger.specs.Graph.{lent};
+ghost use Rattle.std.specs.Prelude.{◌≡◌};
+ghost use Rattle.move_load_view.specs.View.{lent_by};
 ghost use Rattle.move_order.specs.Order.{started};
 ghost use Rattle.reduced_chunk_graph.specs.Answers.{of_number};
 ghost use Rattle.start_order.specs.Calls.{CanGoOn, GoesOn};
 
+use move_load_view::Load;
 use move_rows::listed::listed_row;
-use reduced_chunk_graph::NumberAnswer;
-
-// x as a number of 64 bits.
-fn wide(x: usize) -> u64
-    ensures { result ≡ x }
-{
-    x as u64
-}
+use nodes::Nodes;
+use refusals::Refusal;
 
 // Rows 26 and 27, then the chunks: `order` has the nodes by rising sets, `degrees` each node's number of edges.
 fn go_on(
-    a: usize,
-    d: usize,
-    e: usize,
+    load: &Load,
     n: usize,
-    starts: &[u32],
-    dependencies: &[u32],
-    hosts: &[u32],
     area: &[u32],
     bit: u64,
     order: &[u32],
     degrees: &mut [u32],
     chunks: &mut [u32],
-) -> NumberAnswer
-    requires { CanGoOn (lent a d e starts.now dependencies.now hosts.now) n area.now order.now degrees.old }
-    ensures { GoesOn (lent a d e starts.now dependencies.now hosts.now) n area.now bit chunks.old (of_number result) chunks.new }
+) -> Result<u64, Refusal>
+    requires { CanGoOn (lent_by load.now) n area.now order.now degrees.old }
+    ensures { GoesOn (lent_by load.now) n area.now bit chunks.old (of_number result) chunks.new }
 {
-    if wide(e) <= bit {
-        return NumberAnswer::Refused(26);
+    if load.bits as u64 <= bit {
+        return Err(Refusal::NoStart);
     }
     if area[n * n + 2] == 0 {
-        return NumberAnswer::Refused(26);
+        return Err(Refusal::NoStart);
     }
-    if chunks.len() < a {
-        return NumberAnswer::Refused(27);
+    if chunks.len() < load.atoms {
+        return Err(Refusal::OrderTooShort);
     }
-    let registered = move_rows::registered(area, n);
-    let count = fetch::fetch(
-        a,
-        d,
-        e,
-        n,
-        starts,
-        dependencies,
-        hosts,
+    let nodes = Nodes {
         area,
-        registered,
-        bit as usize,
-        order,
-        degrees,
-        chunks,
-    );
-    NumberAnswer::Number(wide(count))
+        n,
+        registered: move_rows::registered(area, n),
+    };
+    let count = fetch::fetch(load, &nodes, bit as usize, order, degrees, chunks);
+    Ok(count as u64)
 }
 
 // Lists the chunks to fetch for an entry bit, each behind all that its edges lead to, by their lowest atoms, and tells how many there are.
 pub fn start_order(
-    a: usize,
-    d: usize,
-    e: usize,
+    load: &Load,
     n: usize,
-    starts: &[u32],
-    dependencies: &[u32],
-    hosts: &[u32],
     fixed: &[u32],
     area: &[u32],
     bit: u64,
     chunks: &mut [u32],
-) -> NumberAnswer
-    ensures result_value { of_number result ≡ (started (lent a d e starts.now dependencies.now hosts.now) fixed.now n area.now bit chunks.old).answer }
-    ensures chunks_after { chunks.new ≡ (started (lent a d e starts.now dependencies.now hosts.now) fixed.now n area.now bit chunks.old).chunks }
+) -> Result<u64, Refusal>
+    ensures result_value { of_number result ≡ (started (lent_by load.now) fixed.now n area.now bit chunks.old).answer }
+    ensures chunks_after { chunks.new ≡ (started (lent_by load.now) fixed.now n area.now bit chunks.old).chunks }
 {
     let mut degrees = [0u32; 1024];
     let mut order = [0u32; 1024];
-    let q = listed_row(
-        a,
-        d,
-        e,
-        n,
-        starts,
-        dependencies,
-        hosts,
-        fixed,
-        area,
-        &mut degrees,
-        &mut order,
-    );
-    if q != 0 {
-        return NumberAnswer::Refused(q);
-    }
-    go_on(
-        a,
-        d,
-        e,
-        n,
-        starts,
-        dependencies,
-        hosts,
-        area,
-        bit,
-        &order,
-        &mut degrees,
-        chunks,
-    )
+    listed_row(load, n, fixed, area, &mut degrees, &mut order)?;
+    go_on(load, n, area, bit, &order, &mut degrees, chunks)
 }

@@ -1,4 +1,4 @@
--- `chain::run` meets its contract. Assumes nothing.
+-- What was read is answered as the whole input would be. Assumes nothing.
 use native.Mathlib.Omega.{arith}
 use Rattle.chain.specs.Ran.{ran}
 use Rattle.chain.proofs.run.Goals as goal

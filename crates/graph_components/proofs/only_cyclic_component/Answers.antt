@@ -1,6 +1,5 @@
 -- `graph_components::only_cyclic_component` meets its contract. Assumes nothing.
-use Rattle.graph_components.proofs.Found.{back_can, meet_can, only-done}
-use borrow.Author.Rules.{rules}
+use Rattle.graph_components.proofs.OnlyOne.{back_can, meet_can, only-done}
 use Rattle.graph_components.proofs.only_cyclic_component.Goals as goal
 
 pub second_walk-requires : goal.second_walk-requires
@@ -10,4 +9,4 @@ pub within-found-requires : goal.within-found-requires
 within-found-requires c = meet_can c.requires c.second_walk.ensures c.second_walk.auto.label
 
 pub returns : goal.returns
-returns c = only-done (meet_can c.requires c.second_walk.ensures c.second_walk.auto.label) c.within-found.ensures c.flag_all.ensures
+returns c = only-done (meet_can c.requires c.second_walk.ensures c.second_walk.auto.label) c.within-found.result c.within-found.ensures c.flag_all.ensures

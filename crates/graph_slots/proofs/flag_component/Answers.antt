@@ -2,7 +2,6 @@
 use native.Mathlib.Omega.{arith}
 use mathlib.Core.Path.{refl}
 use Rattle.graph_slots.proofs.Turned.{only_can, only_slots}
-use borrow.Author.Rules.{rules}
 use Rattle.graph_slots.proofs.flag_component.Goals as goal
 
 pub group-requires : goal.group-requires

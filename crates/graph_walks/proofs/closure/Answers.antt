@@ -1,19 +1,7 @@
--- `graph_walks::closure` meets its contract. Assumes nothing.
-use native.Mathlib.Omega.{arith}
-use mathlib.Core.Path.{◌∙◌}
-use Rattle.graph_walks.proofs.Layer.{ready-first}
-use Rattle.graph_walks.proofs.Ends.{row_can, closure_done}
-use borrow.Author.Rules.{rules}
+-- A walk over the rows of flags. Assumes nothing.
+use Rattle.graph_walks.proofs.Ends.{offers_rows}
 use Rattle.graph_walks.proofs.closure.Goals as goal
 
-pub scan_row-first-requires : goal.scan_row-first-requires
-scan_row-first-requires c =
-    row_can c.requires.rows (ready-first c.requires.cells c.requires.room) c.requires.first
-
-pub scan_row-both-requires : goal.scan_row-both-requires
-scan_row-both-requires c =
-    row_can c.requires.rows c.scan_row-first.ensures.ready (omega (arith, c.requires.first, c.requires.second))
-
-pub returns : goal.returns
-returns c =
-    closure_done c.requires c.scan_row-first.ensures c.scan_row-both.ensures c.spread_rows.ensures (c.spread_rows.auto.marks ∙ c.scan_row-both.auto.marks ∙ c.scan_row-first.auto.marks)
+pub close_over-requires : goal.close_over-requires
+close_over-requires c =
+    record { edges = c.requires.rows; offers = offers_rows _ _ _; can = record { cells = c.requires.cells; room = c.requires.room; first = c.requires.first; second = c.requires.second; fresh = c.requires.fresh } }

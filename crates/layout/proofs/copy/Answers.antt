@@ -1,53 +1,13 @@
--- `layout::copy` meets its contract. Assumes nothing.
-use Prim.Native.Nat.{◌-◌}
-use native.Mathlib.Omega.{arith}
-use Rattle.layout.proofs.Writes.{Copying, copy_none, copy_more, copy_done}
+-- `layout::copy`: a lent part that is back is a patch, and what was read is a part. Assumes nothing.
+use Rattle.std.proofs.Common.{arith, rules, ap, ◌≡◌, ◌∙◌, List, ℕ, ◌+◌, ◌-◌}
+use Rattle.layout.specs.Patch.{patch, part}
+use Rattle.layout.specs.Lent.{mid_part, put-patch}
 use Rattle.layout.proofs.copy.Goals as goal
-
-pub loop-i-init : goal.loop-i-init
-loop-i-init c =
-    copy_none
-
-pub overflow_add-area : goal.overflow_add-area
-overflow_add-area c =
-    omega (arith, c.loop-i.invariant, c.requires)
-
-pub offset_bounds-from-start : goal.offset_bounds-from-start
-offset_bounds-from-start c =
-    omega (arith, c.loop-i.invariant, c.requires)
-
-pub bounds-from-start : goal.bounds-from-start
-bounds-from-start c =
-    omega (arith, c.loop-i.invariant, c.requires)
-
-pub overflow_add-area-in-loop-i : goal.overflow_add-area-in-loop-i
-overflow_add-area-in-loop-i c =
-    omega (arith, c.loop-i.invariant, c.requires)
-
-pub offset_bounds-area-at : goal.offset_bounds-area-at
-offset_bounds-area-at c =
-    omega (arith, c.loop-i.invariant, c.requires)
-
-pub bounds-area-at : goal.bounds-area-at
-bounds-area-at c =
-    omega (arith, c.loop-i.invariant, c.requires)
-
-pub overflow_add-i : goal.overflow_add-i
-overflow_add-i c =
-    omega (arith, c.loop-i.invariant, c.requires)
-
-pub loop-i-smaller : goal.loop-i-smaller
-loop-i-smaller c =
-    omega arith
-
-pub loop-i-preserved : goal.loop-i-preserved
-loop-i-preserved c =
-    copy_more c.loop-i.invariant c.loop-i-test.true c.requires.inside
-
-pub shape_of-area : goal.shape_of-area
-shape_of-area c =
-    c.loop-i.invariant.long
 
 pub returns : goal.returns
 returns c =
-    copy_done c.loop-i.invariant (omega arith)
+    let s = c.args in
+    let read = mid_part s.start (s.start + s.k) s.from.now (omega arith) (omega arith) in
+    let long : s.start + s.k - s.start ≡ s.k = omega arith in
+    put-patch s.at (s.at + s.k) s.area.now c.copy_from_slice.new.self (omega arith) (omega arith) (search rules)
+    ∙ ap (λ (v : List ℕ). patch s.at v s.area.now) (c.copy_from_slice.ensures.after ∙ read ∙ ap (λ (k : ℕ). part s.start k s.from.now) long)

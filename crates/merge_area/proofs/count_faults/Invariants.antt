@@ -1,16 +1,8 @@
-use borrow.Author.Rules.{rules}
-use Rattle.merge_area.proofs.Laws.{counted, counted_le}
+-- As many as misfit among the numbers so far. Assumes nothing.
+use Rattle.std.proofs.Common.{◌≡◌, ◌+◌, take, count_by}
+use Rattle.std.specs.List.{between}
 use Rattle.merge_state.specs.State.{misfit}
-use Rattle.merge_area.specs.Consistent.{faults}
-use Rattle.graphs.specs.Count.{count, count_none, count_le}
-use lib.ListN.{get_or}
-use mathlib.Core.Path.{◌≡◌, sym, ap, ◌∙◌}
-use native.Mathlib.Omega.{arith}
-use Prim.Native.Nat.{◌-◌, ◌≤◌, ◌+◌}
 use Rattle.merge_area.proofs.count_faults.Given as goal
 
-abbrev pub invariant-loop-i : goal.invariant-loop-i
-invariant-loop-i l = (l.i ≤ l.n) × (l.bad ≡ count (λ j. misfit l.top l.free (get_or l.l (l.at + j) 0)) l.i)
-
-abbrev pub decreases-loop-i : goal.decreases-loop-i
-decreases-loop-i l = l.n - l.i
+abbrev pub invariant-loop-number : goal.invariant-loop-number
+invariant-loop-number l = l.faults ≡ count_by (misfit l.top l.free) (take l.number-index (between l.at (l.at + l.n) l.list))

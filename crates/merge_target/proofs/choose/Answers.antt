@@ -1,32 +1,33 @@
--- `merge_target::choose` meets its contract. Assumes nothing.
-use Rattle.graphs.specs.Tab.{zeros}
+-- The roles first, then the target by them. Assumes nothing.
+use Rattle.std.proofs.Common.{arith, ℕ, ◌<◌, ◌∙◌, length-take}
+use Rattle.std.proofs.lemmas.List.Elements.{All-from_get_or}
 use Rattle.merge_choice.specs.Named.{bits_le}
 use Rattle.merge_choice.specs.Rows.{legal}
-use Rattle.merge_choice.specs.Chosen.{can_roles, ready, can_guard, common_chunk, among_users, among-dynamic}
-use native.Mathlib.Omega.{arith}
-use borrow.Author.Rules.{rules}
+use Rattle.merge_target.proofs.Choosing.{sound, roled, choice_is}
 use Rattle.merge_target.proofs.choose.Goals as goal
 
-pub set_roles-requires : goal.set_roles-requires
-set_roles-requires c = can_roles (legal _ _ _ _ c.requires.0) _ _ c.bits-n.ensures c.requires.1 (search rules) (zeros 1024)
+pub table-table-requires-clause-small : goal.table-table-requires-clause-small
+table-table-requires-clause-small c = let P : ℕ → Type 0 = λ kind. kind < 9 in All-from_get_or P c.args.bundle.now.kinds.now 0 (legal _ _ _ _ c.requires.lists).kind
 
-pub some_role-requires : goal.some_role-requires
-some_role-requires c = omega (arith, c.set_roles.ensures.long, c.bits-n.ensures, (bits_le c.args.counts.chunks).0)
+pub slice_bounds-table-end : goal.slice_bounds-table-end
+slice_bounds-table-end c = let w = bits_le c.args.bundle.now.chunks in omega (arith, c.bits.ensures)
 
-pub returns-then-some_role : goal.returns-then-some_role
-returns-then-some_role c = common_chunk (legal _ _ _ _ c.requires.0) _ _ c.set_roles.ensures c.bits-n.ensures c.some_role.ensures c.if-some_role.true
+pub slice_bounds-chosen-end : goal.slice_bounds-chosen-end
+slice_bounds-chosen-end c = let w = bits_le c.args.bundle.now.chunks in omega (arith, c.bits.ensures, length-take c.bits.result c.table-table.result)
 
-pub some_role-requires-2 : goal.some_role-requires-2
-some_role-requires-2 c = omega (arith, c.set_roles.ensures.long, c.bits-n.ensures, (bits_le c.args.counts.chunks).0)
+pub chosen-requires-clause-sound : goal.chosen-requires-clause-sound
+chosen-requires-clause-sound c = sound c.args.bundle.now c.args.candidate.now (legal _ _ _ _ c.requires.lists)
 
-pub user_target-requires : goal.user_target-requires
-user_target-requires c = (ready (legal _ _ _ _ c.requires.0) _ _ 2 c.set_roles.ensures c.bits-n.ensures (search rules) (λ z. omega arith) (λ z. omega arith), can_guard (legal _ _ _ _ c.requires.0))
+pub chosen-requires-clause-own : goal.chosen-requires-clause-own
+chosen-requires-clause-own c = let P : ℕ → Type 0 = λ m. m < c.args.bundle.now.modules in All-from_get_or P c.args.candidate.now.modules.now 0 (legal _ _ _ _ c.requires.lists).own
 
-pub returns-then-some_role-2 : goal.returns-then-some_role-2
-returns-then-some_role-2 c = among_users (legal _ _ _ _ c.requires.0) _ _ c.set_roles.ensures c.bits-n.ensures c.some_role.ensures c.if-some_role.false c.some_role-2.ensures c.if-some_role-2.true c.user_target.ensures
+pub chosen-requires-clause-roled : goal.chosen-requires-clause-roled
+chosen-requires-clause-roled c =
+    let s = c.args in
+    let w = bits_le s.bundle.now.chunks in
+    roled s.bundle.now s.candidate.now (legal _ _ _ _ c.requires.lists) s.classes.now _ _ _ c.table-table.ensures c.bits.ensures (omega (arith, c.bits.ensures))
 
-pub dynamic_target-requires : goal.dynamic_target-requires
-dynamic_target-requires c = (ready (legal _ _ _ _ c.requires.0) _ _ 1 c.set_roles.ensures c.bits-n.ensures (search rules) (λ z. omega arith) (λ z. omega arith), (legal _ _ _ _ c.requires.0).shown)
-
-pub returns : goal.returns
-returns c = among-dynamic (legal _ _ _ _ c.requires.0) _ _ c.set_roles.ensures c.bits-n.ensures c.some_role.ensures c.if-some_role.false c.some_role-2.ensures c.if-some_role-2.false c.dynamic_target.ensures
+pub returns-clause-value : goal.returns-clause-value
+returns-clause-value c =
+    let s = c.args in
+    c.chosen.ensures.value ∙ choice_is s.classes.now s.bundle.now.kinds.now _ _ _ _ _ c.table-table.ensures (legal _ _ _ _ c.requires.lists).count c.bits.ensures

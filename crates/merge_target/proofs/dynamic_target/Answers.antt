@@ -1,20 +1,18 @@
--- `merge_target::dynamic_target` meets its contract. Assumes nothing.
-use Rattle.merge_choice.specs.Chosen.{can_first, can_pollute}
-use Rattle.merge_choice.proofs.Chosen.{found_below, dynamic-none, dynamic-polluted, dynamic-found}
-use borrow.Author.Rules.{rules}
+-- The first entry that wins, unless it is polluted. Assumes nothing.
+use Rattle.std.proofs.Common.{arith, refl}
+use Rattle.merge_choice.proofs.Chosen.{dynamic-none, dynamic-polluted, dynamic-found}
+use Rattle.merge_target.specs.Roles.{numbers}
 use Rattle.merge_target.proofs.dynamic_target.Goals as goal
 
-pub first_target-t-requires : goal.first_target-t-requires
-first_target-t-requires c = can_first c.requires.0 c.bits-n.ensures
+pub returns-in_err-t-clause-value : goal.returns-in_err-t-clause-value
+returns-in_err-t-clause-value c = let s = c.args in rw c.from_residual.ensures (dynamic-none (numbers s.roles.now) _ _ _ _ _ c.requires.roled.count c.in_err-t.ensures.value refl)
 
-pub returns-then-t : goal.returns-then-t
-returns-then-t c = let s = c.args in dynamic-none s.roles.now _ _ _ _ _ c.bits-n.ensures c.first_target-t.ensures c.if-t.true
+pub returns-then-pollutes-clause-value : goal.returns-then-pollutes-clause-value
+returns-then-pollutes-clause-value c =
+    let s = c.args in
+    dynamic-polluted (numbers s.roles.now) _ _ _ _ _ c.requires.roled.count c.in_ok-t.ensures.value (λ z. omega (arith, c.in_ok-t.ensures.below)) c.pollutes.ensures c.if-pollutes.true
 
-pub pollutes-requires : goal.pollutes-requires
-pollutes-requires c = let s = c.args in can_pollute _ c.requires.0 c.requires.1 c.bits-n.ensures (found_below s.roles.now _ _ _ _ _ c.bits-n.ensures c.first_target-t.ensures c.if-t.false)
-
-pub returns-then-pollutes : goal.returns-then-pollutes
-returns-then-pollutes c = let s = c.args in dynamic-polluted s.roles.now _ _ _ _ _ c.bits-n.ensures c.first_target-t.ensures c.if-t.false c.pollutes.ensures c.if-pollutes.true
-
-pub returns : goal.returns
-returns c = let s = c.args in dynamic-found s.roles.now _ _ _ _ _ c.bits-n.ensures c.first_target-t.ensures c.if-t.false c.pollutes.ensures c.if-pollutes.false
+pub returns-clause-value : goal.returns-clause-value
+returns-clause-value c =
+    let s = c.args in
+    dynamic-found (numbers s.roles.now) _ _ _ _ _ c.requires.roled.count c.in_ok-t.ensures.value (λ z. omega (arith, c.in_ok-t.ensures.below)) c.pollutes.ensures c.if-pollutes.false

@@ -1,14 +1,7 @@
--- `merge_target::merge_target` meets its contract. Assumes nothing.
-use mathlib.Core.Path.{sym, ◌∙◌}
-use Rattle.merge_choice.specs.Chosen.{find_refused, find-told}
-use borrow.Author.Rules.{rules}
+-- The built-in classes are refused by no row. Assumes nothing.
+use Rattle.std.proofs.Common.{◌∙◌}
+use Rattle.merge_target.proofs.Told.{built_in_find}
 use Rattle.merge_target.proofs.merge_target.Goals as goal
 
-pub returns-then-is_refused : goal.returns-then-is_refused
-returns-then-is_refused c = find_refused _ _ _ _ _ (sym c.is_refused.ensures ∙ c.if-is_refused.true)
-
-pub choose-requires : goal.choose-requires
-choose-requires c = (sym c.is_refused.ensures ∙ c.if-is_refused.false, search rules)
-
 pub returns : goal.returns
-returns c = find-told _ _ _ _ _ (sym c.is_refused.ensures ∙ c.if-is_refused.false) c.choose.ensures c.answer.ensures
+returns c = c.merge_target_by_classes.ensures ∙ built_in_find _ _ _ _ _

@@ -1,33 +1,25 @@
--- `merge_target::user_target` meets its contract. Assumes nothing.
-use Rattle.merge_choice.specs.Chosen.{can_first, can_reach, can_leak, can_stray, user_none, user_unreached, user_leaks, user_strays, user_found}
-use Rattle.merge_choice.proofs.Chosen.{found_below}
-use native.Mathlib.Omega.{arith}
-use borrow.Author.Rules.{rules}
+-- The first entry that wins, unless a guard bars it. Assumes nothing.
+use Rattle.std.proofs.Common.{arith, refl}
+use Rattle.merge_choice.specs.Chosen.{user_none, user_unreached, user_leaks, user_strays, user_found}
+use Rattle.merge_target.specs.Roles.{numbers}
 use Rattle.merge_target.proofs.user_target.Goals as goal
+use Rattle.merge_target.proofs.user_target.Goals.{then-is_unreached-via-then-is_unreached, then-is_unreached-via-else-is_unreached+then-leaks, then-is_unreached-via-else-is_unreached+else-leaks+then-strays}
 
-pub first_target-t-requires : goal.first_target-t-requires
-first_target-t-requires c = can_first c.requires.0 c.bits-n.ensures
+pub returns-in_err-t-clause-value : goal.returns-in_err-t-clause-value
+returns-in_err-t-clause-value c = let s = c.args in rw c.from_residual.ensures (user_none (numbers s.roles.now) _ _ _ _ _ _ _ _ c.requires.roled.count c.in_err-t.ensures.value refl)
 
-pub returns-then-t : goal.returns-then-t
-returns-then-t c = let s = c.args in user_none s.roles.now _ _ _ _ _ _ _ _ c.bits-n.ensures c.first_target-t.ensures c.if-t.true
+pub returns-then-is_unreached-clause-value : goal.returns-then-is_unreached-clause-value
+returns-then-is_unreached-clause-value c =
+    let l = numbers c.args.roles.now in
+    let f = c.in_ok-t.ensures in
+    elim c.then-is_unreached.branch [
+      | then-is_unreached-via-then-is_unreached w ↦ user_unreached l _ _ _ _ _ _ _ _ c.requires.roled.count f.value (λ z. omega (arith, f.below)) c.is_unreached.ensures w.if-is_unreached.true
+      | then-is_unreached-via-else-is_unreached+then-leaks w ↦ user_leaks l _ _ _ _ _ _ _ _ c.requires.roled.count f.value (λ z. omega (arith, f.below)) c.is_unreached.ensures w.if-is_unreached.false w.leaks.ensures w.if-leaks.true
+      | then-is_unreached-via-else-is_unreached+else-leaks+then-strays w ↦ user_strays l _ _ _ _ _ _ _ _ c.requires.roled.count f.value (λ z. omega (arith, f.below)) c.is_unreached.ensures w.if-is_unreached.false w.leaks.ensures w.if-leaks.false w.strays.ensures w.if-strays.true
+    ]
 
-pub is_unreached-requires : goal.is_unreached-requires
-is_unreached-requires c = let s = c.args in can_reach c.requires.0 c.requires.1 c.bits-n.ensures (found_below s.roles.now _ _ _ _ _ c.bits-n.ensures c.first_target-t.ensures c.if-t.false)
-
-pub returns-then-is_unreached : goal.returns-then-is_unreached
-returns-then-is_unreached c = let s = c.args in user_unreached s.roles.now _ _ _ _ _ _ _ _ c.bits-n.ensures c.first_target-t.ensures c.if-t.false c.is_unreached.ensures c.if-is_unreached.true
-
-pub leaks-requires : goal.leaks-requires
-leaks-requires c = let s = c.args in (can_leak c.requires.0 c.requires.1, omega (arith, found_below s.roles.now _ _ _ _ _ c.bits-n.ensures c.first_target-t.ensures c.if-t.false, c.requires.1.sided))
-
-pub returns-then-leaks : goal.returns-then-leaks
-returns-then-leaks c = let s = c.args in user_leaks s.roles.now _ _ _ _ _ _ _ _ c.bits-n.ensures c.first_target-t.ensures c.if-t.false c.is_unreached.ensures c.if-is_unreached.false c.leaks.ensures c.if-leaks.true
-
-pub strays-requires : goal.strays-requires
-strays-requires c = let s = c.args in can_stray c.requires.0 c.requires.1 (found_below s.roles.now _ _ _ _ _ c.bits-n.ensures c.first_target-t.ensures c.if-t.false)
-
-pub returns-then-strays : goal.returns-then-strays
-returns-then-strays c = let s = c.args in user_strays s.roles.now _ _ _ _ _ _ _ _ c.bits-n.ensures c.first_target-t.ensures c.if-t.false c.is_unreached.ensures c.if-is_unreached.false c.leaks.ensures c.if-leaks.false c.strays.ensures c.if-strays.true
-
-pub returns : goal.returns
-returns c = let s = c.args in user_found s.roles.now _ _ _ _ _ _ _ _ c.bits-n.ensures c.first_target-t.ensures c.if-t.false c.is_unreached.ensures c.if-is_unreached.false c.leaks.ensures c.if-leaks.false c.strays.ensures c.if-strays.false
+pub returns-clause-value : goal.returns-clause-value
+returns-clause-value c =
+    let l = numbers c.args.roles.now in
+    let f = c.in_ok-t.ensures in
+    user_found l _ _ _ _ _ _ _ _ c.requires.roled.count f.value (λ z. omega (arith, f.below)) c.is_unreached.ensures c.if-is_unreached.false c.leaks.ensures c.if-leaks.false c.strays.ensures c.if-strays.false

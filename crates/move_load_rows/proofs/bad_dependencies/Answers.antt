@@ -1,26 +1,19 @@
 -- `move_load_rows::bad_dependencies` meets its contract. Assumes nothing.
-use native.Mathlib.Omega.{arith}
-use mathlib.Core.Path.{sym, ◌∙◌}
+use Rattle.std.proofs.Common.{arith, sym, ◌∙◌}
 use Rattle.move_load_rows.proofs.Spans.{span-first, span_hit, span_more, span-done, span_can}
 use Rattle.move_load_rows.proofs.bad_dependencies.Goals as goal
 
 pub loop-atom-init : goal.loop-atom-init
-loop-atom-init c = (omega arith, span-first c.requires.rise)
+loop-atom-init c = span-first c.requires.rise
 
 pub atom_fails-requires : goal.atom_fails-requires
-atom_fails-requires c = span_can c.requires c.loop-atom.atom (omega arith)
+atom_fails-requires c = span_can c.requires c.loop-atom.atom c.loop-atom-test.true
 
 pub returns-then-atom_fails : goal.returns-then-atom_fails
-returns-then-atom_fails c = span_hit c.requires.rise c.loop-atom.atom (omega arith) (sym c.atom_fails.ensures ∙ c.if-atom_fails.true)
-
-pub overflow_add-atom : goal.overflow_add-atom
-overflow_add-atom c = omega arith
-
-pub loop-atom-smaller : goal.loop-atom-smaller
-loop-atom-smaller c = omega arith
+returns-then-atom_fails c = span_hit c.requires.rise c.loop-atom.atom c.loop-atom-test.true (sym c.atom_fails.ensures ∙ c.if-atom_fails.true)
 
 pub loop-atom-preserved : goal.loop-atom-preserved
-loop-atom-preserved c = (omega arith, span_more c.requires.rise c.loop-atom.atom c.loop-atom.invariant.1 (omega arith) (sym c.atom_fails.ensures ∙ c.if-atom_fails.false))
+loop-atom-preserved c = span_more c.requires.rise c.loop-atom.atom c.loop-atom.invariant c.loop-atom-test.true (sym c.atom_fails.ensures ∙ c.if-atom_fails.false)
 
 pub returns : goal.returns
-returns c = span-done c.requires.rise c.loop-atom.atom c.loop-atom.invariant.1 (omega arith)
+returns c = span-done c.requires.rise c.loop-atom.atom c.loop-atom.invariant (omega arith)

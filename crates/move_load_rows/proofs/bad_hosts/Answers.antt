@@ -1,32 +1,12 @@
 -- `move_load_rows::bad_hosts` meets its contract. Assumes nothing.
-use native.Mathlib.Omega.{arith}
-use mathlib.Core.Path.{sym, ◌∙◌}
-use Rattle.graphs.specs.Lists.{some_zero, none_more, none_left, some_found}
-use Rattle.move_load_rows.specs.Checks.{bad_hosts}
+use Rattle.std.proofs.Common.{rules, ◌∙◌, ap}
+use Rattle.move_ledger.specs.Loading.{row6}
+use Rattle.graphs.specs.Lists.{some_below}
+use Rattle.move_ledger.specs.Graph.{at}
+use Rattle.move_load_rows.specs.Checks.{no_host}
+use Rattle.move_load_rows.proofs.Searching.{any_is}
 use Rattle.move_load_rows.proofs.bad_hosts.Goals as goal
 
-pub loop-k-init : goal.loop-k-init
-loop-k-init c = (omega arith, some_zero _)
-
-pub offset_bounds-hosts-k : goal.offset_bounds-hosts-k
-offset_bounds-hosts-k c = omega arith
-
-pub bounds-hosts-k : goal.bounds-hosts-k
-bounds-hosts-k c = omega arith
-
-pub returns-then-not_host : goal.returns-then-not_host
-unfolding bad_hosts
-returns-then-not_host c = some_found _ _ _ c.loop-k-test.true (sym c.not_host.ensures ∙ c.if-not_host.true)
-
-pub overflow_add-k : goal.overflow_add-k
-overflow_add-k c = omega arith
-
-pub loop-k-smaller : goal.loop-k-smaller
-loop-k-smaller c = omega arith
-
-pub loop-k-preserved : goal.loop-k-preserved
-loop-k-preserved c = (omega arith, none_more _ _ c.loop-k.invariant.1 (sym c.not_host.ensures ∙ c.if-not_host.false))
-
 pub returns : goal.returns
-unfolding bad_hosts
-returns c = none_left _ _ _ c.loop-k.invariant.1 (omega arith)
+unfolding row6
+returns c = any_is (no_host c.args.load.now.atoms) c.args.load.now.hosts.now _ (search rules) ∙ ap (some_below (λ e. no_host c.args.load.now.atoms (at c.args.load.now.hosts.now e))) c.requires

@@ -1,12 +1,9 @@
 -- `move_places::smallest_empty` meets its contract. Assumes nothing.
-use Prim.Native.Nat.{◌-◌, ◌≤◌}
-use native.Mathlib.Omega.{arith}
-use Rattle.set_order.specs.Order.{lane_set}
-use Rattle.move_places.specs.Least.{empty, Least, least_none, least_more, least_done}
+use Rattle.std.proofs.Common.{◌<◌, IfSome}
+use Rattle.std.specs.Option.{unwrap_or}
+use Rattle.set_order.specs.Order.{set_in}
+use Rattle.move_places.specs.Least.{empty, Least}
 use Rattle.move_places.proofs.smallest_empty.Given as goal
 
 abbrev pub invariant-loop-x : goal.invariant-loop-x
-invariant-loop-x l = (l.x ≤ l.n) × Least (lane_set l.area l.at l.n) (empty l.area l.counts) l.n l.x l.best
-
-abbrev pub decreases-loop-x : goal.decreases-loop-x
-decreases-loop-x l = l.n - l.x
+invariant-loop-x l = record { least : Least (set_in l.lanes) (empty l.lanes.area.now l.counts) l.lanes.n l.x (unwrap_or l.best l.lanes.n); inside : IfSome l.best (λ b. b < l.lanes.n) }

@@ -1,30 +1,23 @@
--- `rank` meets its contract. Assumes nothing.
-use mathlib.Core.Path.{sym, ◌∙◌}
-use Rattle.move_rank.specs.RankLaws.{chunks_decide, edges-decide, sets-decide}
-use Rattle.move_rank.specs.Atoms.{can_read, placed}
-use borrow.Author.Rules.{rules}
+-- Chunks and edges decide, or the sets. Assumes nothing.
+use Rattle.std.proofs.Common.{ap₂, ◌∙◌}
+use Rattle.std.specs.Ordering.{ordering_then}
+use Rattle.move_rank.specs.RankLaws.{totals_decide, sets-decide}
+use Rattle.move_rank.specs.Atoms.{placed, can_read}
 use Rattle.move_rank.proofs.rank.Goals as goal
 
-pub returns-then-chunks-other_chunks : goal.returns-then-chunks-other_chunks
-returns-then-chunks-other_chunks c = λ load b.
-    c.smaller_first.ensures
-    ∙ chunks_decide load _ _ (c.chunk_count-chunks.ensures load _ b.one) (c.chunk_count-other_chunks.ensures load _ b.other) c.if-chunks-other_chunks.true
+pub invariant_of-first : goal.invariant_of-first
+invariant_of-first c = record { readable = can_read c.requires.1.atoms c.requires.1.one }
 
-pub returns-then-edges-other_edges : goal.returns-then-edges-other_edges
-returns-then-edges-other_edges c = λ load b.
-    c.smaller_first-then-edges-other_edges.ensures
-    ∙ edges-decide load _ _
-    (sym (c.chunk_count-chunks.ensures load _ b.one) ∙ c.if-chunks-other_chunks.false ∙ c.chunk_count-other_chunks.ensures load _ b.other)
-    (c.edge_count-edges.ensures load _ b.one) (c.edge_count-other_edges.ensures load _ b.other) c.if-edges-other_edges.true
+pub invariant_of-second : goal.invariant_of-second
+invariant_of-second c = record { readable = can_read c.requires.1.atoms c.requires.1.other }
 
-pub rank_sets-requires : goal.rank_sets-requires
-rank_sets-requires c =
-    let b = c.requires.1 in
-    (can_read b.atoms b.one, can_read b.atoms b.other)
-
-pub returns : goal.returns
-returns c = λ load b.
+pub returns-in-Equal : goal.returns-in-Equal
+returns-in-Equal c = λ load b.
     c.rank_sets.ensures _ _ (placed b.atoms b.one) (placed b.atoms b.other)
-    ∙ sets-decide load _ _
-    (sym (c.chunk_count-chunks.ensures load _ b.one) ∙ c.if-chunks-other_chunks.false ∙ c.chunk_count-other_chunks.ensures load _ b.other)
-    (sym (c.edge_count-edges.ensures load _ b.one) ∙ c.if-edges-other_edges.false ∙ c.edge_count-other_edges.ensures load _ b.other)
+    ∙ sets-decide load _ _ (c.chunk_count.ensures load _ b.one) (c.chunk_count-2.ensures load _ b.other) (c.edge_count.ensures load _ b.one) (c.edge_count-2.ensures load _ b.other)
+    (c.then.ensures ∙ ap₂ ordering_then c.cmp-chunks.ensures c.cmp-edges.ensures) c.in-Equal.is
+
+pub returns-in_default : goal.returns-in_default
+returns-in_default c = λ load b.
+    totals_decide load _ _ (c.chunk_count.ensures load _ b.one) (c.chunk_count-2.ensures load _ b.other) (c.edge_count.ensures load _ b.one) (c.edge_count-2.ensures load _ b.other)
+    (c.then.ensures ∙ ap₂ ordering_then c.cmp-chunks.ensures c.cmp-edges.ensures) c.in_default.not-Equal

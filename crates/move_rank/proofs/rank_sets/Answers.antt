@@ -1,19 +1,13 @@
--- `rank_sets` meets its contract. Assumes nothing.
-use native.Mathlib.Omega.{arith}
-use mathlib.Core.Path.{sym, ◌∙◌}
-use Rattle.move_rank.specs.Atoms.{ranked_equal, ranked_before, ranked_after}
-use borrow.Author.Rules.{rules}
+-- The first atom whose sets differ decides. Assumes nothing.
+use Rattle.std.proofs.Common.{ap, ◌∙◌}
+use Rattle.entry_set.specs.Compared.{order_held}
+use Rattle.move_rank.specs.Atoms.{ranked_equal, ranked_apart}
+use Rattle.move_rank.specs.Ranking.{of_ranked}
+use Rattle.move_rank.specs.RankLaws.{by_ordering}
 use Rattle.move_rank.proofs.rank_sets.Goals as goal
 
-pub returns-then-a-i : goal.returns-then-a-i
-returns-then-a-i c = λ p q P Q. ranked_equal P Q c.first_difference-i.ensures (omega arith)
+pub returns-in-Some : goal.returns-in-Some
+returns-in-Some c = λ p q P Q. ap of_ranked (order_held c.set_of-x.ensures c.set_of-y.ensures c.cmp.ensures) ∙ by_ordering _ _ ∙ ranked_apart P Q c.in-Some.ensures
 
-pub returns-then-is_below : goal.returns-then-is_below
-returns-then-is_below c = λ p q P Q.
-    ranked_before P Q c.first_difference-i.ensures (omega arith) c.atom_set-x.ensures c.atom_set-y.ensures
-    (sym c.is_below.ensures ∙ c.if-is_below.true)
-
-pub returns : goal.returns
-returns c = λ p q P Q.
-    ranked_after P Q c.first_difference-i.ensures (omega arith) c.atom_set-x.ensures c.atom_set-y.ensures
-    (sym c.is_below.ensures ∙ c.if-is_below.false)
+pub returns-in-None : goal.returns-in-None
+returns-in-None c = λ p q P Q. ranked_equal P Q c.in-None.ensures

@@ -1,20 +1,12 @@
 -- `move_verdict::search` meets its contract. Assumes nothing.
-use native.Mathlib.Omega.{arith}
-use Rattle.move_verdict.proofs.Searching.{fill_can, searched_group, searched_graph, searched-says}
-use borrow.Author.Rules.{rules}
+use Rattle.move_verdict.proofs.Searching.{searched_group, searched_graph, searched-says, first_long}
 use Rattle.move_verdict.proofs.search.Goals as goal
 
-pub fill_own_slots-requires : goal.fill_own_slots-requires
-fill_own_slots-requires c = fill_can c.requires.0 c.requires.1
-
 pub group-requires : goal.group-requires
-group-requires c = searched_group c.requires.0 c.requires.1 c.fill_own_slots.ensures c.slot_count-m.ensures c.fill_own_slots.auto.sources c.fill_own_slots.auto.targets c.fill_own_slots.auto.counts
-
-pub slice_bounds-has_cycle-end : goal.slice_bounds-has_cycle-end
-slice_bounds-has_cycle-end c = omega (arith, c.requires.1.colours)
+group-requires g c = let r = c.requires in let f = c.fill_own_slots in searched_group r.can r.room f.ensures c.slot_count.ensures f.auto.sources f.auto.targets f.auto.counts
 
 pub has_cycle-requires : goal.has_cycle-requires
-has_cycle-requires c = searched_graph c.requires.0 c.requires.1 c.fill_own_slots.ensures c.slot_count-m.ensures c.fill_own_slots.auto.sources c.fill_own_slots.auto.targets c.fill_own_slots.auto.counts c.group.ensures
+has_cycle-requires g c = let r = c.requires in let f = c.fill_own_slots in searched_graph r.can r.room f.ensures c.slot_count.ensures f.auto.sources f.auto.targets f.auto.counts c.group.ensures (first_long _ _ _ r.room.colours)
 
 pub returns : goal.returns
-returns c = searched-says c.requires.0 c.requires.1 c.fill_own_slots.ensures c.slot_count-m.ensures c.fill_own_slots.auto.sources c.fill_own_slots.auto.targets c.fill_own_slots.auto.counts c.group.ensures c.has_cycle.ensures
+returns g c = let r = c.requires in let f = c.fill_own_slots in searched-says r.can r.room f.ensures c.slot_count.ensures f.auto.sources f.auto.targets f.auto.counts c.group.ensures (first_long _ _ _ r.room.colours) c.has_cycle.ensures

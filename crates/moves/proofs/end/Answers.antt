@@ -1,4 +1,4 @@
--- `moves::end` meets its contract. Assumes nothing.
+-- The last reply stands at the start of what is lent for it. Assumes nothing.
 use native.Mathlib.Omega.{arith}
 use Rattle.moves.specs.Turns.{put_starts}
 use Rattle.moves.proofs.Turning.{finished-put}

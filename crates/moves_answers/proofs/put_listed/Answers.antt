@@ -1,15 +1,17 @@
--- `moves_answers::put_listed` meets its contract. Assumes nothing.
-use native.Mathlib.Omega.{arith}
+-- The line of an edge, or nothing. Assumes nothing.
+use Rattle.std.proofs.Common.{refl, rules, arith}
+use Rattle.moves_replies.specs.Room.{put-none}
 use Rattle.moves_replies.specs.Words.{reply}
-use Rattle.moves_replies.specs.Room.{put-none, put_as}
+use Rattle.moves_replies.specs.Wrote.{wrote_as}
 use Rattle.moves_answers.proofs.Sets.{edge-line}
-use borrow.Author.Rules.{rules}
 use Rattle.moves_answers.proofs.put_listed.Goals as goal
 
-pub returns-in-None : goal.returns-in-None
+pub returns-in_default : goal.returns-in_default
 unfolding reply
-returns-in-None c = rw c.in-None.is (put-none _ _ (omega (arith, c.requires)))
+returns-in_default c = rw c.in_default.is (record { put = put-none _ _ (omega arith); same = refl })
 
-pub returns-in-Found : goal.returns-in-Found
+pub returns-in-Some : goal.returns-in-Some
 unfolding reply
-returns-in-Found c = let e = c.in-Found.e in rw c.in-Found.is (put_as (edge-line e.from e.to e.multiplicity (search rules) (search rules)) c.put_edge.ensures)
+returns-in-Some c =
+    let e = c.in-Some.edge in
+    rw c.in-Some.is (wrote_as (rw c.from.ensures (edge-line e.from e.to e.multiplicity (search rules) (search rules))) c.put_edge.ensures)

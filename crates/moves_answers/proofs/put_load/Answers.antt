@@ -1,7 +1,6 @@
--- `moves_answers::put_load` meets its contract. Assumes nothing.
-use Rattle.moves_replies.specs.Room.{put_then}
-use borrow.Author.Rules.{rules}
+-- The word, and the verdict behind it. Assumes nothing.
+use Rattle.moves_replies.specs.Wrote.{wrote_then}
 use Rattle.moves_answers.proofs.put_load.Goals as goal
 
 pub returns : goal.returns
-returns c = put_then c.put-p.ensures c.put_verdict.ensures
+returns c = wrote_then c.put.ensures c.put_verdict.ensures

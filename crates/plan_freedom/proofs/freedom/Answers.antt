@@ -1,15 +1,17 @@
--- `plan_freedom::freedom` meets its contract. Assumes nothing.
-use mathlib.Core.Path.{sym, ◌∙◌}
-use Rattle.move_ledger.specs.Graph.{lent}
+-- A row turns the call back, or the counts are the definition's. Assumes nothing.
+use Rattle.std.proofs.Common.{sym}
+use Rattle.std.proofs.lemmas.Result.{err_from_is_err_and}
+use Rattle.move_load_rows.proofs.Rows.{row_some}
 use Rattle.plan_freedom.specs.Laws.{told_refused, can_free, told-counts}
-use borrow.Author.Rules.{rules}
 use Rattle.plan_freedom.proofs.freedom.Goals as goal
 
-pub returns-then-q-ne0 : goal.returns-then-q-ne0
-returns-then-q-ne0 c = told_refused (lent c.args.a c.args.d c.args.e c.args.starts.now c.args.dependencies.now c.args.hosts.now) c.args.fixed.now c.args.n c.args.area.now c.later_row-q.ensures c.if-q-ne0.true
+pub returns-in_err-later_row : goal.returns-in_err-later_row
+returns-in_err-later_row c =
+    let p = err_from_is_err_and c.from_residual.result c.from_residual.ensures.1 in
+    rw (p.1, p.2) (told_refused _ _ _ _ c.in_err-later_row.ensures (row_some _))
 
-pub how_free-counts-requires : goal.how_free-counts-requires
-how_free-counts-requires c = can_free (lent c.args.a c.args.d c.args.e c.args.starts.now c.args.dependencies.now c.args.hosts.now) c.args.fixed.now c.args.n c.args.area.now (sym c.later_row-q.ensures ∙ c.if-q-ne0.false)
+pub how_free-requires : goal.how_free-requires
+how_free-requires c = can_free _ _ _ _ (sym c.in_ok-later_row.ensures)
 
 pub returns : goal.returns
-returns c = told-counts (lent c.args.a c.args.d c.args.e c.args.starts.now c.args.dependencies.now c.args.hosts.now) c.args.fixed.now c.args.n c.args.area.now (sym c.later_row-q.ensures ∙ c.if-q-ne0.false) c.how_free-counts.ensures
+returns c = told-counts _ _ _ _ (sym c.in_ok-later_row.ensures) c.how_free.ensures

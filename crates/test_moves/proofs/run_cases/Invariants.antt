@@ -1,9 +1,9 @@
--- `test_moves::run_cases` ends, and its numbers fit. Assumes nothing.
-use Rattle.std.proofs.Common.{◌-◌, ◌≤◌, length}
+-- The inputs get fewer, and their number fits. Assumes nothing.
+use Rattle.std.proofs.Common.{◌+◌, ◌≤◌, length}
 use Rattle.test_moves.proofs.run_cases.Given as goal
 
-abbrev pub invariant-loop-at : goal.invariant-loop-at
-invariant-loop-at l = record { inside : l.at ≤ length l.input; few : l.case ≤ l.at }
+abbrev pub invariant-loop-rest : goal.invariant-loop-rest
+invariant-loop-rest l = l.case + length l.rest ≤ length l.input
 
-abbrev pub decreases-loop-at : goal.decreases-loop-at
-decreases-loop-at l = length l.input - l.at
+abbrev pub decreases-loop-rest : goal.decreases-loop-rest
+decreases-loop-rest l = length l.rest

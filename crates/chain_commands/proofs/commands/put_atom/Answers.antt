@@ -1,7 +1,6 @@
--- `chain_commands::commands::put_atom` meets its contract. Assumes nothing.
-use Rattle.moves_replies.specs.Room.{put_then}
-use borrow.Author.Rules.{rules}
+-- The command's number, and its operand behind it. Assumes nothing.
+use Rattle.moves_replies.specs.Wrote.{wrote_then}
 use Rattle.chain_commands.proofs.commands.put_atom.Goals as goal
 
 pub returns : goal.returns
-returns c = put_then c.put_byte-p.ensures c.put_operand.ensures
+returns c = wrote_then c.put.ensures c.put_operand.ensures

@@ -1,22 +1,24 @@
--- `chain_commands::number::asked` meets its contract. Assumes nothing.
-use mathlib.Core.Path.{sym}
-use native.Mathlib.Omega.{arith}
-use lib.Seq.{length-take-le}
-use Rattle.chain_commands.proofs.Reading.{asked-empty, asked_nought, asked-over, asked_right}
-use borrow.Author.Rules.{rules}
+-- What stands before a last newline is read as the number. Assumes nothing.
+use Rattle.std.proofs.Common.{◌≡◌, rules, tests, arith}
+use Rattle.chain_commands.specs.Asked as def
+use Rattle.chain_commands.specs.Parse.{up_to}
+use Rattle.chain_commands.proofs.Reading.{asked-empty, asked_low, asked_right, asked_bounds}
 use Rattle.chain_commands.proofs.number.asked.Goals as goal
+use Rattle.chain_commands.proofs.number.asked.Goals.{After-filter}
 
-pub returns-then-k-eq0 : goal.returns-then-k-eq0
-returns-then-k-eq0 c = let e = c.before_newline-k.ensures in record { value = asked-empty c.args.input.now e.value e.upper_bound c.if-k-eq0.true; upper_bound = omega arith }
+found : (c : After-filter) → c.filter.result ≡ def.asked c.args.input.now
+found c =
+    let f : c.filter.result ≡ up_to 512 c.value.result = search (rules, tests) in
+    asked_right c.args.input.now c.before_newline-text.ensures c.in-Some.ensures.value (omega arith) (rw c.value.ensures at f)
 
-pub returns-then-input-lt49 : goal.returns-then-input-lt49
-returns-then-input-lt49 c = let e = c.before_newline-k.ensures in record { value = asked_nought c.args.input.now e.value e.upper_bound c.if-k-eq0.false (omega arith); upper_bound = omega arith }
+pub returns-in-Some-clause-value : goal.returns-in-Some-clause-value
+returns-in-Some-clause-value c = found (goal.at.returns-in-Some-clause-value c).After-filter
 
-pub slice_bounds-value-end : goal.slice_bounds-value-end
-slice_bounds-value-end c = sym (length-take-le _ _ c.before_newline-k.ensures.upper_bound)
+pub returns-in-Some-clause-upper_bound : goal.returns-in-Some-clause-upper_bound
+returns-in-Some-clause-upper_bound c = asked_bounds c.args.input.now (found (goal.at.returns-in-Some-clause-upper_bound c).After-filter)
 
-pub returns-then-v-gt512 : goal.returns-then-v-gt512
-returns-then-v-gt512 c = let e = c.before_newline-k.ensures in record { value = asked-over c.args.input.now e.value e.upper_bound c.value-v.ensures (omega arith); upper_bound = omega arith }
+pub returns-in_default-clause-value : goal.returns-in_default-clause-value
+returns-in_default-clause-value c = asked_low c.args.input.now c.before_newline-text.ensures c.in-Some.ensures.value (omega arith)
 
-pub returns : goal.returns
-returns c = let e = c.before_newline-k.ensures in record { value = asked_right c.args.input.now e.value e.upper_bound c.if-k-eq0.false (omega arith) c.value-v.ensures (omega arith); upper_bound = omega arith }
+pub returns-in_default-2-clause-value : goal.returns-in_default-2-clause-value
+returns-in_default-2-clause-value c = asked-empty c.args.input.now c.before_newline-text.ensures (rw c.in_default.is at c.first.ensures.value)

@@ -1,29 +1,18 @@
--- `chain_commands::number::value` meets its contract. Assumes nothing.
-use Rattle.chain_commands.proofs.Reading.{value-more, value-done}
-use Prim.Native.Nat.{◌≤◌, ◌-◌}
-use native.Mathlib.Omega.{arith}
-use mathlib.Core.Path.{◌≡◌, refl}
-use lib.ListN.{length, drop}
-use Rattle.chain_commands.specs.Parse.{value}
+-- One more digit, or none. Assumes nothing.
+use Rattle.std.proofs.Common.{◌≡◌, sym, ◌∙◌, arith, Some, None, get_or}
+use Rattle.chain_commands.specs.Parse.{more}
+use Rattle.chain_commands.proofs.Reading.{value-more, value-stops, value-done}
 use Rattle.chain_commands.proofs.number.value.Goals as goal
 
-pub loop-i-init : goal.loop-i-init
-loop-i-init c = (omega arith, refl)
+pub returns-in_err-v : goal.returns-in_err-v
+returns-in_err-v c =
+    let none : more (Some c.loop-b.v) (get_or c.args.text.now c.loop-b.b-index 0) ≡ None = sym c.more.ensures ∙ c.in_err-v.was in
+    c.from_residual.ensures ∙ value-stops _ _ _ c.loop-b-test.true c.loop-b.invariant none
 
-pub bounds-text-i : goal.bounds-text-i
-bounds-text-i c = omega arith
-
-pub more-v-requires : goal.more-v-requires
-more-v-requires c = tt
-
-pub overflow_add-i : goal.overflow_add-i
-overflow_add-i c = omega arith
-
-pub loop-i-smaller : goal.loop-i-smaller
-loop-i-smaller c = omega arith
-
-pub loop-i-preserved : goal.loop-i-preserved
-loop-i-preserved c = let v = c.loop-i.invariant in (omega arith, rw c.more-v.ensures (value-more _ _ _ c.loop-i-test.true v.1))
+pub loop-b-preserved : goal.loop-b-preserved
+loop-b-preserved c =
+    let some : more (Some c.loop-b.v) (get_or c.args.text.now c.loop-b.b-index 0) ≡ Some c.in_ok-v.v = sym c.more.ensures ∙ c.in_ok-v.was in
+    rw some at (value-more _ _ _ c.loop-b-test.true c.loop-b.invariant)
 
 pub returns : goal.returns
-returns c = value-done c.args.text.now c.loop-i.v c.loop-i.i (omega arith) c.loop-i.invariant.1
+returns c = value-done c.args.text.now (Some c.loop-b.v) c.loop-b.b-index (omega arith) c.loop-b.invariant

@@ -3,7 +3,6 @@ use Prim.Native.Nat.{◌+◌}
 use native.Mathlib.Omega.{arith}
 use lib.ListN.{get_or}
 use Rattle.layout.proofs.Deciding.{none_below, below_up_to}
-use borrow.Author.Rules.{rules}
 use Rattle.layout.proofs.compare.all_below.Goals as goal
 
 pub returns-then-bound-eq0 : goal.returns-then-bound-eq0

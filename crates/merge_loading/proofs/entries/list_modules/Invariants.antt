@@ -1,12 +1,7 @@
--- `merge_loading::entries::list_modules` meets its contract. Assumes nothing.
-use Prim.Native.Nat.{◌-◌}
-use native.Mathlib.Omega.{arith}
-use lib.ListN.{length}
-use Rattle.merge_loading.specs.Listing.{Listed, listed-none, list_long, list_seek, list_can, list_more, list_done}
+-- The modules of the chunks passed so far are listed. Assumes nothing.
+use Rattle.std.proofs.Common.{get_or}
+use Rattle.merge_loading.specs.Listing.{Listed}
 use Rattle.merge_loading.proofs.entries.list_modules.Given as goal
 
-abbrev pub invariant-loop-k : goal.invariant-loop-k
-invariant-loop-k l = Listed l.sizes l.initial' l.starts l.modules l.effects l.initial.area l.x l.k l.area
-
-abbrev pub decreases-loop-k : goal.decreases-loop-k
-decreases-loop-k l = length l.modules - l.k
+abbrev pub invariant-loop-x : goal.invariant-loop-x
+invariant-loop-x l = let s = l.loading in Listed l.sizes s.initial s.starts.now s.modules.now s.effects.now l.initial.area l.x (get_or s.starts.now l.x 0) l.area

@@ -1,6 +1,6 @@
-use mathlib.Core.Path.{refl}
+-- The log is as long as the header says. Assumes nothing.
+use Rattle.std.proofs.Common.{refl}
 use Rattle.merge_state.specs.Pairs.{pairs-length}
-use borrow.Author.Rules.{rules}
 use Rattle.merge_rows.proofs.checks.is_full.Goals as goal
 
 pub returns : goal.returns

@@ -1,35 +1,22 @@
-use Rattle.merge_laws.specs.Rows.{fits_here, fits_next, fits-none, early, late, stood}
-use Rattle.merge_state.specs.Table.{over_lists, bad_lists, later}
-use Rattle.graphs.specs.Bools.{or_left, or_right, or_false}
-use borrow.Author.Tests.{le-leb, lt-leb}
-use lib.Dec.{leb}
-use mathlib.Core.List.{[]}
-use mathlib.Core.Path.{sym, ◌∙◌}
-use borrow.Author.Rules.{rules}
+-- Rows 14, 15 and 21, and then 16 and 19. Assumes nothing.
+use Rattle.std.proofs.Common.{refl, rules}
+use Rattle.std.proofs.lemmas.Result.{err_from_is_err_and}
+use Rattle.merge_state.specs.Table.{over_lists, bad_lists, later, first_fitting}
+use Rattle.merge_laws.specs.Rows.{early-row, late}
 use Rattle.merge_rows.proofs.rows.add_row.Goals as goal
 
-pub returns-then-row-ne0 : goal.returns-then-row-ne0
+pub returns-in_err-area : goal.returns-in_err-area
 unfolding over_lists bad_lists
-returns-then-row-ne0 c = early _ _ _ c.standing_row-row.ensures c.if-row-ne0.true
+returns-in_err-area c = let p = err_from_is_err_and c.from_residual.result c.from_residual.ensures.1 in rw (p.1, p.2) (early-row _ _ _ _ c.in_err-area.ensures.row)
 
 pub returns-then-sizes-m : goal.returns-then-sizes-m
-unfolding over_lists bad_lists later
-returns-then-sizes-m c = late _ _ _ _ _ c.standing_row-row.ensures c.if-row-ne0.false (fits_here _ _ _ (or_left _ _ (le-leb _ _ c.if-sizes-m.true)))
-
-pub is_unmade-requires : goal.is_unmade-requires
-is_unmade-requires c = (stood _ _ _ _ c.standing_row-row.ensures c.if-row-ne0.false).headed
-
-pub returns-then-is_unmade : goal.returns-then-is_unmade
-unfolding over_lists bad_lists later
-returns-then-is_unmade c = late _ _ _ _ _ c.standing_row-row.ensures c.if-row-ne0.false (fits_here _ _ _ (or_right (leb c.args.sizes.modules c.args.m.0) _ (sym c.is_unmade.ensures ∙ c.if-is_unmade.true)))
-
-pub is_full-requires : goal.is_full-requires
-is_full-requires c = (stood _ _ _ _ c.standing_row-row.ensures c.if-row-ne0.false).headed
+unfolding over_lists bad_lists later first_fitting
+returns-then-sizes-m c = late _ _ _ 0 16 c.in_ok-area.ensures.row refl (search rules)
 
 pub returns-then-is_full : goal.returns-then-is_full
-unfolding over_lists bad_lists later
-returns-then-is_full c = late _ _ _ _ _ c.standing_row-row.ensures c.if-row-ne0.false (fits_next _ _ _ _ (or_false _ _ (lt-leb _ _ c.if-sizes-m.false) (sym c.is_unmade.ensures ∙ c.if-is_unmade.false)) (fits_here _ _ [] (sym c.is_full.ensures ∙ c.if-is_full.true)))
+unfolding over_lists bad_lists later first_fitting
+returns-then-is_full c = late _ _ _ 0 19 c.in_ok-area.ensures.row refl (search rules)
 
 pub returns : goal.returns
-unfolding over_lists bad_lists later
-returns c = late _ _ _ _ _ c.standing_row-row.ensures c.if-row-ne0.false (fits_next _ _ _ _ (or_false _ _ (lt-leb _ _ c.if-sizes-m.false) (sym c.is_unmade.ensures ∙ c.if-is_unmade.false)) (fits_next _ _ _ [] (sym c.is_full.ensures ∙ c.if-is_full.false) fits-none))
+unfolding over_lists bad_lists later first_fitting
+returns c = late _ _ _ 0 0 c.in_ok-area.ensures.row refl (search rules)

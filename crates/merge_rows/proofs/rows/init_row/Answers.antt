@@ -1,39 +1,33 @@
--- `merge_rows::rows::init_row` meets its contract. Assumes nothing.
-use mathlib.Core.Path.{sym, ap, ◌∙◌}
-use mathlib.Core.Bool.{not}
-use lib.Dec.{leb}
-use borrow.Author.Tests.{le-leb, lt-leb}
-use Rattle.graphs.specs.Bools.{or_left, or_right}
-use Rattle.merge_state.specs.Table.{over_lists, bad_lists, later}
-use Rattle.merge_laws.specs.Rows.{fits_here, early, late, stood}
+-- Rows 14, 15 and 21, and then 16, 18 and 19. Assumes nothing.
+use Rattle.std.proofs.Common.{refl, rules, ap, not}
+use Rattle.std.proofs.lemmas.Result.{err_from_is_err_and}
 use Rattle.entry_set.specs.SetLaws.{legal-short}
-use Rattle.merge_rows.proofs.Laws.{init_room}
-use borrow.Author.Rules.{rules}
+use Rattle.merge_state.specs.Table.{over_lists, bad_lists, later, first_fitting}
+use Rattle.merge_laws.specs.Rows.{early-row, late, stood}
 use Rattle.merge_rows.proofs.rows.init_row.Goals as goal
 
-pub returns-then-row-ne0 : goal.returns-then-row-ne0
+pub returns-in_err-area : goal.returns-in_err-area
 unfolding over_lists bad_lists
-returns-then-row-ne0 c = early _ _ _ c.standing_row-row.ensures c.if-row-ne0.true
-
-pub returns-then-sizes-m : goal.returns-then-sizes-m
-unfolding over_lists bad_lists later
-returns-then-sizes-m c = late _ _ _ _ _ c.standing_row-row.ensures c.if-row-ne0.false (fits_here _ _ _ (or_left _ _ (le-leb _ _ c.if-sizes-m.true)))
+returns-in_err-area c = let p = err_from_is_err_and c.from_residual.result c.from_residual.ensures.1 in rw (p.1, p.2) (early-row _ _ _ _ c.in_err-area.ensures.row)
 
 pub is_legal-requires : goal.is_legal-requires
-is_legal-requires c = (stood _ _ _ _ c.standing_row-row.ensures c.if-row-ne0.false).headed.within.bits
-
-pub returns-then-not-is_legal : goal.returns-then-not-is_legal
-unfolding over_lists bad_lists later
-returns-then-not-is_legal c = late _ _ _ _ _ c.standing_row-row.ensures c.if-row-ne0.false (fits_here _ _ _ (or_right (leb c.args.sizes.modules c.args.m.0) _ (ap not (sym c.is_legal.ensures) ∙ ap mathlib.Core.Bool.not c.if-not-is_legal.true)))
+is_legal-requires c = (stood _ _ _ _ c.in_ok-area.ensures.row refl).headed.within.bits
 
 pub lacks_chunk-lacks-requires : goal.lacks_chunk-lacks-requires
-lacks_chunk-lacks-requires c = (stood _ _ _ _ c.standing_row-row.ensures c.if-row-ne0.false).headed
+lacks_chunk-lacks-requires c = legal-short _ c.args.bits.now (stood _ _ _ _ c.in_ok-area.ensures.row refl).headed.within.bits c.is_legal.ensures (ap not c.if-not-is_legal.false)
 
-pub is_full-requires : goal.is_full-requires
-is_full-requires c = (stood _ _ _ _ c.standing_row-row.ensures c.if-row-ne0.false).headed
+pub returns-then-sizes-m : goal.returns-then-sizes-m
+unfolding over_lists bad_lists later first_fitting
+returns-then-sizes-m c = late _ _ _ 0 16 c.in_ok-area.ensures.row refl (search rules)
+
+pub returns-then-lacks : goal.returns-then-lacks
+unfolding over_lists bad_lists later first_fitting
+returns-then-lacks c = late _ _ _ 0 18 c.in_ok-area.ensures.row refl (search rules)
+
+pub returns-then-full : goal.returns-then-full
+unfolding over_lists bad_lists later first_fitting
+returns-then-full c = late _ _ _ 0 19 c.in_ok-area.ensures.row refl (search rules)
 
 pub returns : goal.returns
-returns c = init_room c.args.sizes c.args.area.now c.args.m.0 c.args.bits.now c.args.effects.now _ _ c.standing_row-row.ensures c.if-row-ne0.false c.find_chunk.ensures (lt-leb _ _ c.if-sizes-m.false) (ap not (sym c.is_legal.ensures) ∙ ap mathlib.Core.Bool.not c.if-not-is_legal.false) c.lacks_chunk-lacks.ensures _ c.is_full.ensures c.room_row.ensures
-
-pub find_chunk-requires : goal.find_chunk-requires
-find_chunk-requires c = ((stood _ _ _ _ c.standing_row-row.ensures c.if-row-ne0.false).headed, legal-short _ c.args.bits.now (stood _ _ _ _ c.standing_row-row.ensures c.if-row-ne0.false).headed.within.bits c.is_legal.ensures (ap mathlib.Core.Bool.not c.if-not-is_legal.false))
+unfolding over_lists bad_lists later first_fitting
+returns c = late _ _ _ 0 0 c.in_ok-area.ensures.row refl (search rules)

@@ -1,18 +1,11 @@
--- `merge_target::classes::are_refused` meets its contract. Assumes nothing.
-use mathlib.Core.Path.{sym, ◌∙◌}
-use borrow.Author.Rules.{rules}
+-- The last test is the definition's. Assumes nothing.
+use Rattle.std.proofs.Common.{rules, ℕ, refl, ◌%◌, not, ◌&&◌, eqb, get_or}
 use Rattle.merge_choice.specs.Find.{row25}
-use Rattle.merge_choice.specs.Rows.{here, next, other, same}
+use Rattle.merge_target.proofs.Any.{range_is_some}
 use Rattle.merge_target.proofs.classes.are_refused.Goals as goal
 
-pub returns-then-classes-ne8 : goal.returns-then-classes-ne8
+pub returns-else-has_misfit : goal.returns-else-has_misfit
 unfolding row25
-returns-then-classes-ne8 c = here _ _ (other _ _ c.if-classes-ne8.true)
-
-pub returns-then-has_misfit : goal.returns-then-has_misfit
-unfolding row25
-returns-then-has_misfit c = next _ _ (same _ _ c.if-classes-ne8.false) (here _ _ (sym c.has_misfit.ensures ∙ c.if-has_misfit.true))
-
-pub returns : goal.returns
-unfolding row25
-returns c = next _ _ (same _ _ c.if-classes-ne8.false) (next _ _ (sym c.has_misfit.ensures ∙ c.if-has_misfit.false) c.has_odd_fault.ensures)
+returns-else-has_misfit c =
+    let odd = λ (i : ℕ). eqb (i % 2) 1 && not (eqb (get_or c.args.classes.now i 0) 1) in
+    rw (← range_is_some odd odd 8 (λ i b. refl)) (search rules)

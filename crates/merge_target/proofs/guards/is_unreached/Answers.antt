@@ -1,8 +1,16 @@
--- `merge_target::guards::is_unreached` meets its contract. Assumes nothing.
+-- The marks are those of the list of t. Assumes nothing.
+use Rattle.std.proofs.Common.{arith, ◌∙◌}
 use Rattle.graphs.specs.Tab.{zeros}
 use Rattle.merge_choice.specs.Guards.{unreached_is}
-use borrow.Author.Rules.{rules}
+use Rattle.merge_target.specs.Lent.{lists_of}
+use Rattle.merge_target.specs.Roles.{numbers}
+use Rattle.merge_target.proofs.Parts.{marked_list}
+use Rattle.merge_target.proofs.Tables.{unmarked_entries}
 use Rattle.merge_target.proofs.guards.is_unreached.Goals as goal
 
 pub returns : goal.returns
-returns c = unreached_is _ _ _ _ _ (zeros 1024) c.mark_list.ensures c.some_unmarked.ensures
+returns c =
+    let s = c.args in
+    let l = lists_of s.bundle.now.reached in
+    unreached_is _ (numbers s.roles.now) l.starts l.items s.t (zeros 1024) (marked_list l s.t (c.requires.sound.reached.each s.t c.requires.chunk) c.of.ensures c.mark_list.ensures)
+    (c.some_unmarked_entry.ensures ∙ unmarked_entries s.roles.now _ (omega (arith, c.mark_list.ensures.long)))

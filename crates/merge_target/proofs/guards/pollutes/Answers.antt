@@ -1,12 +1,15 @@
--- `merge_target::guards::pollutes` meets its contract. Assumes nothing.
+-- The marks are those of the dynamic entries. Assumes nothing.
+use Rattle.std.proofs.Common.{◌∙◌}
 use Rattle.graphs.specs.Tab.{zeros}
 use Rattle.merge_choice.specs.Guards.{polluted_is}
-use native.Mathlib.Omega.{arith}
-use borrow.Author.Rules.{rules}
+use Rattle.merge_target.specs.Roles.{numbers}
+use Rattle.merge_target.proofs.Tables.{polluting_modules}
 use Rattle.merge_target.proofs.guards.pollutes.Goals as goal
 
-pub some_polluting-requires : goal.some_polluting-requires
-some_polluting-requires c = record { flagged = c.requires.flagged; marked = λ i h. omega (arith, c.requires.own i h, c.mark_entries.ensures.long) }
-
 pub returns : goal.returns
-returns c = let s = c.args in polluted_is s.n s.roles.now s.entries.now s.exports.now s.candidate.now s.t (zeros 4096) c.mark_entries.ensures c.some_polluting.ensures
+returns c =
+    let s = c.args in
+    let b = s.bundle.now in
+    let modules = s.candidate.now.modules.now in
+    polluted_is _ (numbers s.roles.now) b.entries.now b.exports.now modules s.t (zeros 4096) c.mark_entries.ensures
+    (c.some_polluting.ensures ∙ polluting_modules modules b.exports.now _ _)

@@ -1,15 +1,18 @@
--- `merge_target::guards::strays` meets its contract. Assumes nothing.
+-- The marks are those of t's modules and of the candidate's free ones. Assumes nothing.
+use Rattle.std.proofs.Common.{◌∙◌}
 use Rattle.graphs.specs.Tab.{zeros}
 use Rattle.merge_choice.proofs.Guards.{strayed_is}
-use native.Mathlib.Omega.{arith}
-use borrow.Author.Rules.{rules}
+use Rattle.merge_target.specs.Lent.{lists_of}
+use Rattle.merge_target.proofs.Parts.{marked_list}
+use Rattle.merge_target.proofs.Tables.{unmarked_lists}
 use Rattle.merge_target.proofs.guards.strays.Goals as goal
 
-pub mark_free-requires : goal.mark_free-requires
-mark_free-requires c = record { next = λ i h. (c.requires.spans i h).next; below = λ i h. omega (arith, c.requires.own i h, c.mark_list.ensures.long) }
-
-pub some_stray-requires : goal.some_stray-requires
-some_stray-requires c = record { spans = c.requires.spans; below = λ i h. omega (arith, c.requires.below i h, c.mark_list.ensures.long, c.mark_free.ensures.long) }
-
 pub returns : goal.returns
-returns c = let s = c.args in strayed_is s.homes.now s.modules.now s.starts.now s.importers.now s.candidate.now s.t (zeros 4096) c.mark_list.ensures c.mark_free.ensures c.some_stray.ensures
+returns c =
+    let s = c.args in
+    let l = lists_of s.bundle.now.contents in
+    let d = lists_of s.bundle.now.dynamic_importers in
+    let modules = s.candidate.now.modules.now in
+    strayed_is l.starts l.items d.starts d.items modules s.t (zeros 4096)
+    (marked_list l s.t (c.requires.sound.contents.each s.t c.requires.chunk) c.of.ensures c.mark_list.ensures) c.mark_free.ensures
+    (c.some_strays.ensures ∙ unmarked_lists modules _ d (λ i e b. c.requires.sound.dynamic_importers.each _ (c.requires.own i e b)))

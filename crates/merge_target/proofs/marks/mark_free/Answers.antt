@@ -1,40 +1,25 @@
--- `merge_target::marks::mark_free` meets its contract. Assumes nothing.
-use Prim.Native.Nat.{◌-◌, ◌≤◌}
-use lib.ListN.{length}
-use Rattle.merge_choice.specs.Marks.{Marked, empty, marked-none, marked_more, marked-end, put-by}
+-- One module more at each turn. Assumes nothing.
+use Rattle.std.proofs.Common.{arith, ◌≡◌, ◌<◌, ◌∙◌, sym, ap, eqb, length}
 use Rattle.merge_choice.specs.Named.{reads}
-use native.Mathlib.Omega.{arith}
+use Rattle.merge_choice.specs.Marks.{empty, marked-none, marked_more, is_first, is_second}
+use Rattle.merge_target.specs.Lent.{lists_of}
+use Rattle.merge_target.proofs.Parts.{part_long}
 use Rattle.merge_target.proofs.marks.mark_free.Goals as goal
+use Rattle.merge_target.proofs.marks.mark_free.Goals.{then-is_empty, else-is_empty}
 
-pub loop-i-init : goal.loop-i-init
-loop-i-init c = (omega arith, marked-none)
+pub loop-m-init : goal.loop-m-init
+loop-m-init c = marked-none
 
-pub offset_bounds-candidate-i : goal.offset_bounds-candidate-i
-offset_bounds-candidate-i c = omega arith
-
-pub bounds-candidate-i : goal.bounds-candidate-i
-bounds-candidate-i c = omega arith
-
-pub overflow_cast-m : goal.overflow_cast-m
-overflow_cast-m c = omega (arith, c.shared_slice_known-in-loop-i-1.given c.loop-i.i)
-
-pub is_empty-requires : goal.is_empty-requires
-is_empty-requires c = c.requires.next c.loop-i.i c.loop-i-test.true
-
-pub mark_if-requires : goal.mark_if-requires
-mark_if-requires c = λ h. omega (arith, c.requires.below c.loop-i.i c.loop-i-test.true, c.loop-i.invariant.1.long)
-
-pub overflow_add-i : goal.overflow_add-i
-overflow_add-i c = omega arith
-
-pub loop-i-smaller : goal.loop-i-smaller
-loop-i-smaller c = omega arith
-
-pub loop-i-preserved : goal.loop-i-preserved
-loop-i-preserved c = (omega arith, marked_more c.loop-i.invariant.1 (λ h. omega (arith, c.requires.below c.loop-i.i c.loop-i-test.true, c.loop-i.invariant.1.long)) (put-by _ _ c.is_empty.ensures c.mark_if.ensures))
-
-pub shape_of-marks : goal.shape_of-marks
-shape_of-marks c = c.loop-i.invariant.1.long
-
-pub returns : goal.returns
-returns c = marked-end (omega arith) c.loop-i.invariant.1
+pub loop-m-preserved : goal.loop-m-preserved
+loop-m-preserved c =
+    let b = c.args.bundle.now in
+    let m = reads c.args.candidate.now.modules.now c.loop-m.m-index in
+    let own : m < b.modules = c.requires.own c.loop-m.m-index 0 c.loop-m-test.true in
+    let e : c.is_empty.result ≡ empty c.args.candidate.now.modules.now b.dynamic_importers.starts.now c.loop-m.m-index =
+    c.is_empty.ensures ∙ ap (λ n. eqb n 0) (ap length c.of.ensures ∙ part_long (lists_of b.dynamic_importers) m (c.requires.sound.dynamic_importers.each m own))
+    in
+    let room : m < length c.loop-m.marks = omega arith in
+    elim c.if-is_empty.branch [
+      | then-is_empty w ↦ marked_more c.loop-m.invariant (λ h. room) (w.marks-is ∙ is_first _ _ _ (sym e ∙ w.if-is_empty.true))
+      | else-is_empty w ↦ marked_more c.loop-m.invariant (λ h. room) (w.marks-is ∙ is_second _ _ _ (sym e ∙ w.if-is_empty.false))
+    ]

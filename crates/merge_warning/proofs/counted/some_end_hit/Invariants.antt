@@ -1,14 +1,9 @@
--- `merge_warning::counted::some_end_hit` meets its contract. Assumes nothing.
+-- No row so far is a hit. Assumes nothing.
 use Rattle.merge_warning.specs.EndHits.{end_hit}
-use Rattle.graphs.specs.Lists.{some_below, some_zero, none_more, some_found, none_left}
+use Rattle.graphs.specs.Lists.{some_below}
 use mathlib.Core.Bool.{false}
-use mathlib.Core.Path.{◌≡◌, sym, ◌∙◌}
-use Prim.Native.Nat.{◌-◌, ◌≤◌}
-use native.Mathlib.Omega.{arith}
+use mathlib.Core.Path.{◌≡◌}
 use Rattle.merge_warning.proofs.counted.some_end_hit.Given as goal
 
 abbrev pub invariant-loop-i : goal.invariant-loop-i
-invariant-loop-i l = (l.i ≤ l.n) × (some_below (end_hit l.flags l.c l.n l.ends l.source l.marks) l.i ≡ false)
-
-abbrev pub decreases-loop-i : goal.decreases-loop-i
-decreases-loop-i l = l.n - l.i
+invariant-loop-i l = (some_below (end_hit l.rows.flags.now l.rows.stride l.rows.count l.rows.ends.now l.rows.source l.marks) l.i ≡ false)

@@ -1,17 +1,16 @@
--- `merge_warning::counted::warn_counted` meets its contract. Assumes nothing.
-use Rattle.merge_warning.specs.EndHits.{end-rows, end-hits_are}
-use Rattle.merge_warning.specs.Hits.{warns-target, warns-member}
+-- The warning from the marks of what is depended on. Assumes nothing.
+use Rattle.std.proofs.Common.{◌∙◌, arith, ne_eqb}
 use Rattle.graphs.specs.Tab.{zeros}
-use mathlib.Core.Path.{◌∙◌}
-use native.Mathlib.Omega.{arith}
-use borrow.Author.Rules.{rules}
+use Rattle.merge_warning.specs.Hits.{warns-target, warns-member}
+use Rattle.merge_warning.specs.EndHits.{end-hits_are}
+use Rattle.merge_warning.proofs.Closing.{can_close_ends}
 use Rattle.merge_warning.proofs.counted.warn_counted.Goals as goal
 
 pub closure_ends-requires : goal.closure_ends-requires
-closure_ends-requires c = record { rows = end-rows c.requires; cells = omega (arith, c.requires.ask.narrow, c.requires.ask.few); room = omega (arith, c.requires.ask.narrow, c.requires.ask.few); first = c.requires.ask.first; second = c.requires.ask.second; fresh = λ x h. omega (arith, zeros 1024 x) }
+closure_ends-requires c = can_close_ends c.requires c.requires.ask.first c.requires.ask.second
 
-pub returns-then-marks-target-ne0 : goal.returns-then-marks-target-ne0
-returns-then-marks-target-ne0 c = warns-target _ _ _ _ _ _ c.requires.ask.second (λ x h. zeros 1024 x) (omega (arith, c.requires.ask.narrow, c.requires.ask.few)) c.closure_ends.ensures c.if-marks-target-ne0.true
+pub returns-then-marks-rows-ne0 : goal.returns-then-marks-rows-ne0
+returns-then-marks-rows-ne0 c = rw (ne_eqb _ 0 c.if-marks-rows-ne0.true) (warns-target _ _ _ _ _ _ c.requires.ask.second (λ x h. zeros 1024 x) (omega (arith, c.requires.ask.narrow, c.requires.ask.few)) c.closure_ends.ensures c.if-marks-rows-ne0.true)
 
-pub returns : goal.returns
-returns c = warns-member _ _ _ _ _ _ c.requires.ask.second (λ x h. zeros 1024 x) (omega (arith, c.requires.ask.narrow, c.requires.ask.few)) c.closure_ends.ensures c.if-marks-target-ne0.false (c.some_end_hit.ensures ∙ end-hits_are _ _ _ _ _ _ _ c.requires.each)
+pub returns-else-marks-rows-ne0 : goal.returns-else-marks-rows-ne0
+returns-else-marks-rows-ne0 c = warns-member _ _ _ _ _ _ c.requires.ask.second (λ x h. zeros 1024 x) (omega (arith, c.requires.ask.narrow, c.requires.ask.few)) c.closure_ends.ensures c.if-marks-rows-ne0.false (c.some_end_hit.ensures ∙ end-hits_are _ _ _ _ _ _ _ c.requires.each)

@@ -1,40 +1,16 @@
 -- `move_edges::rows::count_filled` meets its contract. Assumes nothing.
-use Prim.Native.Nat.{◌+◌, ◌-◌, ◌≤◌}
-use native.Mathlib.Omega.{arith}
-use mathlib.Core.Bool.{not}
-use lib.Dec.{eqb}
-use lib.ListN.{get_or}
-use Rattle.graphs.specs.Count.{ind_le}
-use Rattle.move_edges.specs.Rows.{Compared}
-use Rattle.move_edges.proofs.Checking.{compare_none, compare_more, compare_le, compare_done}
+use Rattle.std.proofs.Common.{arith, sym, ◌∙◌}
+use Rattle.graphs.specs.Count.{count_none}
+use Rattle.move_edges.specs.Rows.{numbers_of}
+use Rattle.move_edges.proofs.Following.{told, byte_le}
+use Rattle.move_edges.proofs.Checking.{differing_more, differing_le}
 use Rattle.move_edges.proofs.rows.count_filled.Goals as goal
 
-pub loop-y-init : goal.loop-y-init
-loop-y-init c = (omega arith, compare_none _ _ _)
-
-pub overflow_add-at : goal.overflow_add-at
-overflow_add-at c = omega arith
-
-pub offset_bounds-edges-at : goal.offset_bounds-edges-at
-offset_bounds-edges-at c = omega arith
-
-pub bounds-edges-at : goal.bounds-edges-at
-bounds-edges-at c = omega arith
-
-pub differ-filled-requires : goal.differ-filled-requires
-differ-filled-requires c = tt
+pub loop-number-init : goal.loop-number-init
+loop-number-init c = sym (count_none _)
 
 pub overflow_add-filled : goal.overflow_add-filled
-overflow_add-filled c = omega (arith, compare_le c.loop-y.invariant.1, c.differ-filled.ensures, ind_le (not (eqb (get_or c.args.edges.now (c.args.at + c.loop-y.y) 0) 0)))
+overflow_add-filled c = omega (arith, c.loop-number.invariant, differing_le (numbers_of c.args.numbers.now) (λ y. 0) c.loop-number.number-index, c.from-filled.ensures, byte_le)
 
-pub overflow_add-y : goal.overflow_add-y
-overflow_add-y c = omega arith
-
-pub loop-y-smaller : goal.loop-y-smaller
-loop-y-smaller c = omega arith
-
-pub loop-y-preserved : goal.loop-y-preserved
-loop-y-preserved c = (omega arith, compare_more _ c.loop-y.invariant.1 c.differ-filled.ensures)
-
-pub returns : goal.returns
-returns c = compare_done c.loop-y.invariant.1 (omega arith)
+pub loop-number-preserved : goal.loop-number-preserved
+loop-number-preserved c = differing_more _ _ c.loop-number.number-index c.loop-number.invariant (c.from-filled.ensures ∙ told _)

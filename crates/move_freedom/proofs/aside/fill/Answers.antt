@@ -1,13 +1,9 @@
--- `move_freedom::aside::fill` meets its contract. Assumes nothing.
-use Rattle.move_freedom.specs.Aside.{fill_tally, fill_slots_can, fill_done}
-use borrow.Author.Rules.{rules}
+-- The counts and the facades are those of the nodes. Assumes nothing.
+use Rattle.std.proofs.Common.{arith, length-take-le}
+use Rattle.move_freedom.proofs.Asides.{fill_done}
 use Rattle.move_freedom.proofs.aside.fill.Goals as goal
 
-pub tally-requires : goal.tally-requires
-tally-requires c = fill_tally c.requires
-
-pub write_slots-requires : goal.write_slots-requires
-write_slots-requires c = fill_slots_can c.requires c.tally.ensures c.facades.ensures
-
 pub returns : goal.returns
-returns c = fill_done c.requires c.tally.ensures c.facades.ensures c.write_slots.ensures.sources_after c.write_slots.ensures.targets_after
+returns c =
+    let r = c.requires in
+    fill_done r _ (length-take-le _ _ (omega (arith, r.few, r.loadable.sizes.sets))) c.tally.ensures _ (length-take-le _ _ (omega (arith, r.loadable.sizes.bits))) c.facades.ensures c.write_slots.ensures.sources_after c.write_slots.ensures.targets_after

@@ -1,14 +1,11 @@
--- `move_freedom::atoms::of_all` meets its contract. Assumes nothing.
-use Prim.Native.Nat.{◌+◌, ◌-◌, ◌*◌, ◌≤◌}
-use native.Mathlib.Omega.{arith}
-use mathlib.Core.Path.{refl}
-use borrow.Author.Rules.{rules}
-use Rattle.move_ledger.specs.Graph.{lent}
-use Rattle.move_freedom.specs.Atoms.{place_in, Counted, counted_zero, counted_next, counted_upto}
+-- The atoms up to i are counted. Assumes nothing.
+use Rattle.std.proofs.Common.{◌+◌, ◌*◌, ◌≤◌}
+use Rattle.move_load_view.specs.View.{lent_by}
+use Rattle.move_freedom.specs.Atoms.{place_in, Counted}
 use Rattle.move_freedom.proofs.atoms.of_all.Given as goal
 
-abbrev pub invariant-loop-i : goal.invariant-loop-i
-invariant-loop-i l = (l.i ≤ l.a) × Counted (lent l.a l.d l.e l.starts l.dependencies l.hosts) l.fixed (place_in (lent l.a l.d l.e l.starts l.dependencies l.hosts) l.n l.area) l.i l.granted l.denied l.kept × (l.granted + l.denied + l.kept ≤ 1024 * l.i)
-
-abbrev pub decreases-loop-i : goal.decreases-loop-i
-decreases-loop-i l = l.a - l.i
+abbrev pub invariant-loop-atom : goal.invariant-loop-atom
+invariant-loop-atom l = record {
+  counted : Counted (lent_by l.load) l.fixed (place_in (lent_by l.load) l.n l.area) l.atom l.all;
+  few : l.all.accepted + l.all.rejected + l.all.fixed ≤ 1024 * l.atom;
+}

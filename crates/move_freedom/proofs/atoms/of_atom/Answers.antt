@@ -1,14 +1,16 @@
--- `move_freedom::atoms::of_atom` meets its contract. Assumes nothing.
-use native.Mathlib.Omega.{arith}
-use Rattle.move_freedom.specs.Atoms.{atom_stays, atom_few, atom_moves}
-use borrow.Author.Rules.{rules}
+-- The counts of a fixed atom, and of another. Assumes nothing.
+use Rattle.std.proofs.Common.{arith}
+use Rattle.move_freedom.proofs.AtomCounts.{atom_stays, atom_few, atom_moves, atom_asks}
 use Rattle.move_freedom.proofs.atoms.of_atom.Goals as goal
 
-pub returns-then-fixed-atom-ne0 : goal.returns-then-fixed-atom-ne0
-returns-then-fixed-atom-ne0 c = atom_stays c.requires (λ e. omega (arith, c.if-fixed-atom-ne0.true))
+pub returns-then-is_fixed : goal.returns-then-is_fixed
+returns-then-is_fixed c = atom_stays c.requires (λ e. omega (arith, c.if-is_fixed.true))
+
+pub accepted-requires : goal.accepted-requires
+accepted-requires c = atom_asks c.requires
 
 pub overflow_sub-result : goal.overflow_sub-result
-overflow_sub-result c = omega (arith, atom_few c.requires c.accepted-open.ensures)
+overflow_sub-result c = omega (arith, atom_few c.requires c.accepted.ensures, c.from-open.ensures)
 
 pub returns : goal.returns
-returns c = atom_moves c.requires c.if-fixed-atom-ne0.false c.accepted-open.ensures
+returns c = rw c.from-open.ensures (atom_moves c.requires c.if-is_fixed.false c.accepted.ensures)

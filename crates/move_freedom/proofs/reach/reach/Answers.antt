@@ -1,7 +1,6 @@
--- `move_freedom::reach::reach` meets its contract. Assumes nothing.
-use mathlib.Core.Path.{refl}
-use Rattle.move_freedom.specs.Reach.{reach_group, reach_can, reach-done}
-use borrow.Author.Rules.{rules}
+-- The lists are those of the slots' graph. Assumes nothing.
+use Rattle.std.proofs.Common.{refl}
+use Rattle.move_freedom.proofs.Reached.{reach_group, reach_can, reach-done}
 use Rattle.move_freedom.proofs.reach.reach.Goals as goal
 
 pub group-requires : goal.group-requires

@@ -1,13 +1,6 @@
--- `move_freedom::rest::blanks` meets its contract. Assumes nothing.
-use mathlib.Core.Path.{refl}
-use Prim.Native.Nat.{◌-◌, ◌≤◌}
-use native.Mathlib.Omega.{arith}
-use Rattle.move_freedom.specs.Rest.{BlankedTo, blanked_none, blanked_more, blanked_upto}
-use borrow.Author.Rules.{rules}
+-- The slots up to k are written. Assumes nothing.
+use Rattle.move_freedom.specs.Rest.{BlankedTo}
 use Rattle.move_freedom.proofs.rest.blanks.Given as goal
 
 abbrev pub invariant-loop-k : goal.invariant-loop-k
-invariant-loop-k l = (l.k ≤ l.m) × BlankedTo l.sources l.targets l.z l.k l.initial.starts l.initial.ends l.starts l.ends
-
-abbrev pub decreases-loop-k : goal.decreases-loop-k
-decreases-loop-k l = l.m - l.k
+invariant-loop-k l = BlankedTo l.slots.sources.now l.slots.targets.now l.z l.k l.initial.sources l.initial.targets l.sources l.targets

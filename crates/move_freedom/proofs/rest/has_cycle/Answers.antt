@@ -1,7 +1,6 @@
--- `move_freedom::rest::has_cycle` meets its contract. Assumes nothing.
-use mathlib.Core.Path.{refl}
-use Rattle.move_freedom.specs.Rest.{rest_group, rest_graph, rest-done}
-use borrow.Author.Rules.{rules}
+-- The lists are those of the graph without the node. Assumes nothing.
+use Rattle.std.proofs.Common.{refl}
+use Rattle.move_freedom.proofs.Blanking.{rest_group, rest_graph, rest-done}
 use Rattle.move_freedom.proofs.rest.has_cycle.Goals as goal
 
 pub group-requires : goal.group-requires

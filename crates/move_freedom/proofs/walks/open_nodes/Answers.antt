@@ -1,6 +1,7 @@
--- `move_freedom::walks::open_nodes` meets its contract. Assumes nothing.
-use Rattle.move_freedom.specs.Walks.{forth_can, back_can, ahead_can, behind_can, tally_can, opened}
-use borrow.Author.Rules.{rules}
+-- The flags are those of the two walks. Assumes nothing.
+use Rattle.std.proofs.Common.{length, rules, tests}
+use Rattle.move_freedom.specs.Steps.{leaves}
+use Rattle.move_freedom.proofs.Walking.{forth_can, back_can, opened}
 use Rattle.move_freedom.proofs.walks.open_nodes.Goals as goal
 
 pub reach-requires : goal.reach-requires
@@ -9,14 +10,7 @@ reach-requires c = forth_can c.requires
 pub reach-requires-2 : goal.reach-requires-2
 reach-requires-2 c = back_can c.requires
 
-pub steps-requires : goal.steps-requires
-steps-requires c = ahead_can c.requires c.reach.ensures c.reach-2.ensures
-
-pub steps-requires-2 : goal.steps-requires-2
-steps-requires-2 c = behind_can c.requires c.reach.ensures c.reach-2.ensures
-
-pub open_to-requires : goal.open_to-requires
-open_to-requires c = tally_can c.requires c.reach.ensures c.reach-2.ensures c.steps.ensures c.steps-2.ensures c.leaving.ensures
-
 pub returns : goal.returns
-returns c = opened c.requires c.reach.ensures c.reach-2.ensures c.steps.ensures c.steps-2.ensures c.leaving.ensures c.open_to.ensures
+returns c =
+    let out = c.flag_targets.ensures (leaves (length c.args.counts.now)) (λ u v r p. search (rules, tests)) in
+    opened c.requires c.reach.ensures c.reach-2.ensures c.steps.ensures c.steps-2.ensures out c.args.own c.open_nodes.ensures

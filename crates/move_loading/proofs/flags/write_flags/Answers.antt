@@ -1,9 +1,7 @@
 -- `move_loading::flags::write_flags` meets its contract. Assumes nothing.
-use native.Mathlib.Omega.{arith}
-use lib.ListN.{replicate}
+use Rattle.std.proofs.Common.{arith, replicate}
 use Rattle.graph_slots.specs.Listing.{group_can, slot-lists}
 use Rattle.move_loading.proofs.Flagging.{flags-none, flags_some}
-use borrow.Author.Rules.{rules}
 use Rattle.move_loading.proofs.flags.write_flags.Goals as goal
 
 pub group-requires : goal.group-requires

@@ -1,30 +1,27 @@
--- `move_rows::listed::listed_row` meets its contract. Assumes nothing.
-use mathlib.Core.Path.{sym, ◌∙◌}
-use native.Mathlib.Omega.{arith}
-use borrow.Author.Tests.{not-true, not-false}
-use Rattle.move_ledger.specs.Graph.{lent}
+-- Each row, and what is left where none fits. Assumes nothing.
+use Rattle.std.proofs.Common.{rules, sym}
+use Rattle.std.proofs.lemmas.Result.{err_from_is_err_and}
+use Rattle.move_load_rows.proofs.Rows.{row_some}
+use Rattle.move_load_view.specs.View.{lent_by}
 use Rattle.move_rows.specs.Listed.{can_keep, can_check, row_first, row_unkept, row-none, row_nine}
-use borrow.Author.Rules.{rules}
 use Rattle.move_rows.proofs.listed.listed_row.Goals as goal
 
-pub returns-then-q-ne0 : goal.returns-then-q-ne0
-returns-then-q-ne0 c = row_first (search rules) (omega arith)
+pub returns-in_err-refusal : goal.returns-in_err-refusal
+returns-in_err-refusal c =
+    let p = err_from_is_err_and c.from_residual.result c.from_residual.ensures.1 in
+    rw (p.1, p.2) (row_first c.in_err-refusal.ensures (row_some _))
 
 pub keeps-requires : goal.keeps-requires
-keeps-requires c =
-    let g = c.args in
-    can_keep (lent g.a g.d g.e g.starts.now g.dependencies.now g.hosts.now) g.fixed.now g.n g.area.now (sym c.refusal-q.ensures ∙ c.if-q-ne0.false)
+keeps-requires c = can_keep (lent_by c.args.load.now) c.args.fixed.now c.args.n c.args.area.now (sym c.in_ok-refusal.ensures)
 
 pub returns-then-not-keeps : goal.returns-then-not-keeps
-returns-then-not-keeps c = row_unkept (sym c.refusal-q.ensures ∙ c.if-q-ne0.false) c.keeps.ensures (c.if-not-keeps.true)
+returns-then-not-keeps c = row_unkept (sym c.in_ok-refusal.ensures) c.keeps.ensures c.if-not-keeps.true
 
 pub consistent-requires : goal.consistent-requires
-consistent-requires c =
-    let g = c.args in
-    can_check (lent g.a g.d g.e g.starts.now g.dependencies.now g.hosts.now) g.fixed.now g.n g.area.now (sym c.refusal-q.ensures ∙ c.if-q-ne0.false) (search rules)
+consistent-requires c = can_check (lent_by c.args.load.now) c.args.fixed.now c.args.n c.args.area.now (sym c.in_ok-refusal.ensures) (search rules)
 
 pub returns-then-consistent : goal.returns-then-consistent
-returns-then-consistent c = row-none (sym c.refusal-q.ensures ∙ c.if-q-ne0.false) c.keeps.ensures c.consistent.ensures (search rules) (search rules) (c.if-not-keeps.false) c.if-consistent.true
+returns-then-consistent c = row-none (sym c.in_ok-refusal.ensures) c.keeps.ensures c.consistent.ensures (search rules) (search rules) c.if-not-keeps.false c.if-consistent.true
 
-pub returns : goal.returns
-returns c = row_nine (sym c.refusal-q.ensures ∙ c.if-q-ne0.false) c.keeps.ensures c.consistent.ensures c.if-consistent.false
+pub returns-else-consistent : goal.returns-else-consistent
+returns-else-consistent c = row_nine (sym c.in_ok-refusal.ensures) c.keeps.ensures c.consistent.ensures c.if-consistent.false

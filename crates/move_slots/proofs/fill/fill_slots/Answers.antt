@@ -1,13 +1,7 @@
 -- `move_slots::fill::fill_slots` meets its contract. Assumes nothing.
-use Rattle.move_slots.proofs.Filling.{fill_tally, fill_slots_can, fill_done}
-use borrow.Author.Rules.{rules}
+use Rattle.std.proofs.Common.{arith, length-take-le}
+use Rattle.move_slots.proofs.Filling.{fill_done}
 use Rattle.move_slots.proofs.fill.fill_slots.Goals as goal
 
-pub tally-requires : goal.tally-requires
-tally-requires c = fill_tally c.requires
-
-pub write_slots-requires : goal.write_slots-requires
-write_slots-requires c = fill_slots_can c.requires c.tally.ensures c.facades.ensures
-
 pub returns : goal.returns
-returns c = fill_done c.requires c.tally.ensures c.facades.ensures c.write_slots.ensures.sources_after c.write_slots.ensures.targets_after
+returns c = fill_done c.requires _ (length-take-le _ _ c.requires.counts_long) c.tally.ensures _ (length-take-le _ _ (omega (arith, c.requires.loadable.sizes.bits))) c.facades.ensures c.write_slots.ensures.sources_after c.write_slots.ensures.targets_after

@@ -1,15 +1,10 @@
 -- `move_slots::slots::entry_sources` meets its contract. Assumes nothing.
-use mathlib.Core.Path.{◌≡◌}
-use Prim.Native.Nat.{◌+◌, ◌-◌, ◌≤◌}
-use native.Mathlib.Omega.{arith}
+use Rattle.std.proofs.Common.{◌≡◌}
 use Rattle.move_ledger.specs.Graph.{at}
+use Rattle.move_load_view.specs.View.{lent_by}
 use Rattle.move_slots.specs.Written.{Written}
-use Rattle.move_slots.specs.Slots.{spans, entry_source}
-use Rattle.move_slots.proofs.Slotting.{sources-none, start_le, entries_can, entries-end, sources_can, sources-more, sources-done}
+use Rattle.move_slots.specs.Slots.{entry_source}
 use Rattle.move_slots.proofs.slots.entry_sources.Given as goal
 
-abbrev pub invariant-loop-i : goal.invariant-loop-i
-invariant-loop-i l = (l.i ≤ l.a) × (l.from ≡ at l.starts l.i) × Written (entry_source (spans l.a l.d l.starts) l.nodes) 0 l.from l.initial.sources l.sources
-
-abbrev pub decreases-loop-i : goal.decreases-loop-i
-decreases-loop-i l = l.a - l.i
+abbrev pub invariant-loop-atom : goal.invariant-loop-atom
+invariant-loop-atom l = (l.from ≡ at l.load.starts.now l.atom) × Written (entry_source (lent_by l.load) l.nodes) 0 l.from l.initial.sources l.sources

@@ -1,38 +1,19 @@
 -- `move_slots::slots::tally` meets its contract. Assumes nothing.
-use mathlib.Core.Path.{◌∙◌}
-use Prim.Native.Nat.{◌-◌, ◌≤◌}
 use native.Mathlib.Omega.{arith}
-use Rattle.move_slots.specs.Written.{Written}
+use Rattle.std.proofs.Common.{rules, length, ◌∙◌, ap}
+use Rattle.graphs.specs.Tab.{is_tab}
 use Rattle.move_slots.specs.Slots.{atoms}
-use Rattle.move_slots.proofs.Slotting.{tally_none, tally_can, tally_more, tally_done}
+use Rattle.move_slots.proofs.Tallying.{tally_none, tally_room, tally_more}
 use Rattle.move_slots.proofs.slots.tally.Goals as goal
 
-pub fill_with-requires : goal.fill_with-requires
-fill_with-requires c = omega arith
+pub loop-node-init : goal.loop-node-init
+loop-node-init c = tally_none _ (length c.args.counts.now) (search rules)
 
-pub loop-i-init : goal.loop-i-init
-loop-i-init c = (omega arith, tally_none c.requires c.fill_with.ensures)
+pub overflow_add-counts : goal.overflow_add-counts
+overflow_add-counts c = omega (arith, tally_room _ c.requires c.loop-node.invariant c.loop-node-test.true (omega (arith, c.requires.within c.loop-node.node-index c.loop-node-test.true, c.fill.ensures.len)))
 
-pub offset_bounds-nodes-i : goal.offset_bounds-nodes-i
-offset_bounds-nodes-i c = omega arith
-
-pub bounds-nodes-i : goal.bounds-nodes-i
-bounds-nodes-i c = omega arith
-
-pub bump-requires : goal.bump-requires
-bump-requires c = tally_can c.requires c.fill_with.ensures c.loop-i.invariant.1 c.loop-i-test.true
-
-pub overflow_add-i : goal.overflow_add-i
-overflow_add-i c = omega arith
-
-pub loop-i-smaller : goal.loop-i-smaller
-loop-i-smaller c = omega arith
-
-pub loop-i-preserved : goal.loop-i-preserved
-loop-i-preserved c = (omega arith, tally_more c.requires c.fill_with.ensures c.loop-i.invariant.1 c.loop-i-test.true c.bump.ensures)
-
-pub shape_of-counts : goal.shape_of-counts
-shape_of-counts c = c.loop-i.invariant.1.long ∙ c.fill_with.auto.area
+pub loop-node-preserved : goal.loop-node-preserved
+loop-node-preserved c = tally_more c.args.nodes.now c.loop-node.node-index _ c.loop-node.invariant
 
 pub returns : goal.returns
-returns c = tally_done c.requires c.fill_with.ensures c.loop-i.invariant.1 (omega arith)
+returns c = is_tab _ _ _ (omega (arith, c.fill.ensures.len)) (λ x h. c.loop-node.invariant x (omega (arith, c.fill.ensures.len)) ∙ ap (λ k. atoms c.args.nodes.now k x) (omega arith))

@@ -1,7 +1,15 @@
 -- `move_try::reach::reached` meets its contract. Assumes nothing.
-use mathlib.Core.Path.{◌∙◌}
-use Rattle.graphs.specs.Count.{count_ext}
+use Rattle.std.proofs.Common.{ap, ◌∙◌, List, ℕ, length, get_or}
+use Rattle.std.specs.Prelude.{eqb}
+use Rattle.graphs.specs.Count.{count, count_ext}
+use Rattle.move_area.specs.Bodies.{lane_at}
+use Rattle.move_try.specs.Areas.{counter_in, marks-lent}
+use Rattle.move_try.proofs.Counting.{count-part}
 use Rattle.move_try.proofs.reach.reached.Goals as goal
 
 pub returns : goal.returns
-returns c = c.count_marked.ensures ∙ count_ext _ _ c.args.n (c.requires.marks c.if-area-square-eq0.false)
+returns c =
+    let s = c.args in
+    let mark = counter_in s.n s.area.now in
+    c.count_marked.ensures ∙ ap (λ (l : List ℕ). count (λ x. eqb (get_or l x 0) mark) (length l)) (marks-lent s.n s.area.now c.requires.room)
+    ∙ count-part (λ x. eqb x mark) s.area.now (lane_at s.n 9) s.n ∙ count_ext _ _ s.n (c.requires.marks c.if-area-square-eq0.false)

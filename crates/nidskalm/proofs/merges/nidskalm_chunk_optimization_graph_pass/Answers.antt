@@ -1,7 +1,7 @@
--- `merges::nidskalm_chunk_optimization_graph_pass` meets its contract. Assumes nothing.
-use Rattle.nidskalm.specs.ReplyLaws.{pass_replied, pass_left, pass_lists}
-use borrow.Author.Rules.{rules}
+-- What the pass counts is what the definition's lists are long. Assumes nothing.
+use mathlib.Core.Path.{refl}
+use Rattle.nidskalm.specs.ReplyLaws.{pass_replied}
 use Rattle.nidskalm.proofs.merges.nidskalm_chunk_optimization_graph_pass.Goals as goal
 
-pub returns : goal.returns
-returns c = record { value = pass_replied c.pass.result _ c.sizes.ensures c.pass.ensures c.of_pass.ensures; area_after = pass_left c.pass.result _ c.sizes.ensures c.pass.ensures c.of_pass.ensures; numbers_after = pass_lists c.pass.result _ c.sizes.ensures c.pass.ensures c.of_pass.ensures }
+pub returns-clause-value : goal.returns-clause-value
+returns-clause-value c = pass_replied c.pass.result _ refl c.pass.ensures c.of_pass.ensures

@@ -1,36 +1,28 @@
--- `reduced_chunk_graph::moves::go_on` meets its contract. Assumes nothing.
-use mathlib.Core.Path.{ap}
-use native.Mathlib.Omega.{arith}
-use mathlib.Core.Path.{refl, sym, ◌∙◌}
-use borrow.Author.Tests.{not-true, not-false}
-use Rattle.entry_set.specs.SetLaws.{legal-short}
+-- The rows, then the move. Assumes nothing.
+use Rattle.std.proofs.Common.{arith, sym, ◌∙◌, refl}
+use Rattle.entry_set.specs.Compared.{equal_held}
+use Rattle.reduced_chunk_graph.specs.Answers.{of_move}
+use Rattle.reduced_chunk_graph.specs.Asked.{handed_on}
 use Rattle.reduced_chunk_graph.specs.MoveLaws.{goes_ten, goes_fixed, goes_eleven, go_node, twelve_fits, can_try, tried-goes}
-use borrow.Author.Rules.{rules}
 use Rattle.reduced_chunk_graph.proofs.moves.go_on.Goals as goal
 
-pub returns-then-a-atom : goal.returns-then-a-atom
-returns-then-a-atom c = goes_ten c.requires _ _ (omega arith)
+pub returns-then-load-atom : goal.returns-then-load-atom
+returns-then-load-atom c = goes_ten c.requires _ _ (omega arith)
 
 pub returns-then-fixed-atom-ne0 : goal.returns-then-fixed-atom-ne0
 returns-then-fixed-atom-ne0 c = goes_fixed c.requires _ _ (omega arith) c.if-fixed-atom-ne0.true
 
-pub returns-then-not-is_legal : goal.returns-then-not-is_legal
-returns-then-not-is_legal c = goes_eleven c.requires _ _ (omega arith) c.if-fixed-atom-ne0.false (sym c.is_legal.ensures ∙ c.if-not-is_legal.true)
+pub returns-in_err-target : goal.returns-in_err-target
+returns-in_err-target c = rw (handed_on of_move _ (λ _. refl) c.from_residual.ensures.1) (goes_eleven c.requires _ _ (omega arith) c.if-fixed-atom-ne0.false _ c.in_err-target.ensures)
 
-pub overflow_cast-node : goal.overflow_cast-node
-overflow_cast-node c = omega (arith, go_node c.requires c.args.atom c.args.bits.now (omega arith), c.requires.loadable.sizes.sets)
+pub atom_set-requires : goal.atom_set-requires
+atom_set-requires c = go_node c.requires c.args.atom c.args.bits.now (omega arith)
 
-pub overflow_add-lanes-2 : goal.overflow_add-lanes-2
-overflow_add-lanes-2 c = omega (arith, go_node c.requires c.args.atom c.args.bits.now (omega arith), c.requires.loadable.sizes.area)
+pub returns-then-eq : goal.returns-then-eq
+returns-then-eq c = twelve_fits c.requires _ _ (omega arith) c.if-fixed-atom-ne0.false c.in_ok-target.ensures (sym (equal_held c.atom_set.ensures c.in_ok-target.ensures.1 c.eq.ensures) ∙ c.if-eq.true)
 
-pub read_lanes-requires : goal.read_lanes-requires
-read_lanes-requires c = omega (arith, go_node c.requires c.args.atom c.args.bits.now (omega arith), c.requires.loadable.sizes.area)
+pub try_checked-requires : goal.try_checked-requires
+try_checked-requires c = can_try c.requires _ _ (omega arith) c.if-fixed-atom-ne0.false c.in_ok-target.ensures (sym (equal_held c.atom_set.ensures c.in_ok-target.ensures.1 c.eq.ensures) ∙ c.if-eq.false)
 
-pub returns-then-equal : goal.returns-then-equal
-returns-then-equal c = twelve_fits c.requires _ _ (omega arith) c.if-fixed-atom-ne0.false (sym c.is_legal.ensures ∙ c.if-not-is_legal.false) _ _ _ refl c.read_lanes.ensures.value c.from_list-target.ensures.value (sym c.equal.ensures ∙ c.if-equal.true)
-
-pub try_checked-tried-requires : goal.try_checked-tried-requires
-try_checked-tried-requires c = can_try c.requires _ _ (omega arith) c.if-fixed-atom-ne0.false (sym c.is_legal.ensures ∙ c.if-not-is_legal.false) _ _ _ refl c.read_lanes.ensures.value c.from_list-target.ensures.value (sym c.equal.ensures ∙ c.if-equal.false)
-
-pub from_list-target-requires : goal.from_list-target-requires
-from_list-target-requires c = legal-short _ c.args.bits.now c.requires.loadable.sizes.bits c.is_legal.ensures (ap mathlib.Core.Bool.not c.if-not-is_legal.false)
+pub returns : goal.returns
+returns c = tried-goes c.requires _ _ (omega arith) c.if-fixed-atom-ne0.false c.in_ok-target.ensures c.try_checked.ensures

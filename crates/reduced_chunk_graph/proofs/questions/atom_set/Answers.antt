@@ -1,17 +1,17 @@
--- `questions::atom_set` meets its contract. Assumes nothing.
-use native.Mathlib.Omega.{arith}
-use Rattle.reduced_chunk_graph.specs.Asked.{asked-back, set_ten, can_read-set, set_told}
-use borrow.Author.Rules.{rules}
+-- The rows, then the set. Assumes nothing.
+use Rattle.std.proofs.Common.{arith, ◌∙◌, refl}
+use Rattle.reduced_chunk_graph.specs.Answers.{of_set}
+use Rattle.reduced_chunk_graph.specs.Asked.{handed_on, asked-back, set_ten, can_read-set, set_told}
 use Rattle.reduced_chunk_graph.proofs.questions.atom_set.Goals as goal
 
-pub returns-then-q-ne0 : goal.returns-then-q-ne0
-returns-then-q-ne0 c = asked-back _ _ _ _ _ c.later_row-q.ensures (omega arith) _
+pub returns-in_err-later_row : goal.returns-in_err-later_row
+returns-in_err-later_row c = handed_on of_set _ (λ _. refl) c.from_residual.ensures.1 ∙ asked-back _ _ _ _ _ c.in_err-later_row.ensures _
 
-pub returns-then-a-i : goal.returns-then-a-i
-returns-then-a-i c = set_ten _ _ _ _ _ c.later_row-q.ensures (omega arith) _ (omega arith)
+pub returns-then-load-i : goal.returns-then-load-i
+returns-then-load-i c = set_ten _ _ _ _ c.in_ok-later_row.ensures _ (omega arith)
 
-pub read_set-set-requires : goal.read_set-set-requires
-read_set-set-requires c = can_read-set _ _ _ _ _ c.later_row-q.ensures (omega arith) _ (omega arith)
+pub atom_set-requires : goal.atom_set-requires
+atom_set-requires c = can_read-set _ _ _ _ c.in_ok-later_row.ensures _ (omega arith)
 
 pub returns : goal.returns
-returns c = set_told _ _ _ _ _ c.later_row-q.ensures (omega arith) _ (omega arith) _ c.read_set-set.ensures
+returns c = set_told _ _ _ _ c.in_ok-later_row.ensures _ (omega arith) c.atom_set.ensures

@@ -1,14 +1,14 @@
--- `questions::chunk_count` meets its contract. Assumes nothing.
-use native.Mathlib.Omega.{arith}
-use Rattle.reduced_chunk_graph.specs.Asked.{asked-back, checks, totals_inside, chunks_told}
-use borrow.Author.Rules.{rules}
+-- The rows, then the count. Assumes nothing.
+use Rattle.std.proofs.Common.{◌∙◌, refl}
+use Rattle.reduced_chunk_graph.specs.Answers.{of_number}
+use Rattle.reduced_chunk_graph.specs.Asked.{handed_on, asked-back, checks, totals_inside, chunks_told}
 use Rattle.reduced_chunk_graph.proofs.questions.chunk_count.Goals as goal
 
-pub returns-then-q-ne0 : goal.returns-then-q-ne0
-returns-then-q-ne0 c = asked-back _ _ _ _ _ c.later_row-q.ensures (omega arith) _
+pub returns-in_err-later_row : goal.returns-in_err-later_row
+returns-in_err-later_row c = handed_on of_number _ (λ _. refl) c.from_residual.ensures.1 ∙ asked-back _ _ _ _ _ c.in_err-later_row.ensures _
 
-pub chunk_count-count-requires : goal.chunk_count-count-requires
-chunk_count-count-requires c = totals_inside _ _ _ _ _ c.later_row-q.ensures (omega arith)
+pub chunk_count-requires : goal.chunk_count-requires
+chunk_count-requires c = totals_inside _ _ _ _ c.in_ok-later_row.ensures
 
 pub returns : goal.returns
-returns c = chunks_told _ _ _ _ _ c.later_row-q.ensures (omega arith) _ (c.chunk_count-count.ensures _ _ (checks _ _ _ _ _ c.later_row-q.ensures (omega arith)))
+returns c = chunks_told _ _ _ _ c.in_ok-later_row.ensures _ (c.chunk_count.ensures _ _ (checks _ _ _ _ c.in_ok-later_row.ensures))

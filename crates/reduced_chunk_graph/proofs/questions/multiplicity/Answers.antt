@@ -1,37 +1,29 @@
--- `questions::multiplicity` meets its contract. Assumes nothing.
-use mathlib.Core.Path.{ap}
-use native.Mathlib.Omega.{arith}
-use Rattle.entry_set.specs.SetLaws.{legal-short}
-use Rattle.reduced_chunk_graph.specs.Asked.{asked-back, loads, head-inside, checks_some, from_eleven, to_eleven, multiplicity_told}
-use borrow.Author.Rules.{rules}
+-- The rows, then the multiplicity. Assumes nothing.
+use Rattle.std.proofs.Common.{◌∙◌, refl}
+use Rattle.reduced_chunk_graph.specs.Answers.{of_number}
+use Rattle.reduced_chunk_graph.specs.Asked.{handed_on, asked-back, loads, head-inside, checks_some, from_eleven, to_eleven, multiplicity_told}
 use Rattle.reduced_chunk_graph.proofs.questions.multiplicity.Goals as goal
 
-pub returns-then-q-ne0 : goal.returns-then-q-ne0
-returns-then-q-ne0 c = asked-back _ _ _ _ _ c.later_row-q.ensures (omega arith) _
+pub returns-in_err-later_row : goal.returns-in_err-later_row
+returns-in_err-later_row c = handed_on of_number _ (λ _. refl) c.from_residual.ensures.1 ∙ asked-back _ _ _ _ _ c.in_err-later_row.ensures _
 
-pub is_legal-requires : goal.is_legal-requires
-is_legal-requires c = (loads _ _ _ _ _ c.later_row-q.ensures (omega arith)).sizes.bits
+pub lent_set-requires : goal.lent_set-requires
+lent_set-requires c = (loads _ _ _ _ c.in_ok-later_row.ensures).sizes.bits
 
-pub is_legal-requires-2 : goal.is_legal-requires-2
-is_legal-requires-2 c = (loads _ _ _ _ _ c.later_row-q.ensures (omega arith)).sizes.bits
+pub lent_set-requires-2 : goal.lent_set-requires-2
+lent_set-requires-2 c = (loads _ _ _ _ c.in_ok-later_row.ensures).sizes.bits
 
-pub registered-known-requires : goal.registered-known-requires
-registered-known-requires c = head-inside _ _ _ _ _ c.later_row-q.ensures (omega arith)
+pub returns-in_err-source : goal.returns-in_err-source
+returns-in_err-source c = handed_on of_number _ (λ _. refl) c.from_residual-in_err-source.ensures.1 ∙ from_eleven _ _ _ _ c.in_ok-later_row.ensures _ _ _ c.in_err-source.ensures
+
+pub returns-in_err-target : goal.returns-in_err-target
+returns-in_err-target c = handed_on of_number _ (λ _. refl) c.from_residual-in_err-target.ensures.1 ∙ to_eleven _ _ _ _ c.in_ok-later_row.ensures _ _ c.in_ok-source.ensures _ c.in_err-target.ensures
+
+pub registered-requires : goal.registered-requires
+registered-requires c = head-inside _ _ _ _ c.in_ok-later_row.ensures
 
 pub multiplicity-count-requires : goal.multiplicity-count-requires
-multiplicity-count-requires c = checks_some _ _ _ _ _ c.later_row-q.ensures (omega arith) c.registered-known.ensures
-
-pub returns-then-not-is_legal : goal.returns-then-not-is_legal
-returns-then-not-is_legal c = from_eleven _ _ _ _ _ c.later_row-q.ensures (omega arith) _ _ _ c.is_legal.ensures (ap mathlib.Core.Bool.not c.if-not-is_legal.true)
-
-pub returns-then-not-is_legal-2 : goal.returns-then-not-is_legal-2
-returns-then-not-is_legal-2 c = to_eleven _ _ _ _ _ c.later_row-q.ensures (omega arith) _ _ _ _ c.is_legal.ensures c.is_legal-2.ensures (ap mathlib.Core.Bool.not c.if-not-is_legal.false) (ap mathlib.Core.Bool.not c.if-not-is_legal-2.true)
-
-pub from_list-source-requires : goal.from_list-source-requires
-from_list-source-requires c = legal-short _ c.args.from.now (loads _ _ _ _ _ c.later_row-q.ensures (omega arith)).sizes.bits c.is_legal.ensures (ap mathlib.Core.Bool.not c.if-not-is_legal.false)
-
-pub from_list-target-requires : goal.from_list-target-requires
-from_list-target-requires c = legal-short _ c.args.to.now (loads _ _ _ _ _ c.later_row-q.ensures (omega arith)).sizes.bits c.is_legal-2.ensures (ap mathlib.Core.Bool.not c.if-not-is_legal-2.false)
+multiplicity-count-requires c = checks_some _ _ _ _ c.in_ok-later_row.ensures c.registered.ensures
 
 pub returns : goal.returns
-returns c = multiplicity_told _ _ _ _ _ c.later_row-q.ensures (omega arith) _ _ _ _ c.is_legal.ensures c.is_legal-2.ensures (ap mathlib.Core.Bool.not c.if-not-is_legal.false) (ap mathlib.Core.Bool.not c.if-not-is_legal-2.false) c.from_list-source.ensures c.from_list-target.ensures c.registered-known.ensures c.multiplicity-count.ensures c.wide.ensures
+returns c = multiplicity_told _ _ _ _ c.in_ok-later_row.ensures _ _ c.in_ok-source.ensures c.in_ok-target.ensures c.registered.ensures c.multiplicity-count.ensures c.from.ensures

@@ -1,21 +1,20 @@
--- `ranking::rank` meets its contract. Assumes nothing.
-use native.Mathlib.Omega.{arith}
-use mathlib.Core.Path.{◌∙◌}
+-- The rows of the first area, then of the second, then the order. Assumes nothing.
+use Rattle.std.proofs.Common.{◌∙◌, refl}
+use Rattle.reduced_chunk_graph.specs.Answers.{of_rank}
+use Rattle.reduced_chunk_graph.specs.Asked.{handed_on}
 use Rattle.reduced_chunk_graph.specs.Ranks.{first_back, second_back, both, both_some, rank-told}
-use borrow.Author.Rules.{rules}
 use Rattle.reduced_chunk_graph.proofs.ranking.rank.Goals as goal
 
-pub returns-then-q-ne0 : goal.returns-then-q-ne0
-returns-then-q-ne0 c = first_back _ _ _ _ _ _ c.later_row-q.ensures (omega arith)
+pub returns-in_err-later_row : goal.returns-in_err-later_row
+returns-in_err-later_row c = handed_on of_rank _ (λ _. refl) c.from_residual.ensures.1 ∙ first_back _ _ _ _ _ _ c.in_err-later_row.ensures
 
-pub returns-then-t-ne0 : goal.returns-then-t-ne0
-returns-then-t-ne0 c = second_back _ _ _ _ _ _ c.later_row-q.ensures (omega arith) _ c.later_row-t.ensures (omega arith)
+pub returns-in_err-later_row-2 : goal.returns-in_err-later_row-2
+returns-in_err-later_row-2 c = handed_on of_rank _ (λ _. refl) c.from_residual-in_err-later_row-2.ensures.1 ∙ second_back _ _ _ _ _ c.in_ok-later_row.ensures _ c.in_err-later_row-2.ensures
 
-pub rank-ranked-requires : goal.rank-ranked-requires
-rank-ranked-requires c = both_some _ _ _ _ _ _ c.later_row-q.ensures (omega arith) _ c.later_row-t.ensures (omega arith)
+pub rank-requires : goal.rank-requires
+rank-requires c = both_some _ _ _ _ _ c.in_ok-later_row.ensures c.in_ok-later_row-2.ensures
 
 pub returns : goal.returns
 returns c =
-    c.answered.ensures
-    ∙ rank-told _ _ _ _ _ _ c.later_row-q.ensures (omega arith) _ c.later_row-t.ensures (omega arith)
-    (c.rank-ranked.ensures _ (both _ _ _ _ _ _ c.later_row-q.ensures (omega arith) _ c.later_row-t.ensures (omega arith)))
+    rank-told _ _ _ _ _ c.in_ok-later_row.ensures c.in_ok-later_row-2.ensures
+    (c.rank.ensures _ (both _ _ _ _ _ c.in_ok-later_row.ensures c.in_ok-later_row-2.ensures))

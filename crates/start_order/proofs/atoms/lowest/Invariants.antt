@@ -1,14 +1,6 @@
--- `start_order::atoms::lowest` meets its contract. Assumes nothing.
+-- The atoms that were gone through. Assumes nothing.
 use Rattle.start_order.specs.Lowest.{atom_node, Lowest}
-use lib.ListN.{length}
-use mathlib.Core.Path.{◌≡◌}
-use Prim.Native.Nat.{◌≤◌}
 use Rattle.start_order.proofs.atoms.lowest.Given as goal
 
-abbrev pub invariant-loop-k : goal.invariant-loop-k
-invariant-loop-k l =
-    (l.k ≤ l.a) × (length l.low ≡ length l.initial.low) × Lowest (atom_node l.area l.n) l.k l.a l.low
-
-abbrev pub decreases-loop-k : goal.decreases-loop-k
-decreases-loop-k l =
-    l.k
+abbrev pub invariant-loop-i : goal.invariant-loop-i
+invariant-loop-i l = Lowest (atom_node l.nodes.area.now l.nodes.n) l.i l.a l.low

@@ -1,0 +1,2 @@
+-- What the proofs of the calls share. Assumes nothing.
+pub mod Refused

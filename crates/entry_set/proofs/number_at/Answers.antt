@@ -1,8 +1,0 @@
--- `number_at` meets its contract. Assumes nothing.
-use mathlib.Core.Path.{sym}
-use lib.ListN.{get_or-eq_default}
-use borrow.Author.Rules.{rules}
-use Rattle.entry_set.proofs.number_at.Goals as goal
-
-pub returns : goal.returns
-returns c = sym (get_or-eq_default c.args.bits.now 0 c.if-i-bits.false)

@@ -1,0 +1,2 @@
+-- What the proofs of `merge_pass` share. Assumes nothing.
+pub mod Bars

@@ -1,0 +1,7 @@
+-- What the proofs of several functions share. Assumes nothing.
+pub mod Any
+pub mod Parts
+pub mod Tables
+pub mod Searches
+pub mod Choosing
+pub mod Told

@@ -1,0 +1,2 @@
+-- The laws that the proofs of `merge_warning` cite. Assumes nothing.
+pub mod Closing

@@ -1,0 +1,2 @@
+-- The laws that the proofs of `move_fixed` cite. Assumes nothing.
+pub mod Flagging

@@ -1,2 +1,0 @@
--- Laws that the functions of `move_rank` cite. Assumes nothing.
-pub mod Comparing

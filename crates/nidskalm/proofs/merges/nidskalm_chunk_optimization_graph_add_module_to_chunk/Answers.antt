@@ -1,7 +1,0 @@
--- `merges::nidskalm_chunk_optimization_graph_add_module_to_chunk` meets its contract. Assumes nothing.
-use Rattle.nidskalm.specs.ReplyLaws.{merge-told, merge-left}
-use borrow.Author.Rules.{rules}
-use Rattle.nidskalm.proofs.merges.nidskalm_chunk_optimization_graph_add_module_to_chunk.Goals as goal
-
-pub returns : goal.returns
-returns c = record { value = merge-told c.sizes.ensures c.add_module_to_chunk.ensures c.of_done.ensures; area_after = merge-left c.sizes.ensures c.add_module_to_chunk.ensures c.of_done.ensures }

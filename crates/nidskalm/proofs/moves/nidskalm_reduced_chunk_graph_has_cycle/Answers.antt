@@ -1,8 +1,0 @@
--- `moves::nidskalm_reduced_chunk_graph_has_cycle` meets its contract. Assumes nothing.
-use Rattle.nidskalm_replies.specs.Replies.{move_reply}
-use mathlib.Core.Path.{◌∙◌, ap}
-use borrow.Author.Rules.{rules}
-use Rattle.nidskalm.proofs.moves.nidskalm_reduced_chunk_graph_has_cycle.Goals as goal
-
-pub returns : goal.returns
-returns c = c.of_load.ensures ∙ ap move_reply c.has_cycle.ensures

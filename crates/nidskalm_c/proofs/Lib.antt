@@ -1,0 +1,2 @@
+-- What the proofs of `nidskalm_c` cite. Assumes nothing.
+mod Structs

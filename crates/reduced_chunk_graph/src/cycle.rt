@@ -1,0 +1,21 @@
+// Whether the graph has a cycle, by the book's search: two routines that call each other (crate graph_book_walk).
+ghost use Rattle.std.specs.Prelude.{◌≡◌};
+ghost use Rattle.move_ledger.specs.Ledger as ledger;
+ghost use Rattle.move_area.specs.Calls.{asked};
+ghost use Rattle.move_load_view.specs.View.{lent_by};
+ghost use Rattle.reduced_chunk_graph.specs.Answers.{of_load};
+
+use super::Verdict;
+use move_load_view::Load;
+use refusals::Refusal;
+
+// The graph is worked out from the placement; the flag that the area keeps isn't read.
+pub fn has_cycle(load: &Load, n: usize, fixed: &[u32], area: &[u32]) -> Result<Verdict, Refusal>
+    ensures { of_load result ≡ asked (lent_by load.now) fixed.now n area.now ledger.has_cycle }
+{
+    move_rows::check::later_row(load, n, fixed, area)?;
+    if move_verdict::has_cycle(load, n, area) {
+        return Ok(Verdict::Cyclic);
+    }
+    Ok(Verdict::Acyclic)
+}

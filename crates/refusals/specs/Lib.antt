@@ -1,0 +1,2 @@
+-- The rows of the table of refusals. Assumes nothing.
+pub mod Rows
