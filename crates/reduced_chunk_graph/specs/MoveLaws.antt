@@ -66,13 +66,13 @@ module _ {load : Load} {fixed : List ℕ} {n : ℕ} {area : List ℕ} (can : Can
       go false b x y = y
 
   -- the atom's node and its set
-  go_ranged : Ranged load n area
+  pub go_ranged : Ranged load n area
   go_ranged = let z = can.loadable.sizes in consistent_ranged load n area can.loadable.order z.sets (omega (arith, z.area)) can.sane
 
   pub go_node : atom < load.A → CanReadSet area n atom
   go_node h = record { room = omega (arith, can.loadable.sizes.area); node = omega (arith, go_ranged.nodes atom h, go_ranged.few) }
 
-  go_set : atom < load.A → set_of area n atom ≡ at (decode load n area).ledger.place atom
+  pub go_set : atom < load.A → set_of area n atom ≡ at (decode load n area).ledger.place atom
   unfolding decode
   go_set h =
       let x = get_or area (n * n + 24 + 24 * n + atom) 0 in

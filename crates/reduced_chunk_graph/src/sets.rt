@@ -6,7 +6,7 @@ use entry_set::EntrySet;
 use refusals::Refusal;
 
 // Row 11, or the set that the list lends.
-pub fn lent_set(bits: &[u64], e: usize) -> Result<EntrySet, Refusal>
+pub(crate) fn lent_set(bits: &[u64], e: usize) -> Result<EntrySet, Refusal>
     requires { e ≤ 256 }
     ensures { SetTold e bits.now result }
 {

@@ -10,3 +10,4 @@ pub mod Walked
 pub mod Running
 pub mod Walking
 pub mod Calls
+pub mod StepLaws

@@ -1,5 +1,5 @@
 -- What each call of the walk to the wanted nodes asks, and what they come to. Assumes nothing.
-use Rattle.std.specs.Prelude.{ℕ, ◌+◌, ◌<◌, ◌≡◌, refl, true, not, List, eqb, length, get_or, replicate}
+use Rattle.std.specs.Prelude.{ℕ, ◌+◌, ◌≤◌, ◌<◌, ◌≡◌, refl, true, not, List, eqb, length, get_or, replicate}
 use Rattle.std.proofs.Common.{arith, sym, ap, subst, ◌∙◌, ltb-true, lt-ltb, ne_eqb}
 use Rattle.std.proofs.lemmas.Bool.{eqb-false, not-true}
 use Rattle.std.proofs.lemmas.List.{length-replicate}
@@ -61,6 +61,9 @@ long_of k = length-replicate {A = ℕ} k 0
 
 module _ {load : Load} {g : Nodes} {b : ℕ} {marks : List ℕ} {nodes heads slots : ℕ}
     (can : CanMark load g b marks) (room : MarkRoom g.n (load.D + load.E) nodes heads slots) where
+  pub mark_sum : load.D + load.E ≤ 8448
+  mark_sum = omega (arith, can.checked.loadable.sizes.entries, can.checked.loadable.sizes.bits)
+
   pub mark_fill : CanFillOwn load g.n g.area.now (zeros_of nodes) (zeros_of slots) (zeros_of slots)
   mark_fill = record {
     loadable = can.checked.loadable;

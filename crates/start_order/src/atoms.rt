@@ -4,7 +4,7 @@ ghost use Rattle.start_order.specs.Lowest.{atom_node, CanLower, Lowest};
 use crate::nodes::Nodes;
 
 // Atoms are gone through from the last of a to the first, so that the lowest of each node stays.
-pub fn lowest(nodes: &Nodes, a: usize, low: &mut [u32])
+pub(crate) fn lowest(nodes: &Nodes, a: usize, low: &mut [u32])
     requires { CanLower nodes.now.area.now a nodes.now.n low.old }
     ensures { Lowest (atom_node nodes.now.area.now nodes.now.n) 0 a low.new }
 {

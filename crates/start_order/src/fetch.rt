@@ -6,7 +6,7 @@ use crate::nodes::Nodes;
 use move_load_view::Load;
 
 // Lists the chunks to fetch, and tells how many there are. `order` has the nodes by rising sets, `degrees` each node's number of edges.
-pub fn fetch(
+pub(crate) fn fetch(
     load: &Load,
     nodes: &Nodes,
     bit: usize,

@@ -27,7 +27,7 @@ impl Nodes<'_> {
     ghost use Rattle.start_order.specs.Steps.{leads};
 
     // The node of an atom.
-    pub fn node_of(&self, atom: usize) -> usize
+    pub(crate) fn node_of(&self, atom: usize) -> usize
         requires { self.now.n * self.now.n + 24 + 24 * self.now.n + atom < length self.now.area.now }
         ensures { result ≡ atom_node self.now.area.now self.now.n atom }
     {
@@ -36,7 +36,7 @@ impl Nodes<'_> {
     }
 
     // Whether node x has an atom and its set holds the bit.
-    pub fn is_root(&self, bit: usize, x: usize) -> bool
+    pub(crate) fn is_root(&self, bit: usize, x: usize) -> bool
         requires { (bit < 256) × (x < self.now.n) }
         ensures { result ≡ picks self.now.area.now self.now.n bit x }
     {
@@ -46,7 +46,7 @@ impl Nodes<'_> {
     }
 
     // Whether there is an edge from node x to node y.
-    pub fn has_edge(&self, x: usize, y: usize) -> bool
+    pub(crate) fn has_edge(&self, x: usize, y: usize) -> bool
         requires { (x < self.now.n) × (y < self.now.n) }
         ensures { result ≡ leads self.now.area.now self.now.n y x }
     {

@@ -8,7 +8,7 @@ use crate::nodes::Nodes;
 use crate::wanted::WANTED;
 
 // The mark of a wanted node that is listed.
-// stays: the walk to the wanted nodes leaves its marks as numbers, and the turns go on in its list.
+// stays: the walk to the wanted nodes leaves its marks as numbers, and the turns go on in its list; a list of an enum beside it would be no plainer.
 const LISTED: u32 = 2;
 
 // Whether node x is to be listed still, and has no edge left.
@@ -59,7 +59,7 @@ fn take(
 
 // Lists them all, and tells how many there are: at most a. `order` has the nodes by rising sets, `low` their lowest atoms; `degrees` has how many of
 // a node's edges don't lead to listed ones.
-pub fn list(
+pub(crate) fn list(
     nodes: &Nodes,
     a: usize,
     order: &[u32],

@@ -63,7 +63,7 @@ fn mark_within<const NODES: usize, const HEADS: usize, const SLOTS: usize>(
 }
 
 // Marks the nodes whose chunks are wanted; before, all marks are 0.
-pub fn mark(load: &Load, nodes: &Nodes, bit: usize, marks: &mut [u32])
+pub(crate) fn mark(load: &Load, nodes: &Nodes, bit: usize, marks: &mut [u32])
     requires { CanMark (lent_by load.now) nodes.now bit marks.old }
     ensures { Marked (lent_by load.now) nodes.now.n nodes.now.area.now nodes.now.registered bit marks.new }
 {
