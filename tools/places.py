@@ -178,6 +178,9 @@ groups = {
 }
 for name, group in groups.items():
     say('5', f'functions with the parameters {", ".join(sorted(group))}', (at(f) for f in every if group <= set(f.params)))
+# an area of the move graph and N, the distance of its lanes
+for what, kind in (('read', '&[u32]'), ('write', '&mut [u32]')):
+    say('5', f'functions that {what} the parameter area, with n beside it', (at(f) for f in every if 'n' in f.params and ('area', kind) in zip(f.params, f.types)))
 facts = Counter()
 users = defaultdict(set)
 for f in every:
@@ -190,7 +193,7 @@ say('5', 'facts asked by three functions or more', (f'{fact}: {len(u)}' for fact
 
 # 6. Arrays of a fixed length, and lists whose length comes beside them
 say('6', 'local arrays of a fixed length', (f'{w}:{i + 1} {line.strip()}' for w, t in files for i, line in enumerate(t.split('\n')) if re.search(r'= \[0\w*; ', line)))
-say('6', 'functions with a list and its length beside it (n, k, m or count)', (at(f) for f in every if any(t.startswith('&') and '[u' in t for t in f.types) and set(f.params) & {'n', 'k', 'm', 'a'}))
+say('6', 'functions with a list and a number named n, k, m or a beside it', (at(f) for f in every if any(t.startswith('&') and '[u' in t for t in f.types) and set(f.params) & {'n', 'k', 'm', 'a'}))
 
 # 7. Steps picked by a number or an enum: a match or a chain of tests whose arms call functions
 say('7', 'functions that pick a step', (at(f) for f in every if re.search(r'match (command|kind|step|op)\b', f.body)))

@@ -3,9 +3,9 @@ use Rattle.std.specs.Prelude.{ℕ, List, [], ◌∷◌}
 use Rattle.move_ledger.specs.Graph.{Load, none}
 use Rattle.move_ledger.specs.Answer.{Answer, refused, acyclic}
 use Rattle.cases.specs.Run.{MoveCase}
-use Rattle.cases.specs.Moves.{free, kept}
+use Rattle.cases.specs.MoveParts.{free, kept}
 
--- not of 01: each row of loading. Two atoms, one dependency, two bits, sets 1 and 2 pass; each other case changes one thing, and what comes
+-- each row of loading. Two atoms, one dependency, two bits, sets 1 and 2 pass; each other case changes one thing, and what comes
 -- later in the table may be wrong too
 abbrev lent : List ℕ → List ℕ → List ℕ → Load
 lent starts dependencies hosts = record { A = 2; D = 1; E = 2; starts = starts; dependencies = dependencies; hosts = hosts }

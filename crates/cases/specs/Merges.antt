@@ -1,4 +1,4 @@
--- The bench cases of the merge graph: P9 to P13 of 01, and further ones. Assumes nothing.
+-- The bench cases of the merge graph: P9 to P13, and further ones. Assumes nothing.
 use Rattle.std.specs.Prelude.{ℕ, Bool, true, false, List, [], ◌∷◌}
 use Rattle.merge_state.specs.State.{None}
 use Rattle.merge_state.specs.Table.{Call, done, refused, says, chunk, nothing, lists, would_create_circular_dependency, is_reachable, merge_chunk_dependencies, to_temp_idx, pass}
@@ -32,23 +32,23 @@ warned_in mode depends answer end =
 abbrev warned : List (ℕ × ℕ) → Bool → List (List ℕ) → MergeCase
 warned = warned_in false
 
--- "s on t only: yes"
+-- s on t only: yes
 abbrev pub P9 : MergeCase
 P9 = warned ((s, t) ∷ []) true ((t ∷ []) ∷ [] ∷ [] ∷ [] ∷ [])
 
--- "t on s only: no"
+-- t on s only: no
 abbrev pub P10 : MergeCase
 P10 = warned ((t, s) ∷ []) false ([] ∷ (s ∷ []) ∷ [] ∷ [] ∷ [])
 
--- "t on c, c on s: yes"
+-- t on c, c on s: yes
 abbrev pub P11 : MergeCase
 P11 = warned ((t, c) ∷ (c, s) ∷ []) true ([] ∷ (c ∷ []) ∷ (s ∷ []) ∷ [] ∷ [])
 
--- "s on c, c and d mutual: no"
+-- s on c, c and d mutual: no
 abbrev pub P12 : MergeCase
 P12 = warned ((s, c) ∷ (c, d) ∷ (d, c) ∷ []) false ((c ∷ []) ∷ [] ∷ (d ∷ []) ∷ (c ∷ []) ∷ [])
 
--- "s {c, t}, t {d, s} merged: t {c, d, s}, s {}"
+-- s {c, t}, t {d, s} merged: t {c, d, s}, s {}
 abbrev pub P13 : MergeCase
 P13 =
     record {
@@ -60,7 +60,7 @@ P13 =
       expected = record { replies = done ∷ []; end = [] ∷ (s ∷ c ∷ d ∷ []) ∷ [] ∷ [] ∷ [] };
     }
 
--- not of 01: the rows 16 and 20, in this order, change nothing
+-- the rows 16 and 20, in this order, change nothing
 abbrev pub refusals : MergeCase
 refusals =
     record {
@@ -84,7 +84,7 @@ refusals =
           };
     }
 
--- not of 01: the warning misses a loop through a chunk that was merged away. 2 merges into 0 and 3 into 1, both unwarned; then 0 depends on 1
+-- the warning misses a loop through a chunk that was merged away. 2 merges into 0 and 3 into 1, both unwarned; then 0 depends on 1
 -- and 1 on 2, which is 0 now
 abbrev pub stale : MergeCase
 stale =
@@ -107,7 +107,7 @@ stale =
 abbrev commits : List ℕ → List ℕ → Call
 commits proposals bars = pass proposals bars (0 ∷ 0 ∷ []) (0 ∷ 0 ∷ [])
 
--- not of 01: the same two merges by a pass. A second pass takes both candidates again: one barred and one not proposed, they are created. A
+-- the same two merges by a pass. A second pass takes both candidates again: one barred and one not proposed, they are created. A
 -- proposal that isn't initial is 16, a list of another length 15, and with 2 initial, 6 created and 2 candidates there is no room in 8: 18
 abbrev pub passes : MergeCase
 passes =
@@ -146,14 +146,14 @@ passes =
           };
     }
 
--- (vii) of 02: "a direct dependency alone no longer warns", of s on t; but one of t by way of c does
+-- where merged chunks stand for their target, a direct dependency of s on t alone doesn't warn; but one of t by way of c does
 abbrev pub direct : MergeCase
 direct = warned_in true ((s, t) ∷ []) false ((t ∷ []) ∷ [] ∷ [] ∷ [] ∷ [])
 
 abbrev pub roundabout : MergeCase
 roundabout = warned_in true ((s, t) ∷ (t, c) ∷ (c, s) ∷ []) true ((t ∷ []) ∷ (c ∷ []) ∷ (s ∷ []) ∷ [] ∷ [])
 
--- (vii): the loop that `stale` lets through is warned of, since 2 stands for 0. A merged chunk is no source or target: 28, "right after 20"
+-- the loop that `stale` lets through is warned of, since 2 stands for 0. A merged chunk is no source or target: 28, right after 20
 abbrev pub followed : MergeCase
 followed =
     record {
@@ -179,7 +179,7 @@ followed =
           };
     }
 
--- (vii): two merges are followed to their end: 0 into 1, 1 into 2
+-- two merges are followed to their end: 0 into 1, 1 into 2
 abbrev pub chained : MergeCase
 chained =
     record {
@@ -191,7 +191,7 @@ chained =
       expected = record { replies = done ∷ done ∷ says true ∷ says true ∷ says false ∷ says false ∷ []; end = [] ∷ [] ∷ (0 ∷ []) ∷ (0 ∷ []) ∷ [] };
     }
 
--- (vii): "A chunk merged away is no candidate of a later pass here": after 2 is merged, only 3 is one. A proposal that was merged away is 28, before 18
+-- a chunk merged away is no candidate of a later pass: after 2 is merged, only 3 is one. A proposal that was merged away is 28, before 18
 abbrev pub later_pass : MergeCase
 later_pass =
     record {

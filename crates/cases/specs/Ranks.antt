@@ -1,4 +1,4 @@
--- Which of two plans is better (02, (xiv)): a pair for each of the three comparisons, each decided against those after it. Assumes nothing.
+-- Which of two plans is better: a pair for each of the three comparisons, each decided against those after it. Assumes nothing.
 use Rattle.std.specs.Prelude.{◌≡◌, refl, List, [], ◌∷◌}
 use Rattle.graphs.specs.Count.{count}
 use Rattle.move_ledger.specs.Graph.{Load, none, owner, lies, members, entry, facade, mult, edge, insert, rising, row, rows, edges}

@@ -39,7 +39,7 @@ unfoldable pub every : ℕ → ℕ → List Call
 every zero t = []
 every (suc a) t = every a t ++ tries a t
 
--- what moves answer where "every move that isn't refused is rejected": 12 for the present set, else rejected
+-- what moves answer where every move that isn't refused is rejected: 12 for the present set, else rejected
 unfoldable pub shut : List ℕ → List Call → List Answer
 shut place [] = []
 shut place (try_move a s ∷ cs) = cond (eqb (value s) (at place a)) (refused 12) rejected ∷ shut place cs

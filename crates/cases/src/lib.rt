@@ -1,2 +1,2 @@
-// The bench cases as one table with its test, and choices of a merge target with theirs: no code.
+// The bench cases as one table with its test, and choices of a merge target and rankings with theirs: no code.
 #![tactic(auto)]

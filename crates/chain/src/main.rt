@@ -30,6 +30,7 @@ fn run(rt: HostRuntime, input: &mut [u8], out: &mut [u8]) -> usize
 }
 
 fn main(rt: HostRuntime) {
+    // stays: memory is fixed, nothing is on the heap
     let mut input = [0u8; 5];
     let mut out = [0u8; 4097];
     run(rt, &mut input, &mut out);

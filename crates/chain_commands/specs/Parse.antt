@@ -176,7 +176,7 @@ ends (x ∷ l) = let e : suc (length l) - 1 ≡ length l = omega arith in rw e (
         ∙ ap (λ (c : ℕ). take (length l) (x ∷ l) ++ c ∷ []) (eqb-true (at (x ∷ l) (length l)) 10 e))
     go false e = inl (sym (take-length (x ∷ l)))
 
-parse-says : (input : List ℕ) (n : ℕ) → parse input ≡ Some n → (0 < n) × (n ≤ 512) × (says input n ≡ true)
+pub parse-says : (input : List ℕ) (n : ℕ) → parse input ≡ Some n → (0 < n) × (n ≤ 512) × (says input n ≡ true)
 parse-says input n h = let r = number-says (take (before_newline input) input) n h in (r.0, r.1, go r.2 (ends input))
   where
     text : List ℕ

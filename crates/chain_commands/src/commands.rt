@@ -45,7 +45,7 @@ fn put_move(replies: &mut Replies, a: u16, set: u16)
 
 // Sets 1 to n.
 fn put_sets(replies: &mut Replies, n: u16)
-    requires { (n ≤ 512) × HasRoom (n * 3) replies.old }
+    requires { HasRoom (n * 3) replies.old }
     ensures { Wrote (in_turn chain_atom n) replies.old replies.new }
 {
     for i in 0..n {
@@ -55,7 +55,7 @@ fn put_sets(replies: &mut Replies, n: u16)
 
 // Each of n atoms but the last on the next.
 fn put_dependencies(replies: &mut Replies, n: u16)
-    requires { (0 < n) × (n ≤ 512) × HasRoom ((n - 1) * 5) replies.old }
+    requires { (0 < n) × HasRoom ((n - 1) * 5) replies.old }
     ensures { Wrote (in_turn chain_link (n - 1)) replies.old replies.new }
 {
     for k in 0..n - 1 {

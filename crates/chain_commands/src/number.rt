@@ -1,11 +1,12 @@
 // The number that the input asks for.
-ghost use Rattle.std.specs.Prelude.{◌≡◌, Some, ◌<◌, ◌≤◌, IfSome, take};
+ghost use Rattle.std.specs.Prelude.{◌≡◌, Some, ◌<◌, ◌≤◌, IfSome, length, take};
 ghost use Rattle.chain_commands.specs.Asked as def;
 ghost use Rattle.chain_commands.specs.Parse.{before_newline, more, value};
 
 // What stands before a last newline.
 fn before_newline(text: &[u8]) -> &[u8]
-    ensures { result.now ≡ take (before_newline text.now) text.now }
+    ensures value { result.now ≡ take (before_newline text.now) text.now }
+    ensures upper_bound { length result.now ≤ length text.now }
 {
     text.strip_suffix(b"\n").unwrap_or(text)
 }

@@ -29,12 +29,12 @@ module _ (z : Sizes) (a : List ℕ) {q : ℕ} (e : q ≡ standing z false false 
   turned-back k x h p = refused_called z a _ (early z a (register_chunk_graph_index k x) e h) h p refl
 
 module _ {z : Sizes} {a : List ℕ} (v : Standing z a) (k x : ℕ) where
-  -- "registered key ≥ C"
+  -- the key isn't below C
   pub key_past : {r : Answer} {after : List ℕ} → z.chunks ≤ k → r ≡ refused 16 → after ≡ a → Called z a (register_chunk_graph_index k x) r after
   unfolding over_lists bad_lists later
   key_past h p s = refused_called z a _ (late z a (register_chunk_graph_index k x) 0 16 v.row refl (fits_here _ 16 [] (or_left _ _ (le-leb _ _ h)))) (omega arith) p s
 
-  -- "chunk .. not yet made"
+  -- the chunk isn't made yet
   pub not_made : {r : Answer} {after : List ℕ} → cell a (head z 1) ≤ x → r ≡ refused 16 → after ≡ a → Called z a (register_chunk_graph_index k x) r after
   unfolding over_lists bad_lists later
   not_made h p s = refused_called z a _ (late z a (register_chunk_graph_index k x) 0 16 v.row refl (fits_here _ 16 [] (or_right (leb z.chunks k) _ (le-leb _ _ h)))) (omega arith) p s

@@ -9,11 +9,13 @@ ghost use Rattle.chunk_optimizer.specs.Answers.{done_told, temp_told, said_told,
 
 use entry_set::EntrySet;
 pub use load::new;
-use merge_area::places::{MADE, USED, key_place};
-use merge_area::{Area, header, standing_row};
+use merge_area::places::{MADE, Places, USED};
+use merge_area::{Area, standing_row};
 use merge_rows::rows::{add_row, calc_row, find_chunk, init_row, pair_row, pass_row, reach_row};
 use merge_state::{ChunkIdx, ModuleIdx, Sizes};
 use refusals::Refusal;
+
+// stays: sizes and area come one by one, here and in load.rt, as C lends them, and nothing is asked of them: no fact is there for a struct to keep.
 
 // Lists a module with the chunk of its set, or with a new chunk that needs creation.
 pub fn init_module_assignment(
@@ -30,8 +32,8 @@ pub fn init_module_assignment(
         sizes,
         numbers: area,
     };
-    let chunk = find_chunk(&standing, bits);
     let set = EntrySet::from_list(bits);
+    let chunk = find_chunk(&standing, set);
     merge_writes::assign(sizes, area, m, chunk, set, effects[m.0 as usize] != 0);
     Ok(())
 }
@@ -60,11 +62,10 @@ pub fn register_chunk_graph_index(
 ) -> Result<(), Refusal>
     ensures { Called sizes area.old (register_chunk_graph_index key.0 chunk.0) (done_told result) area.new }
 {
-    standing_row(sizes, false, false, area)?;
+    let made = standing_row(sizes, false, false, area)?.header(MADE);
     if sizes.chunks <= key.0 as usize {
         return Err(Refusal::MergeIndex);
     }
-    let made = header(sizes, area, MADE);
     if made <= chunk.0 {
         return Err(Refusal::MergeIndex);
     }
@@ -76,12 +77,12 @@ pub fn register_chunk_graph_index(
 pub fn to_temp_idx(sizes: Sizes, area: &[u32], key: ChunkIdx) -> Result<Option<ChunkIdx>, Refusal>
     ensures { Called sizes area.now (to_temp_idx key.0) (temp_told result) area.now }
 {
-    standing_row(sizes, false, false, area)?;
+    let places = standing_row(sizes, false, false, area)?.places();
     let k = key.0 as usize;
     if sizes.chunks <= k {
         return Ok(None);
     }
-    Ok(ChunkIdx::named(area[key_place(sizes, k)]))
+    Ok(ChunkIdx::named(area[places.key(k)]))
 }
 
 // Adds to each chunk's dependencies those that the module dependencies give.
@@ -94,13 +95,14 @@ pub fn calc_chunk_dependencies(
     ensures { Called sizes area.old (calc_chunk_dependencies starts.now dependencies.now) (done_told result) area.new }
 {
     calc_row(sizes, area, starts, dependencies)?;
-    let used = header(sizes, area, USED) as usize;
+    let used = Places { sizes }.header(area, USED) as usize;
     merge_dependencies::calculate(sizes, area, starts, dependencies, used);
     Ok(())
 }
 
 // Whether source depends directly on target, or the two fused would lie on a cycle with another chunk; what was merged away isn't followed. Where
 // merged chunks stand for their target: whether the two fused would lie on a cycle with another chunk, by the dependencies that count then.
+// stays: it has the shape of is_reachable, for both are calls of the original; one of the two would take its row and its question as closures.
 pub fn would_create_circular_dependency(
     sizes: Sizes,
     area: &[u32],

@@ -23,7 +23,7 @@ use Rattle.demands.specs.Chain.{moved, moved_long, moved-first, moved_reaches, m
 use Rattle.demands.specs.Chain as chain_here
 
 module _ (n : ℕ) (some : 0 < n) (few : n ≤ 512) (size : ℕ) (enough : row3 (chain n) (n + 1) size ≡ false) where
-  -- "and attains it": at most n - 1 are reached, since as many other sets are occupied
+  -- and attains it: at most n - 1 are reached, since as many other sets are occupied
   pub moved-reach : (reported (move (chain n) (unmarked n) (n + 1) (loaded (entry_sets (chain n) (sets n))) 0 ((n + 1) ∷ [])).answer).reached ≡ n - 1
   unfolding move
   moved-reach = move-reached (chain n) (unmarked n) (n + 1) (loaded (entry_sets (chain n) (sets n))) 0 ((n + 1) ∷ []) ∙ rw (there, yes, (chain_here.value_one n some few size enough)) all

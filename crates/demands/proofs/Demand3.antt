@@ -15,9 +15,8 @@ unfolding call move
 same_place load fixed N N' l l' (try_move a s) e = ap (λ p. decide load fixed p a s) e
 same_place load fixed N N' l l' (asks q) e = ap (λ p. ask load p q) e
 
--- "For every two such lists from one load, whatever the entry sets at loading, whose ledgers end with each atom in the same entry set, the next
--- move or question gets the same answer", and 02: "The reservation about 13 disappears where histories are compared",
--- "Comparing two histories supposes the same marks in both"; N may differ too
+-- for every two such lists from one load, whatever the entry sets at loading, whose ledgers end with each atom in the same entry set, the next move or
+-- question gets the same answer, with the same marks in both; N may differ too
 pub same_placement_same-answer : (load : Load) (fixed : List ℕ) (N N' : ℕ) (sets sets' : List ℕ) (calls calls' : List Call) (next : Call)
     → let l = history load fixed N sets calls in
     let l' = history load fixed N' sets' calls' in
@@ -30,7 +29,7 @@ same_placement_same-answer load fixed N N' sets sets' calls calls' next h =
     let k' = history-length load fixed N' sets' calls' in
     same_place load fixed N N' l l' next (ext_get_or 0 l.place l'.place (k ∙ sym k') (λ i b. h i (omega arith)))
 
--- "For every two such lists from one load": the answer to the next call
+-- for every two such lists from one load: the answer to the next call
 pub same_placement_on_areas : (load : Load) (fixed : List ℕ) (N N' : ℕ) (sets sets' area area' : List ℕ) (calls calls' : List Call) (next : Call)
     → is_refused (new load fixed N sets area).answer ≡ false → is_refused (new load fixed N' sets' area').answer ≡ false
     → let x = (call_area load fixed N (area_after load fixed N (new load fixed N sets area).area calls) next).answer in

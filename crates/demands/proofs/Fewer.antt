@@ -45,7 +45,7 @@ module _ {few all : Load} (f : Fewer few all) (p : List ℕ) where
   acyclic_fewer n h =
       (acyclic_walk (edge few p) p (edge-source few p (n ∙ sym f.atoms))).1 (λ X w. (acyclic_walk (edge all p) p (edge-source all p n)).0 h X (walk_all w))
 
--- "at one placement of one load, leaving out some dependency entries never turns an accepted move into a rejected one": it stays accepted
+-- at one placement of one load, leaving out some dependency entries never turns an accepted move into a rejected one: it stays accepted
 pub accepted_stays : (few all : Load) (fixed place : List ℕ) (a : ℕ) (s : List ℕ) → Fewer few all → length place ≡ all.A
     → is_accepted (decide all fixed place a s) ≡ true → is_accepted (decide few fixed place a s) ≡ true
 accepted_stays few all fixed place a s f n h =

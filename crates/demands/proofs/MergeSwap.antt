@@ -10,7 +10,7 @@ use Rattle.merge_area.specs.Calls.{ends}
 use Rattle.merge_laws.specs.Rows.{free}
 use Rattle.demands.specs.MergeSwap.{swapped_merges}
 
--- (vii) of document 02: "Swapping two merges is promised here under the same condition, for the counted dependencies": they are those of equal areas
+-- the same for the counted dependencies, under the same condition: they are those of equal areas
 pub swapped_counted : (z : Sizes) (a : List ℕ) (before after : List Call) (target source target' source' : ℕ) → (source ≡ source' → ⊥) → (source ≡ target' → ⊥) → (source' ≡ target → ⊥)
     → counts (read z (ends z a (before ++ (merge_chunk_dependencies target source ∷ merge_chunk_dependencies target' source' ∷ after))))
     ≡ counts (read z (ends z a (before ++ (merge_chunk_dependencies target' source' ∷ merge_chunk_dependencies target source ∷ after))))

@@ -16,7 +16,7 @@ use Rattle.demands.specs.Reached.{move-reached}
 use Rattle.demands.specs.Reached as reached_here
 
 module _ (load : Load) (fixed : List ℕ) (N : ℕ) (l : Ledger) (a : ℕ) (s : List ℕ) where
-  -- "Show that this is at most occupied sets - 1"
+  -- this is at most occupied sets - 1
   pub reached_bound : length l.place ≡ load.A
       → let called = move load fixed N l a s in
       (reported called.answer).reached ≤ length (rising called.after.place) - 1

@@ -33,15 +33,15 @@ holding load fixed N area q c =
       kept = alike_one _ _ (and_right (consistent load N area) _ c);
     }
 
--- "counts and edges equal those worked out afresh"
+-- counts and edges equal those worked out afresh
 pub record Fresh (load : Load) (fixed : List ℕ) (N : ℕ) (l : Ledger) (area : List ℕ) : Type 0 where
   pub count_at : (x : ℕ) → x < length l.registered → get_or area (lane_at N 8 + x) 0 ≡ members load l.place (at l.registered x)
   pub edge_at : (x y : ℕ) → x < length l.registered → y < length l.registered
       → get_or area (x * N + y) 0 ≡ mult load l.place (at l.registered x) (at l.registered y)
-  -- 02: "Keep the number of occupied sets and of distinct edges in the area, true after loading and every move, rejected ones included"
+  -- the number of occupied sets and that of distinct edges stand in the area, true after loading and every move, rejected ones included
   pub occupied-at : get_or area (N * N + 3) 0 ≡ length (rising l.place)
   pub distinct_at : get_or area (N * N + 4) 0 ≡ length (edges load l.place)
-  -- "Rows 1 to 9 can't fit within a list"
+  -- rows 1 to 9 can't fit within a list
   pub legal : refusal load fixed N (length area) ≡ 0
   pub checks : checks_out load fixed N area ≡ true
 

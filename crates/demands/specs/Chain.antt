@@ -1,4 +1,4 @@
--- Request (xii): the load that the program `chain` writes is acyclic, its move is accepted and reaches n - 1 other chunks, for every n. Assumes nothing.
+-- The load that the program `chain` writes is acyclic, its move is accepted and reaches n - 1 other chunks, for every n. Assumes nothing.
 use Prim.Native.Nat.{ℕ, zero, suc, ◌+◌, ◌-◌, ◌*◌, ◌^◌, ◌≤◌, ◌<◌}
 use native.Mathlib.Omega.{arith}
 use Rattle.std.proofs.Math.Decide.{ℕ_discrete}
@@ -122,7 +122,7 @@ module _ (n : ℕ) (some : 0 < n) where
   moved_acyclic : cyclic (edge (chain n) (moved n)) (moved n) ≡ false
   moved_acyclic = no_cycle n (moved n) moved_long first moved_up
 
-  -- "a move that reaches n - 1": from the moved atom's chunk a walk leads to each other one,
+  -- the move reaches n - 1 chunks: from the moved atom's chunk a walk leads to each other one,
   pub moved_reaches : (Z : ℕ) → has Z (moved n) ≡ true → (Z ≡ n + 1 → ⊥) → via (edge (chain n) (moved n)) (moved n) (n + 1) Z ≡ true
   moved_reaches =
       subst (λ X. (Z : ℕ) → has Z (moved n) ≡ true → (Z ≡ X → ⊥) → via (edge (chain n) (moved n)) (moved n) X Z ≡ true) moved-first
@@ -149,11 +149,11 @@ module _ (n : ℕ) where
   unfolding entry_sets
   entry_sets_are = sym (is_tab (sets n) n _ (tab-length suc n) (λ k h. set_at n k h ∙ sym (lent_at k h)))
 
--- no atom is fixed: "`moves` sets none" (02, iii)
+-- no atom is fixed: `moves` sets no mark
 abbrev pub unmarked : ℕ → List ℕ
 unmarked n = replicate n 0
 
--- "With E = 16 and N = n + 1"; `size` is the length of a work area that is long enough
+-- E is 16 and N is n + 1; `size` is the length of a work area that is long enough
 module _ (n : ℕ) (some : 0 < n) (few : n ≤ 512) (size : ℕ) (enough : row3 (chain n) (n + 1) size ≡ false) where
   row-none : loading_row (chain n) (unmarked n) (n + 1) (sets n) size ≡ 0
   unfolding loading_row first_row row4 row5 row6 row7 row8
@@ -190,7 +190,7 @@ module _ (n : ℕ) (some : 0 < n) (few : n ≤ 512) (size : ℕ) (enough : row3 
           none_below _ n (λ i h. none_below _ i (λ j b. ne_eqb (lent_set (chain n) (sets n) j) (lent_set (chain n) (sets n) i)
           (λ e. omega (arith, lent_at n i h, lent_at n j (omega arith)))))
 
-  -- "prove that the load is acyclic": no row refuses it
+  -- the load is acyclic: no row refuses it
   pub chain-loads : loading (chain n) (unmarked n) (n + 1) (sets n) size ≡ acyclic
   unfolding loading
   chain-loads = rw (row-none, entry_sets_are n, loaded_acyclic n) refl
@@ -199,7 +199,7 @@ module _ (n : ℕ) (some : 0 < n) (few : n ≤ 512) (size : ℕ) (enough : row3 
   unfolding joined
   value_one = omega arith
 
-  -- "and that the move is accepted": "20 for atom 0 to set n + 1"
+  -- and the move of atom 0 to set n + 1 is accepted
   pub chain-moves : is_accepted (move (chain n) (unmarked n) (n + 1) (loaded (entry_sets (chain n) (sets n))) 0 ((n + 1) ∷ [])).answer ≡ true
   unfolding move decide
   chain-moves =

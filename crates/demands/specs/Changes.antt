@@ -1,4 +1,4 @@
--- 02, (ii): what a move reports of the edges that come and go. Assumes nothing.
+-- What a move reports of the edges that come and go. Assumes nothing.
 use Prim.Native.Nat.{ℕ, ◌+◌}
 use native.Mathlib.Omega.{arith}
 use Rattle.std.specs.Prelude.{◌≡◌, Bool, cond, ◌&&◌, ◌||◌, eqb, set}
@@ -140,7 +140,7 @@ edges_change load p q n m =
     one false true = refl
     one false false = refl
 
--- "an edge in both counting as neither"
+-- an edge in both graphs counts as neither
 gained-same : (load : Load) (p : List ℕ) → gained load p p ≡ 0
 unfolding gained
 gained-same load p = sum-none _ (rising p) (λ X. sum-none _ (rising p) (λ Y. one (edge load p X Y)))
@@ -181,8 +181,8 @@ reports load fixed N l a s = go (is_accepted x) refl
         ap reported e ∙ ap (λ q. report load l.place q (value s)) (sym (place_after load fixed N l a s ∙ rw h refl))
     go false h = nothing x h
 
--- "An accepted move then reports how many distinct edges appeared and vanished between the two graphs", and "Rejected moves report zeros": whatever the
--- answer is, the numbers are of the placements before and after
+-- an accepted move reports how many distinct edges appeared and vanished between the two graphs, and a rejected one noughts: whatever the answer is,
+-- the numbers are of the placements before and after
 pub move-reports : (load : Load) (fixed : List ℕ) (N : ℕ) (l : Ledger) (a : ℕ) (s : List ℕ)
     → Told load l.place (move load fixed N l a s).after.place (reported (move load fixed N l a s).answer)
 unfolding move

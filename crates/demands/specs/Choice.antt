@@ -1,4 +1,4 @@
--- The choice of a merge target: what a target that is found is, and that the pass can take it. Sentences quoted are document 02's, (i), at the end (iv). Assumes nothing.
+-- The choice of a merge target: what a target that is found is, and that the pass can take it. Assumes nothing.
 use Rattle.std.specs.Prelude.{ℕ, zero, suc, ◌/◌, ◌%◌, ◌^◌, ◌<◌, ◌≤◌, ◌≡◌, ◌⊎◌, Bool, cond, ◌&&◌, ◌||◌, List, get_or, length, ltb, leb}
 use Rattle.std.proofs.Common.{arith, ◌∙◌}
 use Rattle.std.proofs.Math.Path.{refl, sym, ap, subst, fun_ext}
@@ -21,15 +21,15 @@ use Rattle.merge_choice.specs.Chosen.{first_in}
 abbrev Roles : Type 0
 Roles = ℕ → ℕ
 
--- "Among the user entries, or the dynamic ones where there is no user entry": the role that is searched
+-- the role that is searched: user entries, or dynamic ones where there is no user entry
 unfoldable pub searched : Roles → ℕ → ℕ
 searched r k = cond (some_role r (bits k) 2) 2 1
 
--- "the first whose module all others of these import wins, subject to the Rust's guards on reached entries, leaked side effects, importers and
--- exports", of k chunks with these roles
+-- of k chunks with these roles the first wins whose module all others of these import, subject to the guards on reached entries, leaked side effects,
+-- importers and exports
 pub record Target (r : Roles) (k : ℕ) (l : Lent) (t : ℕ) : Type 0 where
   pub below : t < bits k
-  -- "a common chunk among them means no target"
+  -- a common chunk among them means no target
   pub no_common : (b : ℕ) → b < bits k → r b ≡ 3 → ⊥
   pub class : r t ≡ searched r k
   pub imported : (o : ℕ) → o < bits k → r o ≡ searched r k → (get_or l.entries o 0 ≡ get_or l.entries t 0) ⊎ (in_list l.static (get_or l.entries t 0) (get_or l.entries o 0) ≡ true)
@@ -168,7 +168,7 @@ searched-named r k = go (some_role r (bits k) 2)
     go true e = omega arith
     go false e = omega arith
 
--- "The bits of the candidate's set .. name chunks": a chunk with a role is named by its bit
+-- the bits of the candidate's set name chunks: a chunk with a role is named by its bit
 named_bit : (classes kinds : List ℕ) (set b : ℕ) → (role classes kinds set b ≡ 0 → ⊥) → set / 2 ^ b % 2 ≡ 1
 unfolding role
 named_bit classes kinds set b h = go (ltb b (bits (length kinds)) && eqb (set / 2 ^ b % 2) 1) refl h
@@ -203,13 +203,13 @@ chosen-fits initial v c (other e) =
     let w = choice-below c.classes c.kinds c.set c.lent (λ z. e (c.is ∙ z)) in
     rw (lt-leb initial v (omega (arith, w.0, c.is, c.count)))
 
--- "the pass can take it as proposal where the kinds are those of initial chunks": no 16 comes of such proposals
+-- the pass can take it as proposal where the kinds are those of initial chunks: no 16 comes of such proposals
 pub chosen_proposals : (initial : ℕ) (proposals : List ℕ) → ((i : ℕ) → i < length proposals → Chosen initial (get_or proposals i 0)) → any_misfit initial true proposals ≡ false
 unfolding any_misfit
 chosen_proposals initial proposals f =
     none_below (λ i. misfit initial true (get_or proposals i 0)) (length proposals) (λ i b. chosen-fits initial (get_or proposals i 0) (f i b) (same? (get_or proposals i 0) None))
 
--- (iv) "With the built-in rows the choice is still the crate's": the call beside (i)'s answers as (i)'s
+-- with the built-in classes the call that takes classes answers as the one without
 pub built_in_classes : (k m : ℕ) (kinds : List ℕ) (set : ℕ) (l : Lent) → find_by built_in k m kinds set l ≡ find k m kinds set l
 unfolding find find_by
 built_in_classes k m kinds set l = ap (λ t. cond (row23 k m kinds l) (refused 23) (cond t (refused 25) (told (choice built_in kinds set l)))) built_in-legal
@@ -257,7 +257,7 @@ same_roles c kinds set b =
         ∙ ap (λ v. cond (eqb v 8) 3 (cond (eqb (get_or built_in v 0) 1) 2 1)) (sym (kind_at (omega (arith, ltb-true b (bits (length kinds)) (and_left (ltb b (bits (length kinds))) _ q), (bits_le (length kinds)).1))))
     go false q = refl
 
--- "with others only the split into user and dynamic entries changes": the choice is the built-in one on kinds recoded by their class
+-- with other classes only the split into user and dynamic entries changes: the choice is the built-in one on kinds recoded by their class
 pub only_the_split : (c kinds : List ℕ) (set : ℕ) (l : Lent) → choice c kinds set l ≡ choice built_in (recoded c kinds) set l
 unfolding choice
 only_the_split c kinds set l =

@@ -7,7 +7,7 @@ use Rattle.move_area.specs.Calls.{new}
 use Rattle.move_area.specs.Calls as calls
 use Rattle.move_area.specs.History.{call_area}
 
--- "A refusal changes no lent memory": a loading
+-- a refusal changes no lent memory: a loading
 pub refused_loading : (load : Load) (fixed : List ℕ) (N : ℕ) (sets area : List ℕ) → is_refused (new load fixed N sets area).answer ≡ true → (new load fixed N sets area).area ≡ area
 unfolding new
 refused_loading load fixed N sets area h = rw h refl

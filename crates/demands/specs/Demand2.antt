@@ -11,7 +11,7 @@ use Rattle.move_ledger.specs.Answer.{accepted, rejected, is_refused, is_accepted
 use Rattle.move_ledger.specs.Ledger.{Ledger, Answered, report, decide, move}
 use Rattle.move_ledger.proofs.MoveLaws.{decide_exactly, place_after}
 
--- "has no cycle": "A cycle is a closed walk of at least one edge"
+-- has no cycle: a cycle is a closed walk of at least one edge
 abbrev pub no_cycle : Load → List ℕ → Type 0
 no_cycle load place = (X : ℕ) → Walk (edge load place) X X → ⊥
 
@@ -19,12 +19,12 @@ no_cycle load place = (X : ℕ) → Walk (edge load place) X X → ⊥
 abbrev pub moved : Ledger → ℕ → List ℕ → List ℕ
 moved l a s = set l.place a (value s)
 
--- "a move that isn't refused is"
+-- a move that isn't refused is
 pub record Decided (load : Load) (before : Ledger) (a : ℕ) (s : List ℕ) (r : Answered) : Type 0 where
-  -- "accepted exactly when the moved chunk graph, facade edges included, has no cycle";
+  -- accepted exactly when the moved chunk graph, facade edges included, has no cycle;
   pub exactly : (is_accepted r.answer ≡ true) ↔ no_cycle load (moved before a s)
   pub moves : is_accepted r.answer ≡ true → r.after.place ≡ moved before a s
-  -- "and otherwise every atom and edge is as before"
+  -- and otherwise every atom and edge is as before
   pub rejects : is_accepted r.answer ≡ false → r.answer ≡ rejected
   pub atoms_stay : is_accepted r.answer ≡ false → r.after.place ≡ before.place
   pub edges_stay : is_accepted r.answer ≡ false → (X Y : ℕ) → mult load r.after.place X Y ≡ mult load before.place X Y

@@ -38,8 +38,8 @@ second_answer load fixed place a b s t d g h =
     ap plain (decide-late load fixed (set place a (value s)) b t (record { at10 = y.at10; at24 = y.at24; at11 = y.at11; at12 = same }))
     ∙ rw x.no_cycle (left_out (cyclic (edge load both) both) (report load (set place a (value s)) both (value t)))
 
--- "if two moves on different atoms would each be accepted next, the second gets the same answer in either order", and 02: "Where two orders of moves
--- .. are compared, these numbers are left out"
+-- if two moves on different atoms would each be accepted next, the second gets the same answer in either order; the numbers that a move reports are left
+-- out, where two orders of moves are compared
 pub either_order : (load : Load) (fixed : List ℕ) (N : ℕ) (l : Ledger) (a b : ℕ) (s t : List ℕ) → (a ≡ b → ⊥)
     → is_accepted (move load fixed N l a s).answer ≡ true → is_accepted (move load fixed N l b t).answer ≡ true
     → plain (move load fixed N (move load fixed N l a s).after b t).answer ≡ plain (move load fixed N (move load fixed N l b t).after a s).answer
@@ -53,14 +53,14 @@ either_order load fixed N l a b s t d g h =
         → plain (decide load fixed (move load fixed N l a s).after.place b t) ≡ plain (decide load fixed (set l.place a (value s)) b t)
     first a s b t g = ap (λ p. plain (decide load fixed p b t)) (place_after load fixed N l a s ∙ rw g refl)
 
--- On the areas that the calls are lent. "For every list of moves and questions after a loading, refused ones included, every answer is the one that
--- a plain ledger of the calls gives"
+-- On the areas that the calls are lent: for every list of moves and questions after a loading, refused ones included, every answer is the one that a
+-- plain ledger of the calls gives
 pub history-answers : (load : Load) (fixed : List ℕ) (N : ℕ) (sets area : List ℕ) (calls : List Call) → is_refused (new load fixed N sets area).answer ≡ false
     → area_answers load fixed N (new load fixed N sets area).area calls ≡ answers load fixed N (loaded (entry_sets load sets)) calls
 history-answers load fixed N sets area calls h =
     (run load fixed N (new load fixed N sets area).area (first load N sets) calls (loading-holds load fixed N sets area h)).answers_alike
 
--- "and counts and edges equal those worked out afresh", the two kept totals of 02 with them: after every list, and so after every call of one
+-- and counts and edges equal those worked out afresh, the two kept totals with them: after every list, and so after every call of one
 pub history-fresh : (load : Load) (fixed : List ℕ) (N : ℕ) (sets area : List ℕ) (calls : List Call) → is_refused (new load fixed N sets area).answer ≡ false
     → Fresh load fixed N (history load fixed N sets calls) (area_after load fixed N (new load fixed N sets area).area calls)
 history-fresh load fixed N sets area calls h =
@@ -74,7 +74,7 @@ next-answer load fixed N sets area calls next h =
     let r = run load fixed N (new load fixed N sets area).area (first load N sets) calls (loading-holds load fixed N sets area h) in
     (call_step load fixed N (area_after load fixed N (new load fixed N sets area).area calls) r.last next r.holds).answers ∙ ap (λ (l : Ledger). reply load fixed N l next) r.ends
 
--- "From any consistent area, if two moves on different atoms would each be accepted next, the second gets the same answer in either order"
+-- from any consistent area, if two moves on different atoms would each be accepted next, the second gets the same answer in either order
 pub either_order_on_areas : (load : Load) (fixed : List ℕ) (N : ℕ) (area : List ℕ) (a b : ℕ) (s t : List ℕ) → refusal load fixed N (length area) ≡ 0 → checks_out load fixed N area ≡ true → (a ≡ b → ⊥)
     → is_accepted (on-area.try_move load fixed N area a s).answer ≡ true → is_accepted (on-area.try_move load fixed N area b t).answer ≡ true
     → plain (on-area.try_move load fixed N (on-area.try_move load fixed N area a s).area b t).answer ≡ plain (on-area.try_move load fixed N (on-area.try_move load fixed N area b t).area a s).answer

@@ -1,4 +1,4 @@
--- Request (x): two finders of cycles, one verdict. Assumes nothing.
+-- Two finders of cycles, one verdict. Assumes nothing.
 use Rattle.std.specs.Prelude.{ℕ, ◌+◌, ◌*◌, ◌≡◌, refl, ◌↔◌, Bool, true, false, not, eqb, length, get_or}
 use Rattle.std.proofs.Common.{sym, ◌∙◌, true≢false}
 use Rattle.std.proofs.Math.Path.{ap}
@@ -23,7 +23,7 @@ use Rattle.move_area.specs.History.{Holding, holding_decode, holding_checked, lo
 use Rattle.demands.specs.Areas.{holding}
 use Rattle.demands.specs.Demand2.{no_cycle}
 
--- "Both give one verdict .., and both are held to the closed-walk definition": `first` is what the first finder says of the placement, `second` what
+-- both give one verdict, and both are held to the definition by closed walks: `first` is what the first finder says of the placement, `second` what
 -- the book's does
 pub record OneVerdict (load : Load) (place : List ℕ) (first second : Answer) : Type 0 where
   pub same : first ≡ second
@@ -95,14 +95,14 @@ told load fixed N sets area = go (eqb (loading_row load fixed N sets (length are
     go true x e = refl
     go false x e = absurd (true≢false e)
 
--- "on every load": what loading answers is what the book's finder says right after it
+-- on every load: what loading answers is what the book's finder says right after it
 pub one_verdict-loading : (load : Load) (fixed : List ℕ) (N : ℕ) (sets area : List ℕ) → is_refused (new load fixed N sets area).answer ≡ false
     → OneVerdict load (entry_sets load sets) (new load fixed N sets area).answer (asked load fixed N (new load fixed N sets area).area has_cycle)
 one_verdict-loading load fixed N sets area u =
     let h = loading-holds load fixed N sets area u in
     judged load (entry_sets load sets) h.held.sound.atoms (told load fixed N sets area u) (answered h)
 
--- "and placement within the limits": on every area that no row from 1 to 9 turns back
+-- and placement within the limits: on every area that no row from 1 to 9 turns back
 pub one_verdict : (load : Load) (fixed : List ℕ) (N : ℕ) (area : List ℕ) → refusal load fixed N (length area) ≡ 0 → checks_out load fixed N area ≡ true
     → OneVerdict load (decode load N area).ledger.place (kept_verdict N area) (asked load fixed N area has_cycle)
 one_verdict load fixed N area q c =

@@ -1,4 +1,4 @@
--- 02, (iii): "A bank's certified forms stay in their chunk". Assumes nothing.
+-- A fixed atom stays in its chunk. Assumes nothing.
 use Rattle.std.specs.Prelude.{ℕ, ◌<◌, ◌≡◌, true, false}
 use Rattle.std.proofs.Math.Path.{refl}
 use Rattle.std.proofs.Common.{ap, ◌∙◌}

@@ -6,8 +6,8 @@ use Rattle.move_ledger.specs.Loading.{entry_sets}
 use Rattle.move_ledger.specs.LoadLaws.{entry_sets-length}
 use Rattle.move_ledger.proofs.MoveLaws.{ledger-length}
 
--- "Its ledger is fed the load, entry sets, N and the calls' arguments, nothing else": `sets` are the entry sets as they are lent; 02: "The load gains a
--- list of A marks", `fixed`
+-- its ledger is fed the load, entry sets, N and the calls' arguments, nothing else: `sets` are the entry sets as they are lent, `fixed` the load's list of A
+-- marks
 abbrev pub history : Load → List ℕ → ℕ → List ℕ → List Call → Ledger
 history load fixed N sets calls = ledger load fixed N (loaded (entry_sets load sets)) calls
 

@@ -1,4 +1,4 @@
--- The demands on the move graph, one file each; those on the merge graph and of later requests, one file for each theorem; and what they speak of. Assumes nothing.
+-- The demands on the move graph, one file each; those on the merge graph and further ones, one file for each theorem; and what they speak of. Assumes nothing.
 pub mod History
 pub mod Areas
 pub mod Demand1

@@ -1,5 +1,4 @@
--- The dependencies that count, of a graph in order: what the warning says of them, and which methods close no loop. Sentences quoted are document
--- 02's, (xiii). Assumes nothing.
+-- The dependencies that count, of a graph in order: what the warning says of them, and which methods close no loop. Assumes nothing.
 use Prim.Native.Nat.{ℕ, zero, suc, ◌+◌, ◌<◌, ◌≤◌}
 use Rattle.std.proofs.Common.{arith, sym, ap₂, subst, ◌∙◌, inl, inr, eqb-true, eq-eqb, ne_eqb}
 use Rattle.std.proofs.Math.Decide.{ℕ_discrete, dec_lt}
@@ -61,7 +60,7 @@ module _ {z : Sizes} {g : Graph} (o : Ordered z g) where
   pub loopless : (cyclic (counts g) (below g.made) ≡ false) ↔ Loopless g
   loopless = acyclic_walk (counts g) (below g.made) (sources-below from)
 
-  -- (vii): "The warning is then yes exactly when the fused chunk lies on a cycle with another"
+  -- the warning is yes exactly when the fused chunk lies on a cycle with another
   pub warn_walk : (s t : ℕ) → g.mode ≡ true → (s ≡ t → ⊥) → (warn g s t ≡ true) ↔ Walk (fused (counts g) s t) t t
   unfolding warn
   warn_walk s t m apart = rw m (mode_warning (counts g) g.made s t itself from to apart)
@@ -143,7 +142,7 @@ module _ {z : Sizes} {g : Graph} (o : Ordered z g) (m : g.mode ≡ true) where
           (not-true _ (and_right (not (eqb p None) && eqb b 0) _ q)) none
       go false q = none
 
-  -- "it is acyclic after every candidate, for any proposals and bars" that no row refuses
+  -- it is acyclic after every candidate, for any proposals and bars that no row refuses
   pub passed_loopless : g.initial + g.created + count (waits g) g.made ≤ z.chunks → (props bars : List ℕ) → any_misfit g.initial true props ≡ false → any_gone g props ≡ false
       → Loopless g → (k : ℕ) → k ≤ g.made → Loopless (passed g props bars k).graph
   unfolding passed

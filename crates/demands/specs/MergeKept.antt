@@ -85,7 +85,7 @@ module _ (z : Sizes) (a : List ℕ) (c : Call) where
     | no q ↦ ap (inconsistent z) (stuck_step z a c q) ∙ h
   ]
 
--- and so do lists of calls: "each call is lent the area as the last one left it", so row 21 can't fit within a list that starts from a consistent
+-- and so do lists of calls, where each is lent the area as the last one left it: so row 21 can't fit within a list that starts from a consistent
 -- area. The area's part of row 15 fits at every call of a list or at none (`ends-short`).
 pub ends-consistent : (z : Sizes) (a : List ℕ) (calls : List Call) → inconsistent z a ≡ false → inconsistent z (ends z a calls) ≡ false
 unfolding ends

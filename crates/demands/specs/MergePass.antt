@@ -1,4 +1,4 @@
--- (xiii) of document 02, "A pass that never closes a loop", on areas whose merged chunks stand for their target. Assumes nothing.
+-- A pass never closes a loop, on areas whose merged chunks stand for their target. Assumes nothing.
 use Prim.Native.Nat.{ℕ, zero, suc, ◌+◌, ◌≤◌}
 use Rattle.std.proofs.Common.{arith, sym, subst, ◌∙◌, ltb-false}
 use Rattle.std.proofs.Math.Decide.{ℕ_discrete}
@@ -78,7 +78,7 @@ passable z a props bars kinds numbers q =
     let h₄ = none-fits _ 18 _ (omega arith) h₃.1 in
     record { stood = f.stood; room = ltb-false _ _ h₄.0; fits = h₂.0; unmerged = h₃.0 }
 
--- "if the counted graph is acyclic before the pass, it is acyclic after every candidate, for any proposals and bars", refused passes among them
+-- if the counted graph is acyclic before the pass, it is acyclic after every candidate, for any proposals and bars, refused passes among them
 pub pass_stays_acyclic : (z : Sizes) (a props bars kinds numbers : List ℕ) → mode_in z a ≡ true → counted_loop z a ≡ false → (k : ℕ) → k ≤ cell a (head z 1)
     → counted_loop z (pass_until z a props bars kinds numbers k) ≡ false
 unfolding pass_until

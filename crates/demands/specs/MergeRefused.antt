@@ -66,7 +66,7 @@ module _ (z : Sizes) (a : List ℕ) (c : Call) where
   unfolding step
   stuck_step h = ap (λ (r : Answer × List ℕ). r.1) (turned_refused (refusal z a c) a _ h)
 
-  -- "A refusal changes no lent memory": the area
+  -- a refusal changes no lent memory: the area
   pub refused_merge-call : is_refused (step z a c).0 ≡ true → (step z a c).1 ≡ a
   unfolding step
   refused_merge-call h = kept a (refusal z a c) _ (acts z (read z a) c) h

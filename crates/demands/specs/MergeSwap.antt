@@ -114,15 +114,15 @@ pub record Swapped (z : Sizes) (a : List ℕ) (before : List Call) (first second
   pub one : Answer
   pub two : Answer
   pub rest : List Answer
-  -- "changes no call's answer":
+  -- no call's answer changes:
   pub as_listed : answers z a (before ++ (first ∷ second ∷ after)) ≡ answers z a before ++ (one ∷ two ∷ rest)
   pub swapped : answers z a (before ++ (second ∷ first ∷ after)) ≡ answers z a before ++ (two ∷ one ∷ rest)
-  -- "and nothing of the merge graph at the end", nor any other number of the area
+  -- and nothing of the merge graph at the end, nor any other number of the area
   pub area : ends z a (before ++ (first ∷ second ∷ after)) ≡ ends z a (before ++ (second ∷ first ∷ after))
 
--- "For every list of merge graph calls, refused ones included, from any consistent merge area: swapping two neighbouring merges of distinct
--- sources, where neither source is the other's target, changes no call's answer and nothing of the merge graph at the end". It holds from any
--- area: an inconsistent one refuses every call.
+-- for every list of merge graph calls, refused ones included, from any consistent merge area: swapping two neighbouring merges of distinct sources,
+-- where neither source is the other's target, changes no call's answer and nothing of the merge graph at the end. It holds from any area: an
+-- inconsistent one refuses every call.
 pub swapped_merges : (z : Sizes) (a : List ℕ) (before after : List Call) (target source target' source' : ℕ)
     → (source ≡ source' → ⊥) → (source ≡ target' → ⊥) → (source' ≡ target → ⊥)
     → Swapped z a before (merge_chunk_dependencies target source) (merge_chunk_dependencies target' source') after

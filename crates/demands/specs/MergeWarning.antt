@@ -37,7 +37,7 @@ module _ (z : Sizes) (a : List ℕ) (source target : ℕ) where
       let h₂ = none-fits _ 20 _ (omega arith) h₁.1 in
       (ap (λ r. r.0) (free_step z a c (unrefused_row z a c u)), f.stood, eqb-false source target h₂.0)
 
--- "the merge warning is yes exactly when the source depends directly on the target or the two fused lie on a cycle with another chunk",
+-- the merge warning is yes exactly when the source depends directly on the target or the two fused lie on a cycle with another chunk,
 -- of the graph that the area holds, where merged chunks don't stand for their target. An inconsistent area is refused, by row 21.
 pub warning_on_areas : (z : Sizes) (a : List ℕ) (source target : ℕ) → mode_in z a ≡ false
     → let answer = (step z a (would_create_circular_dependency source target)).0 in
@@ -63,8 +63,8 @@ module _ (d : ℕ → ℕ → Bool) (s t : ℕ) where
   passing p q (more {x} {y = z} {z = y} h w) =
       (z, (λ r. (fuse_ends d s t x z h).0 (p ∙ sym r)), one (subst (λ v. fused d s t v z ≡ true) p h), subst (λ e. Walk (fused d s t) z e) q w)
 
--- (vii) of document 02: "The warning is then yes exactly when the fused chunk lies on a cycle with another; a direct dependency alone no longer
--- warns", of the dependencies that count, where merged chunks stand for their target
+-- the warning is yes exactly when the fused chunk lies on a cycle with another, of the dependencies that count, where merged chunks stand for their
+-- target; a direct dependency alone doesn't warn
 pub mode_warning_on_areas : (z : Sizes) (a : List ℕ) (source target : ℕ) → mode_in z a ≡ true
     → let answer = (step z a (would_create_circular_dependency source target)).0 in
     is_refused answer ≡ false → (answer ≡ says true) ↔ CountedLoop (read z a) source target

@@ -1,4 +1,4 @@
--- 02, (xiv): "Which plan is better". Assumes nothing.
+-- Which plan is better. Assumes nothing.
 use Rattle.std.specs.Prelude.{ℕ, ◌<◌, ◌≡◌, refl, ◌⊎◌, ◌↔◌, true, false, List, length}
 use Rattle.std.proofs.Common.{arith, sym, ap, ap₂, subst, ◌∙◌, inl, inr}
 use Rattle.layout.specs.Patch.{part_long}
@@ -18,7 +18,7 @@ use Rattle.move_rank.specs.Ranking.{told, ranking}
 use Rattle.move_rank.specs.Atoms.{lists_one}
 use Rattle.demands.specs.History.{history}
 
--- "equal exactly when every atom has the same set", of placements of the load
+-- equal exactly when every atom has the same set, of placements of the load
 pub equal_exactly : (load : Load) (p q : List ℕ) → length p ≡ load.A → length q ≡ load.A → (rank load p q ≡ equal) ↔ ((i : ℕ) → i < load.A → at p i ≡ at q i)
 equal_exactly load p q P Q = (
   λ e i h. ap (λ (l : List ℕ). at l i) ((rank_equal load p q).0 e),
@@ -29,7 +29,7 @@ equal_exactly load p q P Q = (
 abbrev pub no_later : Load → List ℕ → List ℕ → Type 0
 no_later load p q = rank load p q ≡ after → ⊥
 
--- "It is a total order over all placements of a load"
+-- it is a total order over all placements of a load
 pub record TotalOrder (load : Load) : Type 0 where
   pub reflexive : (p : List ℕ) → no_later load p p
   pub antisymmetric : (p q : List ℕ) → no_later load p q → no_later load q p → p ≡ q
@@ -94,7 +94,7 @@ told_equal before e = absurd (let z : ◌≡◌ {A = ℕ} 0 1 = cc in omega arit
 told_equal equal e = refl
 told_equal after e = absurd (let z : ◌≡◌ {A = ℕ} 0 1 = cc in omega arith)
 
--- "the first passes all checks of a later call (1 to 6, 9), then the second"
+-- the first passes all checks of a later call (1 to 6, 9), then the second
 pub record Passes (load : Load) (fixed : List ℕ) (N : ℕ) (area : List ℕ) : Type 0 where
   pub legal : refusal load fixed N (length area) ≡ 0
   pub checks : checks_out load fixed N area ≡ true

@@ -1,4 +1,4 @@
--- 02, (xi): a place for the next set is always left, so 13 never occurs. Assumes nothing.
+-- A place for the next set is always left, so 13 never occurs. Assumes nothing.
 use Rattle.std.specs.Prelude.{ℕ, zero, suc, ◌<◌, ◌≡◌, refl, Bool, true, false, not, cond, ◌&&◌, ◌||◌, List, [], ◌∷◌, leb, eqb, length, set}
 use Rattle.std.proofs.Common.{arith, sym, ap, subst, ◌∙◌, true≢false}
 use Rattle.graphs.specs.Lists.{has-at}
@@ -18,7 +18,7 @@ use Rattle.move_area.specs.Calls as on-area
 use Rattle.move_area.specs.History.{call_area, holding_wide, loading-holds, run}
 use Rattle.demands.specs.History.{history}
 
--- "When N sets are registered and another is needed, the smallest empty one, as a number, gives up its place"
+-- when N sets are registered and another is needed, the smallest empty one, as a number, gives up its place
 pub record Room (load : Load) (N : ℕ) (l : Ledger) : Type 0 where
   -- the next set has a place below N, and no atom's set gives it up
   pub free : Free load N l.place l.registered (free_place load N l.place l.registered)
@@ -102,7 +102,7 @@ checked-rows load fixed N area x h =
     choice row_of (eqb (refusal load fixed N (length area)) 0) (cond (checks_out load fixed N area) x (refused 9)) (refused (refusal load fixed N (length area)))
     (choice row_of (checks_out load fixed N area) x (refused 9) h refl) (first_rows load N (marks_fit load fixed) (length area))
 
--- "Show that 13 then never occurs and take it out of the table": no call on any area answers it
+-- row 13 never occurs: no call on any area answers it
 pub never_13 : (load : Load) (fixed : List ℕ) (N : ℕ) (area : List ℕ) (c : Call) → (call_area load fixed N area c).answer ≡ refused 13 → ⊥
 unfolding call_area on-area.try_move asked move
 never_13 load fixed N area (try_move a s) h =

@@ -1,4 +1,4 @@
--- 02, (v): what a start order is, for a load, a placement of its atoms and an entry bit. Assumes nothing.
+-- What a start order is, for a load, a placement of its atoms and an entry bit. Assumes nothing.
 use Prim.Native.Nat.{ℕ, ◌≤◌, ◌<◌}
 use Rattle.std.proofs.Common.{arith, sym, ap, ◌∙◌, eq-eqb}
 use Rattle.std.specs.Prelude.{◌≡◌, false, ◌&&◌, eqb, length}
@@ -29,7 +29,7 @@ module _ (load : Load) (place : List ℕ) (b : ℕ) (long : length place ≡ loa
   source : (X Y : ℕ) → edge load place X Y ≡ true → has X (rising place) ≡ true
   source X Y h = has-rising X place ∙ edge-source load place long X Y h
 
-  -- "the chunks to fetch": all of them are listed, where the graph has no cycle
+  -- the chunks to fetch: all of them are listed, where the graph has no cycle
   pub all_fetched : cyclic (edge load place) place ≡ false → (X : ℕ) → wanted load place b X ≡ true → has X (start_order load place b) ≡ true
   unfolding start_order
   all_fetched free X h =
@@ -43,12 +43,12 @@ module _ (load : Load) (place : List ℕ) (b : ℕ) (long : length place ≡ loa
   unfolding start_order has any
   only_fetched = only-wanted (edge load place) (wanted load place b) (rising place) (length place) [] (λ x h. absurd (true≢false (sym h)))
 
-  -- "Each is listed once"
+  -- each is listed once
   pub fetched_once : Apart (start_order load place b)
   unfolding start_order
   fetched_once = listed_once (edge load place) (wanted load place b) (rising place) (length place) [] (λ i j a c. absurd (omega arith))
 
-  -- "whose edges, facade ones too, all lead to listed chunks": each stands behind all that its edges lead to
+  -- whose edges, facade ones too, all lead to listed chunks: each stands behind all that its edges lead to
   pub fetched_behind : (i : ℕ) → i < length (start_order load place b) → (Y : ℕ) → edge load place (at (start_order load place b) i) Y ≡ true
       → (j : ℕ) × (j < i) × (at (start_order load place b) j ≡ Y)
   unfolding start_order
@@ -74,7 +74,7 @@ module _ (load : Load) (place : List ℕ) (b : ℕ) (long : length place ≡ loa
   unfolding start_order
   at_most_atoms = omega (arith, few (edge load place) (wanted load place b) (rising place) (length place) [])
 
-  -- "A bit that no chunk holds gives an empty list"
+  -- a bit that no chunk holds gives an empty list
   pub none-holds : ((X : ℕ) → has X place ≡ true → holds b X ≡ false) → start_order load place b ≡ []
   unfolding has any
   none-holds f = go (start_order load place b) (λ X h. wanted-all load place b long (λ X. ⊥) (λ X m q. true≢false (sym q ∙ f X m)) (λ X Y z q. z) X (only_fetched X h))
@@ -83,7 +83,7 @@ module _ (load : Load) (place : List ℕ) (b : ℕ) (long : length place ≡ loa
       go [] g = refl
       go (x ∷ l) g = absurd (g x (or_left (eqb x x) _ (eq-eqb x x refl)))
 
-  -- "named by its lowest atom": as many names as chunks, each an atom of its chunk, and no lower atom lies in it
+  -- named by its lowest atom: as many names as chunks, each an atom of its chunk, and no lower atom lies in it
   pub record Named (i : ℕ) (name : ℕ) : Type 0 where
     pub atom : name < load.A
     pub lies : at place name ≡ at (start_order load place b) i

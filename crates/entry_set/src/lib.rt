@@ -53,6 +53,7 @@ fn below(x: u64, limit: usize) -> bool
 
 impl EntrySet {
     // The set of a lent list of at most four numbers.
+    // stays: no type keeps that a list has at most four: whoever is lent one makes a set of it at once, and that is the type.
     pub fn from_list(bits: &[u64]) -> EntrySet
         requires { length bits.now ≤ 4 }
         ensures { Holds (value bits.now) result }

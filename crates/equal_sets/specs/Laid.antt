@@ -26,21 +26,33 @@ row_set l at i = lanes l (at + 8 * i) 1
 pub record Gives (key : ℕ → ℕ) (a : ℕ) (set : ℕ → EntrySet → Type 0) : Type 0 where
   pub of : (i : ℕ) (s : EntrySet) → i < a → set i s → Holds (key i) s
 
--- there is room for a sets in lanes n apart, and for an order of them
-pub record CanSort (a n : ℕ) (l order : List ℕ) : Type 0 where
+-- l has room for a sets in lanes n apart
+pub record Room (a n : ℕ) (l : List ℕ) : Type 0 where
   pub few : a ≤ n
   pub room : 8 * n ≤ length l
-  pub numbers : n < 2 ^ 32
-  pub ordered : a ≤ length order
 
-pub record CanTell (sets : List ℕ) (w a n : ℕ) (l order : List ℕ) : Type 0 where
+pub record CanLay (sets : List ℕ) (w a n : ℕ) (l : List ℕ) : Type 0 where
   pub narrow : w ≤ 4
   pub full : a * w ≤ length sets
-  pub sorted : CanSort a n l order
+  pub to : Room a n l
 
-pub record CanTellRow (area : List ℕ) (at a n : ℕ) (l order : List ℕ) : Type 0 where
+pub record CanLayRow (area : List ℕ) (at a n : ℕ) (l : List ℕ) : Type 0 where
   pub full : at + 8 * a ≤ length area
-  pub sorted : CanSort a n l order
+  pub to : Room a n l
+
+-- an order of a numbers, and scratch for it
+pub record Scratch (a n : ℕ) (order scratch : List ℕ) : Type 0 where
+  pub numbers : n < 2 ^ 32
+  pub ordered : a ≤ length order
+  pub room : a ≤ length scratch
+
+pub record CanTell (sets : List ℕ) (w a n : ℕ) (l order scratch : List ℕ) : Type 0 where
+  pub lay : CanLay sets w a n l
+  pub sorted : Scratch a n order scratch
+
+pub record CanTellRow (area : List ℕ) (at a n : ℕ) (l order scratch : List ℕ) : Type 0 where
+  pub lay : CanLayRow area at a n l
+  pub sorted : Scratch a n order scratch
 
 -- l has become l', whose first a sets are those that key gives
 pub record Laid (key : ℕ → ℕ) (a n : ℕ) (l l' : List ℕ) : Type 0 where
@@ -55,15 +67,18 @@ apart : (n i k x y : ℕ) → i < n → k < n → (i ≡ k → ⊥) → i + x * 
 apart n i k x y a b d e = d (index_column n x i y k a b (omega arith))
 
 module _ {key : ℕ → ℕ} {n k : ℕ} {l₀ l : List ℕ} (t : Laid key k n l₀ l) where
-  pub laid_more : {l' : List ℕ} {s : EntrySet} → k < n → 8 * n ≤ length l₀ → Holds (key k) s → l' ≡ set_lanes l k n (number s) → Laid key (k + 1) n l₀ l'
-  laid_more {l'} {s} h room held put = record {
-    long = ap length put ∙ length-set_strided l k n (parts 32 8 (number s)) ∙ t.long;
+  pub laid_more : {l' : List ℕ} → k < n → 8 * n ≤ length l₀ → (X : ℕ) → X ≡ key k → key k < 2 ^ 256 → l' ≡ set_lanes l k n X → Laid key (k + 1) n l₀ l'
+  laid_more {l'} h room X e small put = record {
+    long = ap length put ∙ length-set_strided l k n (parts 32 8 X) ∙ t.long;
     each = λ i b. rw put (go i b (ℕ_discrete i k));
   }
     where
-      go : (i : ℕ) → i < k + 1 → Dec (i ≡ k) → lanes (set_lanes l k n (number s)) i n ≡ key i
-      go i b (yes q) = rw q (lanes-set l k n (number s) (omega arith) (omega (arith, t.long)) (subst (λ z. z < 2 ^ 256) (sym held.value) (holds-below held)) ∙ held.value)
-      go i b (no d) = lanes-other l k n (number s) i n (λ x y p q r. apart n i k x y (omega arith) h d r) ∙ t.each i (omega arith)
+      go : (i : ℕ) → i < k + 1 → Dec (i ≡ k) → lanes (set_lanes l k n X) i n ≡ key i
+      go i b (yes q) = rw q (lanes-set l k n X (omega arith) (omega (arith, t.long)) (subst (λ z. z < 2 ^ 256) (sym e) small) ∙ e)
+      go i b (no d) = lanes-other l k n X i n (λ x y p q r. apart n i k x y (omega arith) h d r) ∙ t.each i (omega arith)
+
+  pub laid_held : {l' : List ℕ} {s : EntrySet} → k < n → 8 * n ≤ length l₀ → Holds (key k) s → l' ≡ set_lanes l k n (number s) → Laid key (k + 1) n l₀ l'
+  laid_held {l'} {s} h room held put = laid_more h room (number s) held.value (holds-below held) put
 
   pub laid_done : {a : ℕ} → k ≡ a → Laid key a n l₀ l
   laid_done e = subst (λ z. Laid key z n l₀ l) e t

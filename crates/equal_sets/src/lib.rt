@@ -4,7 +4,7 @@
 ghost use Rattle.std.specs.Prelude.{ℕ, ◌<◌};
 ghost use Rattle.graphs.specs.Bools.{Decides};
 ghost use Rattle.set_order.specs.Order.{Distinct};
-ghost use Rattle.equal_sets.specs.Laid.{nth_set, row_set, Gives, CanSort, CanTell, CanTellRow};
+ghost use Rattle.equal_sets.specs.Laid.{nth_set, row_set, Gives, Room, Scratch, CanTell, CanTellRow};
 
 use entry_set::EntrySet;
 use set_order::Lanes;
@@ -16,8 +16,10 @@ fn sets_are_distinct<F: Fn(usize) -> EntrySet>(
     n: usize,
     lanes: &mut [u32],
     order: &mut [u32],
+    scratch: &mut [u32],
 ) -> bool
-    requires room { CanSort a n lanes.old order.old }
+    requires room { Room a n lanes.old }
+    requires sorted { Scratch a n order.old scratch.old }
     requires callable { (i : ℕ) → i < a → F.pre set i }
     ensures { (key : ℕ → ℕ) → Gives key a (F.post set) → Decides (Distinct key a) result }
 {
@@ -29,9 +31,13 @@ fn sets_are_distinct<F: Fn(usize) -> EntrySet>(
         at: 0,
         n,
     };
-    laid.sort(a, order);
+    laid.sort(a, order, scratch);
     laid.distinct(a, order)
 }
+
+// stays: lanes, order and scratch come one by one: they are local arrays of each caller, as long as it needs. A struct that lends the three
+// would be made for each call and taken apart at once: no plainer. A list of sets has its w and a beside it, as C lends it: a set of no entry bits has no number
+// there, so that its length doesn't say how many sets it holds.
 
 // The first a sets of a list are distinct.
 pub fn are_distinct(
@@ -41,11 +47,12 @@ pub fn are_distinct(
     n: usize,
     lanes: &mut [u32],
     order: &mut [u32],
+    scratch: &mut [u32],
 ) -> bool
-    requires { CanTell sets.now w a n lanes.old order.old }
+    requires { CanTell sets.now w a n lanes.old order.old scratch.old }
     ensures { Decides (Distinct (nth_set sets.now w) a) result }
 {
-    sets_are_distinct(|i| EntrySet::at(sets, w, i), a, n, lanes, order)
+    sets_are_distinct(|i| EntrySet::at(sets, w, i), a, n, lanes, order, scratch)
 }
 
 // The a sets of which the words stand in a row from `at` on are distinct.
@@ -56,8 +63,9 @@ pub fn row_is_distinct(
     n: usize,
     lanes: &mut [u32],
     order: &mut [u32],
+    scratch: &mut [u32],
 ) -> bool
-    requires { CanTellRow area.now at a n lanes.old order.old }
+    requires { CanTellRow area.now at a n lanes.old order.old scratch.old }
     ensures { Decides (Distinct (row_set area.now at) a) result }
 {
     sets_are_distinct(
@@ -66,5 +74,6 @@ pub fn row_is_distinct(
         n,
         lanes,
         order,
+        scratch,
     )
 }

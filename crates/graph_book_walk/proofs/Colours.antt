@@ -176,17 +176,6 @@ module _ {g l : List ℕ} {n : ℕ} {colour : List State} {x i : ℕ} {colour' :
       grown = λ q. absurd (true≢false q);
     }
 
-    -- it is black
-    pub going_black : (at colour' y ≡ 0 → ⊥) → (at colour' y ≡ 1 → ⊥) → Going g l n colour x (i + 1) colour'
-    going_black h k = record {
-      can = v.can;
-      long = v.long;
-      within = omega arith;
-      past = below_more (λ j. 2 ≤ at colour' (nb g l x j)) i v.past (omega (arith, ap (at colour') is));
-      clean = v.clean;
-      grown = v.grown;
-    }
-
     pub going_less : falling (whites (length colour') (at colour')) (length l) 0 < falling (whites (length colour) (at colour)) (length l) (deg g x)
     going_less = rw (v.long, v.can.long) (falls_edges (whites n (at colour)) (whites n (at colour')) (length l) (deg g x) (grown_whites v.grown) (omega arith))
 
@@ -194,9 +183,6 @@ module _ {g l : List ℕ} {n : ℕ} {colour : List State} {x i : ℕ} {colour' :
     module _ (h : at colour' y ≡ 0) where
       pub going_can : CanOpen g l n colour' y
       going_can = record { graph = v.can.graph; long = v.long; node = next_node; white = h; clean = v.clean; path = path_next }
-
-      pub going_met : {colour'' : List State} {met : Bool} → met ≡ true → Opened g l n colour' y colour'' met → Gone g l n colour x colour'' true
-      going_met q k = record { closes = λ r. k.closes q; all = λ q. absurd (true≢false q); clean = λ q. absurd (true≢false q); grown = λ q. absurd (true≢false q) }
 
       pub going_more : {colour'' : List State} {met : Bool} → met ≡ false → length colour'' ≡ length colour' → Opened g l n colour' y colour'' met → Going g l n colour x (i + 1) colour''
       going_more {colour''} f q k = record {

@@ -15,6 +15,12 @@ colour_of zero = White
 colour_of (suc zero) = Gray
 colour_of (suc (suc k)) = Black
 
+-- the number of a state, once fin nodes have finished
+abbrev pub number_of : State → ℕ → ℕ
+number_of White fin = 0
+number_of Gray fin = 1
+number_of Black fin = fin + 2
+
 -- between two steps: each node's state, how many of its edges are gone through, and the nodes whose edges are being gone through, the last opened first
 pub record View : Type 0 where
   pub state : ℕ → State

@@ -7,13 +7,12 @@ use mathlib.Core.Logic.{◌⊎◌, inl, inr, ⊎_elim}
 use mathlib.Core.Bool.{cond}
 use mathlib.Core.List.{List}
 use lib.Dec.{eqb}
-use lib.ListN.{length}
 use borrow.Author.Tests.{eq-eqb, ne_eqb}
 use Rattle.graph_neighbours.specs.Lists.{deg, nb}
 use Rattle.graph_depth_first.specs.Steps.{at}
 use Rattle.graph_components.specs.declared.Found.{Found}
 use Rattle.graph_components.specs.declared.Found.TheVariants.{Nothing, Only, Several}
-use Rattle.graph_components.specs.Only.{meet_of, Met, Inner, CanMeet}
+use Rattle.graph_components.specs.Only.{meet_of, Met, Inner}
 
 -- one edge more
 pub met-step : {P Q : ℕ → Type 0} (found : Found) (a b : ℕ) → Met P found → ((l : ℕ) → P l → Q l) → (a ≡ b → Q a) → ((l : ℕ) → Q l → P l ⊎ ((a ≡ b) × (l ≡ a))) → Met Q (meet_of found a b)
@@ -71,6 +70,3 @@ met_next g q n c x found = met-map found
 
 pub met-none : {g q : List ℕ} {n : ℕ} {c : ℕ → ℕ} → Met (Inner g q n c 0 0) Nothing
 met-none = λ l i. ⊎_elim (λ z. omega arith) (λ z. omega (arith, z.1)) i.before
-
-pub met_node : {g q : List ℕ} {n : ℕ} {w : List ℕ} {x j y : ℕ} → CanMeet g q n w → x < n → j < deg g x → y ≡ nb g q x j → y < length w
-met_node {x} {j} can xn jd is = let h = can.graph.ends x j xn jd in omega (arith, can.long)

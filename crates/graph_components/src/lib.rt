@@ -10,8 +10,11 @@ ghost use Rattle.graph_components.specs.Only.{flagged, meet_of, Met, Inner, CanM
 
 use graph_neighbours::Neighbours;
 
+// stays: n is how many nodes the graph has, in all functions here. Heads, order, labels, stack and flags may each be longer, and to cut them at each call is no
+// plainer; nor is a struct of the graph and n, which graph_slots would make anew for each call, of lists that it has just grouped.
+
 // Gives the label l to the nodes that reach `root` over nodes with no label.
-// stays: 0 stands for no label, since the labels are the marks of the walk.
+// stays: 0 stands for no label. The labels are the marks of the walk, which are numbers: Options would be turned into numbers and back for each walk, no plainer.
 fn gather(graph: &Neighbours, n: usize, label: &mut [u32], stack: &mut [u32], root: u32, l: u32)
     requires { CanGather graph.now.starts.now (followed graph.now) n label.old stack.old root l }
     ensures { Gathered (turn (edge graph.now.starts.now (followed graph.now) n)) n root l (at label.old) (at label.new) }

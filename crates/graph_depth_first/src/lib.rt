@@ -13,6 +13,8 @@ use graph_colours::State;
 use graph_neighbours::Neighbours;
 
 // How far a search is: the stack's height, and how many nodes have finished.
+// stays: Clone and Copy alone, for this type and the next: nobody compares or prints them, and more derives are no plainer. Progress goes beside the search, as two
+// words by value: it is none of what a walk leaves. So does n beside the graph: lists may be longer than what the graph's nodes use.
 #[derive(Clone, Copy)]
 struct Progress {
     height: usize,
@@ -21,6 +23,7 @@ struct Progress {
 
 // A search over up to N nodes: each node's state, how many of its edges are gone through, the stack of the gray nodes, the nodes in the order in which they
 // finished, and whether a gray neighbour was met.
+// stays: `met` is a fact of its own, beside no value that it would tell to be there: an Option is no plainer.
 #[derive(Clone, Copy)]
 pub struct DepthFirst<const N: usize> {
     pub states: [State; N],
@@ -115,6 +118,7 @@ impl<const N: usize> DepthFirst<N> {
             return from;
         }
         let mut progress = self.discover(from, root as u32);
+        // stays: the stack grows as it is gone through, so that no iterator is plainer.
         while 0 < progress.height {
             progress = self.step(graph, n, progress);
         }

@@ -25,6 +25,10 @@ const HEADS: usize = 1025;
 
 const SLOTS: usize = 8448;
 
+// stays: n is how many nodes the graph has, in all functions here. Heads, list, marks and flags may each be longer, and to cut them at each call is no plainer.
+// Heads, list and n come one by one: each caller has written the lists just before and writes them again, so that a graph is lent for one call: no plainer.
+// stays: memory is fixed, nothing is on the heap.
+
 // Whether there is a cycle, with lists for N nodes.
 fn has_cycle_within<const N: usize>(graph: &Neighbours, n: usize) -> bool
     requires { Graph graph.now.starts.now (followed graph.now) n × (n ≤ N) × (N ≤ 1024) }

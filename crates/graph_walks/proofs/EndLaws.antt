@@ -94,5 +94,5 @@ module _ {l : List ℕ} {c n : ℕ} {ends : List ℕ} (s t : ℕ) (r : EndRows l
   rows_more {mark} {l₀} {s₀} {l₁} {s₁} {l₂} {s₂} {sp₀} {sp₁} {sp₂} {x} {i} v w =
       subst (λ k. ScannedTo l c n ends s t mark l₀ s₀ sp₀ x k l₂ s₂ sp₂) (sym (next_row (flag_edge l c n) (end_at ends) n r.each i)) (w.more l₀ s₀ sp₀ v)
 
-pub end-row_can : {q : List ℕ} {c n : ℕ} {ends : List ℕ} {mark : ℕ} {l s : List ℕ} {sp t i : ℕ} → EndRows q c n ends → Ready n mark l s sp → t < n → i < n → CanScanEndRow q c n ends mark l s sp t i
-end-row_can {c} {n} {i} r v h b = record { rows = r; ready = v; node = h; row = b; inside = omega (arith, row_in n c i b, r.rows.narrow, r.rows.cells) }
+pub end-row_can : {q : List ℕ} {c n : ℕ} {ends : List ℕ} {mark : ℕ} {l s : List ℕ} {sp t i : ℕ} → EndRows q c n ends → Ready n mark l s sp → t < n → i < n → CanScanEndRow q c n mark l s sp t i
+end-row_can {c} {n} {i} r v h b = record { ready = v; node = h; row = b; inside = omega (arith, row_in n c i b, r.rows.narrow, r.rows.cells) }

@@ -1,24 +1,22 @@
 -- What the marks are at the end of a walk. Assumes nothing.
-use Prim.Native.Nat.{ℕ, ◌+◌, ◌-◌, ◌*◌, ◌<◌}
+use Prim.Native.Nat.{ℕ, ◌+◌, ◌*◌, ◌<◌}
 use native.Mathlib.Omega.{arith}
 use native.Mathlib.Decide.{dec_lt}
 use mathlib.Core.Path.{◌≡◌, refl, sym, ◌∙◌}
 use mathlib.Core.Logic.{◌⊎◌, inl, inr, ⊎_elim}
 use mathlib.Core.Bool.{Bool, true, false, not, cond, true≢false}
 use mathlib.Core.List.{List}
-use lib.ListN.{get_or, length, take, drop}
+use lib.ListN.{get_or, length}
 use lib.Dec.{eqb}
-use Rattle.std.proofs.lemmas.List.{get_or-take, get_or-drop, length-drop, length-take-le}
 use Rattle.graphs.specs.Lists.{below}
 use Rattle.graphs.specs.Tab.{is_tab}
 use Rattle.graphs.specs.Walk.{Walk, one, more, via}
 use Rattle.graphs.specs.Walks.{sources-below, join, sound, complete, walk_to}
-use Rattle.graphs.specs.Square.{row_in}
 use Rattle.graph_neighbours.specs.Lists.{deg, nb, edge, Graph, listed, listed-to}
 use Rattle.graph_walks.specs.Closed.{flag_edge, closed}
 use Rattle.graph_walks.specs.ClosedLaws.{flag_from, flag-to, flag_is, closed-first, closed-next, closed_all}
 use Rattle.graph_walks.specs.Marks.{marking}
-use Rattle.graph_walks.specs.Spread.{met, stk, every, wide, itself, Offers, Spread, Kept, CanLook, LookedWhere, HandsOn, Scanned, Done, CanReach, Rows, CanCloseOver}
+use Rattle.graph_walks.specs.Spread.{met, stk, every, wide, itself, Offers, Spread, Kept, CanLook, LookedWhere, HandsOn, Scanned, Done, CanReach, Unmarked}
 use Rattle.graph_walks.proofs.Layer.{met-yes, met_no, yes-met, kept_trans, kept-met, look_can, turn_skip, turn_more}
 use Rattle.graph_walks.proofs.Moves as moves
 
@@ -114,7 +112,7 @@ module _ {starts list : List ℕ} {n mark root : ℕ} {l s : List ℕ} (can : Ca
         (λ x q. from_root (sound e (below n) root x q))
 
 -- the closed union of two nodes' edges, after a scan of each and of all that goes on the stack
-module _ {deps : ℕ → ℕ → Bool} {n : ℕ} {d : ℕ → ℕ} {f : ℕ → ℕ → ℕ} {h : ℕ → ℕ → Bool} (G : Offers deps n d f h) {source target mark : ℕ} {l s : List ℕ} (can : CanCloseOver n source target mark l s) where
+module _ {deps : ℕ → ℕ → Bool} {n : ℕ} {d : ℕ → ℕ} {f : ℕ → ℕ → ℕ} {h : ℕ → ℕ → Bool} (G : Offers deps n d f h) (source target : ℕ) {mark : ℕ} {l s : List ℕ} (can : Unmarked n mark l s) where
   next-in : (x y : ℕ) → deps x y ≡ true → y < n
   next-in x y k = let q = G.find x y k in rw q.3 at (G.ends x q.0 (G.from x y k) q.1 q.2)
 
@@ -162,17 +160,3 @@ module _ (q : List ℕ) (c : ℕ) {n mark : ℕ} {l₀ s₀ l s : List ℕ} {sp�
       → Scanned (flag_edge q c n) n (wide n) itself (flag_edge q c n) mark l₀ s₀ sp₀ t (j + 1) l' s' sp'
   flag-more true is w = turn_more (offers_rows q c n) v tn jn (flag_is q c n t j tn jn ∙ sym is) refl (w.looked refl)
   flag-more false is w = let k = w.skipped refl in rw (k.0, k.1, k.2) (turn_skip (offers_rows q c n) v (λ z. absurd (true≢false (sym z ∙ flag_is q c n t j tn jn ∙ sym is))))
-
--- row t, of the first n flags
-module _ {q : List ℕ} {c n t : ℕ} (r : Rows q c n) (tn : t < n) where
-  abbrev row : List ℕ
-  row = take (t * c + n - t * c) (drop (t * c) q)
-
-  pub length-row : length row ≡ n
-  length-row = length-take-le _ (drop (t * c) q) (rw length-drop (omega (arith, row_in n c t tn, r.narrow, r.cells))) ∙ width
-    where
-      width : t * c + n - t * c ≡ n
-      width = omega arith
-
-  pub get_or-row : (j : ℕ) → j < n → get_or row j 0 ≡ get_or q (t * c + j) 0
-  get_or-row j h = get_or-take (t * c + n - t * c) (drop (t * c) q) j 0 (omega arith) ∙ get_or-drop (t * c) q j 0

@@ -26,8 +26,7 @@ pub record EndRows (l : List ℕ) (c n : ℕ) (ends : List ℕ) : Type 0 where
   pub long : n ≤ length ends
   pub each : (x : ℕ) → x < n → get_or ends x 0 < n
 
-pub record CanScanEndRow (l : List ℕ) (c n : ℕ) (ends : List ℕ) (mark : ℕ) (marks stack : List ℕ) (sp t i : ℕ) : Type 0 where
-  pub rows : EndRows l c n ends
+pub record CanScanEndRow (l : List ℕ) (c n mark : ℕ) (marks stack : List ℕ) (sp t i : ℕ) : Type 0 where
   pub ready : Ready n mark marks stack sp
   pub node : t < n
   pub row : i < n
@@ -42,11 +41,3 @@ ScannedTo l c n ends s t mark marks stack sp x k marks' stack' sp' =
 pub record Swept (l : List ℕ) (c n : ℕ) (ends : List ℕ) (s t mark : ℕ) (marks stack : List ℕ) (sp x i j : ℕ) (marks' stack' : List ℕ) (sp' : ℕ) : Type 0 where
   pub ready : Ready n mark marks' stack' sp'
   pub more : (l₀ s₀ : List ℕ) (sp₀ : ℕ) → ScannedTo l c n ends s t mark l₀ s₀ sp₀ x (i * n) marks stack sp → ScannedTo l c n ends s t mark l₀ s₀ sp₀ x (i * n + j) marks' stack' sp'
-
-pub record CanCloseEnds (l : List ℕ) (c n : ℕ) (ends : List ℕ) (source target mark : ℕ) (marks stack : List ℕ) : Type 0 where
-  pub rows : EndRows l c n ends
-  pub cells : n ≤ length marks
-  pub room : n ≤ length stack
-  pub first : source < n
-  pub second : target < n
-  pub fresh : (x : ℕ) → x < n → get_or marks x 0 < mark

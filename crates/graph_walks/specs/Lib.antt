@@ -6,3 +6,4 @@ pub mod ClosedLaws
 pub mod Counted
 pub mod Places
 pub mod Ends
+pub mod Reads

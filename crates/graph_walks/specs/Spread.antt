@@ -110,18 +110,8 @@ pub record Rows (l : List ℕ) (c n : ℕ) : Type 0 where
   pub narrow : n ≤ c
   pub few : n < 2 ^ 32
 
--- a walk from the edges of source and target, in which no node is marked yet
-pub record CanCloseOver (n source target mark : ℕ) (marks stack : List ℕ) : Type 0 where
+-- the slices are long enough, and no node is marked yet
+pub record Unmarked (n mark : ℕ) (marks stack : List ℕ) : Type 0 where
   pub cells : n ≤ length marks
   pub room : n ≤ length stack
-  pub first : source < n
-  pub second : target < n
-  pub fresh : (x : ℕ) → x < n → get_or marks x 0 < mark
-
-pub record CanClose (l : List ℕ) (c n source target mark : ℕ) (marks stack : List ℕ) : Type 0 where
-  pub rows : Rows l c n
-  pub cells : n ≤ length marks
-  pub room : n ≤ length stack
-  pub first : source < n
-  pub second : target < n
   pub fresh : (x : ℕ) → x < n → get_or marks x 0 < mark

@@ -3,29 +3,19 @@
 
 pub mod end_rows; // end_rows.rt: over rows of flags whose nodes stand for their ends
 
-ghost use Rattle.std.specs.Prelude.{◌≡◌, ℕ, ◌<◌, ◌≤◌, ◌≢◌, Bool, not, eqb, length, get_or};
+ghost use Rattle.std.specs.Prelude.{◌≡◌, ◌<◌, ◌≢◌, not, eqb};
 ghost use Rattle.graph_neighbours.specs.Followed.{followed};
-ghost use Rattle.graph_neighbours.specs.Lists.{deg, nb, edge, Graph};
+ghost use Rattle.graph_neighbours.specs.Lists.{edge, Graph};
 ghost use Rattle.graph_walks.specs.Closed.{flag_edge, closed};
 ghost use Rattle.graph_walks.specs.Marks.{marking, marked};
-ghost use Rattle.graph_walks.specs.Spread.{every, wide, itself, Offers, Ready, CanLook, Looked, LookedWhere, Scanned, CanSpread, Done, CanReach, Rows, CanCloseOver, CanClose};
+ghost use Rattle.graph_walks.specs.Reads.{Reads, in_lists, in_rows, Offered, LookedTo, Walked};
+ghost use Rattle.graph_walks.specs.Spread.{Ready, CanLook, Looked, LookedWhere, CanSpread, CanReach, Rows, Unmarked};
 
 use graph_neighbours::Neighbours;
 
 // Edges between the nodes below a number, as a walk reads them: at each node it looks at so many places, and where a place holds, a neighbour stands there.
 trait Edges {
-    ghost nodes: { Self → ℕ };
-
-    ghost joined: { Self → ℕ → ℕ → Bool };
-
-    ghost places: { Self → ℕ → ℕ };
-
-    ghost neighbour: { Self → ℕ → ℕ → ℕ };
-
-    ghost holds: { Self → ℕ → ℕ → Bool };
-
-    // What must hold of the lists that it reads.
-    ghost sound: { Self → Type 0 };
+    ghost reads: { Self → Reads };
 
     // Looks at all neighbours of t: the stack's height.
     fn scan(
@@ -36,10 +26,9 @@ trait Edges {
         height: usize,
         t: usize,
     ) -> usize
-        requires edges { sound self.now }
-        requires ready { Ready (nodes self.now) mark marks.old stack.old height }
-        requires node { t < nodes self.now }
-        ensures { Scanned (joined self.now) (nodes self.now) (places self.now) (neighbour self.now) (holds self.now) mark marks.old stack.old height t (places self.now t) marks.new stack.new result };
+        requires ready { Ready (reads self.now).nodes mark marks.old stack.old height }
+        requires node { t < (reads self.now).nodes }
+        ensures { LookedTo (reads self.now) mark marks.old stack.old height t ((reads self.now).places t) marks.new stack.new result };
 }
 
 // y is marked and goes on the stack, unless it is marked: the stack's height.
@@ -55,6 +44,9 @@ pub fn look(marks: &mut [u32], stack: &mut [u32], mark: u32, sp: usize, y: u32) 
     stack[sp] = y;
     sp + 1
 }
+
+// stays: mark, marks and stack are passed one by one. Callers lend marks that they keep, a part of an area or an array, and `look` is called with either; a
+// struct of two `&mut` would be made and taken apart at each call: no plainer. The stack's height goes from call to call as a word, and its end isn't the list's.
 
 // Looks at y where `looked` says so.
 fn look_where(
@@ -77,12 +69,12 @@ fn look_where(
 
 // Marks what the nodes on the stack reach over nodes that are not marked.
 fn spread_over<E: Edges>(edges: &E, mark: u32, marks: &mut [u32], stack: &mut [u32], height: usize)
-    requires edges { E.sound edges.now }
-    requires offers { Offers (E.joined edges.now) (E.nodes edges.now) (E.places edges.now) (E.neighbour edges.now) (E.holds edges.now) }
-    requires ready { Ready (E.nodes edges.now) mark marks.old stack.old height }
-    ensures { Done (E.joined edges.now) (E.nodes edges.now) (E.places edges.now) (E.neighbour edges.now) (E.holds edges.now) mark marks.old stack.old height marks.new stack.new 0 }
+    requires offers { Offered (E.reads edges.now) }
+    requires ready { Ready (E.reads edges.now).nodes mark marks.old stack.old height }
+    ensures { Walked (E.reads edges.now) mark marks.old stack.old height marks.new stack.new 0 }
 {
     let mut sp = height;
+    // stays: the stack grows as it is gone through, so that no iterator is plainer.
     while 0 < sp {
         let top = sp - 1;
         let t = stack[top] as usize;
@@ -99,10 +91,10 @@ fn close_over<E: Edges>(
     marks: &mut [u32],
     stack: &mut [u32],
 )
-    requires edges { E.sound edges.now }
-    requires offers { Offers (E.joined edges.now) (E.nodes edges.now) (E.places edges.now) (E.neighbour edges.now) (E.holds edges.now) }
-    requires can { CanCloseOver (E.nodes edges.now) source target mark marks.old stack.old }
-    ensures { marks.new ≡ marking (closed (E.joined edges.now) (E.nodes edges.now) source target) mark marks.old }
+    requires offers { Offered (E.reads edges.now) }
+    requires ends { (source < (E.reads edges.now).nodes) × (target < (E.reads edges.now).nodes) }
+    requires unmarked { Unmarked (E.reads edges.now).nodes mark marks.old stack.old }
+    ensures { marks.new ≡ marking (closed (E.reads edges.now).joined (E.reads edges.now).nodes source target) mark marks.old }
 {
     let first = edges.scan(mark, marks, stack, 0, source);
     let both = edges.scan(mark, marks, stack, first, target);
@@ -110,24 +102,16 @@ fn close_over<E: Edges>(
 }
 
 // The first `count` nodes of a graph of neighbour lists.
+// stays: Clone and Copy alone, for this type and the next. They are lists that are lent, which nobody compares or prints: more derives are no plainer.
 #[derive(Clone, Copy)]
 struct Listed<'g> {
     graph: &'g Neighbours<'g>,
     count: usize,
+    ghost whole: { Graph graph.now.starts.now (followed graph.now) count },
 }
 
 impl<'g> Edges for Listed<'g> {
-    ghost nodes = { λ l. l.count };
-
-    ghost joined = { λ l. edge l.graph.now.starts.now (followed l.graph.now) l.count };
-
-    ghost places = { λ l. deg l.graph.now.starts.now };
-
-    ghost neighbour = { λ l. nb l.graph.now.starts.now (followed l.graph.now) };
-
-    ghost holds = { λ l. every };
-
-    ghost sound = { λ l. Graph l.graph.now.starts.now (followed l.graph.now) l.count };
+    ghost reads = { λ l. in_lists l.graph.now.starts.now (followed l.graph.now) l.count };
 
     fn scan(
         &self,
@@ -145,6 +129,9 @@ impl<'g> Edges for Listed<'g> {
     }
 }
 
+// stays: n, in the two functions below, is how many nodes the graph has. Heads, marks and stack may each be longer, and to cut the three of them at each call
+// is no plainer. `Listed` is made of the two here: its fact is what a walk asks, and who calls has lists alone.
+
 // Marks what the nodes on the stack reach over nodes that are not marked.
 pub fn spread(
     graph: &Neighbours,
@@ -155,7 +142,7 @@ pub fn spread(
     height: usize,
 )
     requires { CanSpread graph.now.starts.now (followed graph.now) n mark marks.old stack.old height }
-    ensures { Done (edge graph.now.starts.now (followed graph.now) n) n (deg graph.now.starts.now) (nb graph.now.starts.now (followed graph.now)) every mark marks.old stack.old height marks.new stack.new 0 }
+    ensures { Walked (in_lists graph.now.starts.now (followed graph.now) n) mark marks.old stack.old height marks.new stack.new 0 }
 {
     spread_over(&Listed { graph, count: n }, mark, marks, stack, height);
 }
@@ -183,20 +170,11 @@ pub struct FlagRows<'f> {
     pub flags: &'f [u32],
     pub stride: usize,
     pub count: usize,
+    ghost lent: { Rows flags.now stride count },
 }
 
 impl<'f> Edges for FlagRows<'f> {
-    ghost nodes = { λ r. r.count };
-
-    ghost joined = { λ r. flag_edge r.flags.now r.stride r.count };
-
-    ghost places = { λ r. wide r.count };
-
-    ghost neighbour = { λ r. itself };
-
-    ghost holds = { λ r. flag_edge r.flags.now r.stride r.count };
-
-    ghost sound = { λ r. Rows r.flags.now r.stride r.count };
+    ghost reads = { λ r. in_rows r.flags.now r.stride r.count };
 
     fn scan(
         &self,
@@ -206,10 +184,13 @@ impl<'f> Edges for FlagRows<'f> {
         height: usize,
         t: usize,
     ) -> usize {
+        let flags = self.flags;
         let from = t * self.stride;
         let mut sp = height;
-        for (y, &flag) in self.flags[from..from + self.count].iter().enumerate() {
-            sp = look_where(flag != 0, marks, stack, mark, sp, y as u32);
+        // y is a u32 from the start: a cast at each flag makes a walk a third slower
+        for y in 0..self.count as u32 {
+            let is_set = flags[from + y as usize] != 0;
+            sp = look_where(is_set, marks, stack, mark, sp, y);
         }
         sp
     }
@@ -224,7 +205,8 @@ pub fn closure(
     marks: &mut [u32],
     stack: &mut [u32],
 )
-    requires { CanClose rows.now.flags.now rows.now.stride rows.now.count source target mark marks.old stack.old }
+    requires ends { (source < rows.now.count) × (target < rows.now.count) }
+    requires unmarked { Unmarked rows.now.count mark marks.old stack.old }
     ensures { marks.new ≡ marking (closed (flag_edge rows.now.flags.now rows.now.stride rows.now.count) rows.now.count source target) mark marks.old }
 {
     close_over(rows, source, target, mark, marks, stack);

@@ -2,6 +2,9 @@
 ghost use Rattle.graphs.specs.Bools.{Decides};
 ghost use Rattle.layout.specs.Compare.{Within, CanCompare, SamePart, PartUpTo, PartBelow};
 
+// stays: place and length stand beside the list: the clauses speak of places in the whole list, as does what is asked of an area's numbers. Over a
+// lent part each caller would have to carry the fact back: no plainer.
+
 // The n numbers of a from `at` on are those of b from `from` on.
 pub fn same_numbers(a: &[u32], at: usize, b: &[u32], from: usize, n: usize) -> bool
     requires { CanCompare a.now at b.now from n }

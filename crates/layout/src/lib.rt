@@ -9,6 +9,9 @@ mod compare;
 
 pub use compare::{all_below, none_above, same_numbers};
 
+// stays: list, place and length come one by one: the clauses say of the whole list what is written where, a patch, and each caller's proof goes on
+// from there. Over a lent part each of them would have to put the part back: no plainer.
+
 // k numbers of `from`, from `start` on, are written at `at`.
 pub fn copy(area: &mut [u32], at: usize, from: &[u32], start: usize, k: usize)
     requires { CanCopy area.old at from.now start k }

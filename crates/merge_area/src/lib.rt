@@ -16,12 +16,9 @@ ghost use Rattle.merge_area.specs.Layout.{room, cell, head, set_place};
 ghost use Rattle.merge_area.specs.Read.{named_set, sets-in};
 ghost use Rattle.merge_area.specs.Consistent.{over, short, Faults, row_fault, flags_fault, head_fault, index_faults, out_of_range, body_fault, inconsistent};
 ghost use Rattle.merge_area.specs.Calls.{standing};
-ghost use Rattle.merge_area.specs.Within.{Within, Headed, Tabled};
+ghost use Rattle.merge_area.specs.Within.{Headed, Tabled};
 
-use crate::places::{
-    INITIAL, MADE, SETS, USED, entry_chunk_place, entry_module_place, head_place, home_place,
-    key_place, need_place, set_chunk_place, set_place,
-};
+use crate::places::{INITIAL, MADE, Places, SETS, USED};
 use entry_set::EntrySet;
 use equal_sets::row_is_distinct;
 use merge_state::{ChunkIdx, NONE, Sizes};
@@ -41,20 +38,10 @@ pub fn over_limits(sizes: Sizes) -> bool
 
 // Row 15, as far as the area's length tells.
 #[tactic(auto, unfolding(crate::specs::Consistent::short))]
-pub fn too_short(sizes: Sizes, area: &[u32]) -> bool
-    requires { Within sizes }
-    ensures { result ≡ short sizes area.now }
+pub fn too_short(places: Places, area: &[u32]) -> bool
+    ensures { result ≡ short places.sizes area.now }
 {
-    area.len()
-        < sizes.chunks * sizes.chunks + 32 * (sizes.chunks + sizes.modules + sizes.entries + 1)
-}
-
-// Number k of the header: INITIAL, MADE, CREATED, SETS, USED or MODE.
-pub fn header(sizes: Sizes, area: &[u32], k: usize) -> u32
-    requires { Within sizes × (room sizes ≤ length area.now) × (k < 32) }
-    ensures { result ≡ cell area.now (head sizes k) }
-{
-    area[head_place(sizes, k)]
+    area.len() < places.room()
 }
 
 // The number isn't below top, nor NONE where that is allowed.
@@ -66,6 +53,7 @@ fn is_misfit(number: u32, top: usize, free: bool) -> bool
 }
 
 // How many of the n numbers from `at` on misfit.
+// stays: the area with a place and a count, as the rows count by places of the whole area; for a part each caller's clause would need a law of parts.
 pub fn count_faults(list: &[u32], at: usize, n: usize, top: usize, free: bool) -> usize
     requires { at + n ≤ length list.now }
     ensures { Faults list.now at n top free result }
@@ -80,39 +68,45 @@ pub fn count_faults(list: &[u32], at: usize, n: usize, top: usize, free: bool) -
 
 // The header has a number out of range.
 #[tactic(auto, unfolding(crate::specs::Consistent::head_fault))]
-fn head_has_fault(sizes: Sizes, area: &[u32]) -> bool
-    requires { Within sizes × (room sizes ≤ length area.now) }
-    ensures { result ≡ head_fault sizes area.now }
+fn head_has_fault(places: Places, area: &[u32]) -> bool
+    requires { room places.sizes ≤ length area.now }
+    ensures { result ≡ head_fault places.sizes area.now }
 {
-    let made = header(sizes, area, MADE) as usize;
-    made < header(sizes, area, INITIAL) as usize
+    let sizes = places.sizes;
+    let made = places.header(area, MADE) as usize;
+    made < places.header(area, INITIAL) as usize
         || sizes.chunks < made
-        || sizes.chunks + made < header(sizes, area, SETS) as usize
-        || sizes.entries < header(sizes, area, USED) as usize
+        || sizes.chunks + made < places.header(area, SETS) as usize
+        || sizes.entries < places.header(area, USED) as usize
 }
 
 // Set i of the table.
-pub fn set_of(sizes: Sizes, numbers: &[u32], i: usize) -> EntrySet
-    requires { Within sizes × (room sizes ≤ length numbers.now) × (i < 2 * sizes.chunks) }
-    ensures { Holds (lanes numbers.now (set_place sizes i) 1) result }
+pub fn set_of(places: Places, numbers: &[u32], i: usize) -> EntrySet
+    requires { (room places.sizes ≤ length numbers.now) × (i < 2 * places.sizes.chunks) }
+    ensures { Holds (lanes numbers.now (set_place places.sizes i) 1) result }
 {
-    EntrySet::read_lanes(numbers, set_place(sizes, i), 1)
+    EntrySet::read_lanes(numbers, places.set(i), 1)
 }
 
-// The chunk named with a set among the first n.
+// The chunk named with a set among the first n, of 2 × C places for sets.
 pub fn chunk_of_set(sizes: Sizes, numbers: &[u32], n: usize, set: EntrySet) -> Option<ChunkIdx>
     requires { Tabled sizes numbers.now n }
     ensures { result ≡ named (chunk_of (number set) (pairs (named_set sizes numbers.now) n)) }
 {
+    let places = Places { sizes };
     for i in 0..n {
-        if set_of(sizes, numbers, i) == set {
-            return ChunkIdx::named(numbers[set_chunk_place(sizes, i)]);
+        if set_of(places, numbers, i) == set {
+            return ChunkIdx::named(numbers[places.set_chunk(i)]);
         }
     }
     None
 }
 
+// stays: places and an area beside each other, where each function asks that the area is long enough. Before the header is known to be in range there
+// is no Area, and a writer reads the header of a list that it writes.
+
 // A merge area that is long enough for its sizes, and whose header is in range; lent for reading.
+// stays: Clone and Copy alone, as nobody compares or prints a lent area.
 #[derive(Clone, Copy)]
 pub struct Area<'a> {
     pub sizes: Sizes,
@@ -121,12 +115,19 @@ pub struct Area<'a> {
 }
 
 impl<'a> Area<'a> {
+    // Where its numbers stand.
+    pub fn places(&self) -> Places
+        ensures { result.sizes ≡ self.now.sizes }
+    {
+        Places { sizes: self.sizes }
+    }
+
     // Number k of the header.
     pub fn header(&self, k: usize) -> u32
         requires { k < 32 }
         ensures { result ≡ cell self.now.numbers.now (head self.now.sizes k) }
     {
-        header(self.sizes, self.numbers, k)
+        self.places().header(self.numbers, k)
     }
 
     // Row x of the flags has one that no made chunk can have.
@@ -169,25 +170,27 @@ impl<'a> Area<'a> {
         ensures { result ≡ index_faults self.now.sizes self.now.numbers.now }
     {
         let sizes = self.sizes;
+        let places = self.places();
         let initial = self.header(INITIAL) as usize;
         let made = self.header(MADE) as usize;
         let sets = self.header(SETS) as usize;
         let used = self.header(USED) as usize;
         let count = |at, n, top, free| count_faults(self.numbers, at, n, top, free);
-        count(set_chunk_place(sizes, 0), sets, made, false)
-            + count(key_place(sizes, 0), sizes.chunks, made, true)
-            + count(home_place(sizes, 0), sizes.modules, made, true)
-            + count(entry_chunk_place(sizes, 0), used, made, false)
-            + count(entry_module_place(sizes, 0), used, sizes.modules, false)
-            + count(need_place(sizes, 0), initial, 1, false)
+        count(places.set_chunk(0), sets, made, false)
+            + count(places.key(0), sizes.chunks, made, true)
+            + count(places.home(0), sizes.modules, made, true)
+            + count(places.entry_chunk(0), used, made, false)
+            + count(places.entry_module(0), used, sizes.modules, false)
+            + count(places.need(0), initial, 1, false)
     }
 
     // One of the sets has a bit at or above E.
     fn sets_out_of_range(&self) -> bool
         ensures { result ≡ some_below (out_of_range self.now.sizes self.now.numbers.now) (cell self.now.numbers.now (head self.now.sizes 3)) }
     {
+        let places = self.places();
         for i in 0..self.header(SETS) as usize {
-            if !set_of(self.sizes, self.numbers, i).in_range(self.sizes.bits) {
+            if !set_of(places, self.numbers, i).in_range(self.sizes.bits) {
                 return true;
             }
         }
@@ -201,12 +204,22 @@ impl<'a> Area<'a> {
     {
         let mut lanes = [0u32; WORDS];
         let mut order = [0u32; ROOM];
-        let at = set_place(self.sizes, 0);
+        let mut scratch = [0u32; ROOM];
+        let at = self.places().set(0);
         let n = self.header(SETS) as usize;
-        !row_is_distinct(self.numbers, at, n, ROOM, &mut lanes, &mut order)
+        !row_is_distinct(
+            self.numbers,
+            at,
+            n,
+            ROOM,
+            &mut lanes,
+            &mut order,
+            &mut scratch,
+        )
     }
 
     // Two of the sets are equal. Where they are few the local arrays are short, which is quicker.
+    // stays: local arrays of a fixed length, as nothing is on the heap.
     fn sets_repeat(&self) -> bool
         ensures { result ≡ twice (λ (i : ℕ). lanes self.now.numbers.now (set_place self.now.sizes i) 1) (cell self.now.numbers.now (head self.now.sizes 3)) }
     {
@@ -239,11 +252,12 @@ impl<'a> Area<'a> {
 
 // Row 21.
 #[tactic(auto, unfolding(crate::specs::Consistent::inconsistent))]
-pub fn is_inconsistent(sizes: Sizes, numbers: &[u32]) -> bool
-    requires { Within sizes × (room sizes ≤ length numbers.now) }
-    ensures { result ≡ inconsistent sizes numbers.now }
+pub fn is_inconsistent(places: Places, numbers: &[u32]) -> bool
+    requires { room places.sizes ≤ length numbers.now }
+    ensures { result ≡ inconsistent places.sizes numbers.now }
 {
-    head_has_fault(sizes, numbers) || Area { sizes, numbers }.has_fault()
+    let sizes = places.sizes;
+    head_has_fault(places, numbers) || Area { sizes, numbers }.has_fault()
 }
 
 // The area, if none of rows 14, 15 and 21 fits, or the first that does; many and faulty are what the call's own lists say to 14 and 15.
@@ -260,10 +274,11 @@ pub fn standing_row<'a>(
     if over_limits(sizes) || many {
         return Err(Refusal::MergeOverLimits);
     }
-    if faulty || too_short(sizes, numbers) {
+    let places = Places { sizes };
+    if faulty || too_short(places, numbers) {
         return Err(Refusal::MergeLists);
     }
-    if is_inconsistent(sizes, numbers) {
+    if is_inconsistent(places, numbers) {
         return Err(Refusal::MergeAreaInconsistent);
     }
     Ok(Area { sizes, numbers })

@@ -1,5 +1,5 @@
 // The merges that an area records, where merged chunks stand for their target: their ends, and rings of them.
-ghost use Rattle.std.specs.Prelude.{◌≡◌, not, cond, ℕ, ◌+◌, ◌<◌, ◌≤◌, length, get_or, eqb};
+ghost use Rattle.std.specs.Prelude.{◌≡◌, not, cond, ℕ, ◌+◌, ◌<◌, length, get_or, eqb};
 ghost use Rattle.graphs.specs.Lists.{some_below, below};
 ghost use Rattle.graphs.specs.Walk.{cyclic};
 ghost use Rattle.merge_state.specs.State.{None};
@@ -8,7 +8,7 @@ ghost use Rattle.merge_area.specs.Read.{read, mode_in, into_in};
 ghost use Rattle.merge_area.specs.Consistent.{lane_faults, merges_fault};
 ghost use Rattle.merge_area.specs.Merged.{Inside, Led, Doubled, CanFollow};
 
-use crate::places::{MADE, MODE, into_place, need_place};
+use crate::places::{MADE, MODE, Places};
 use crate::{Area, count_faults};
 use merge_state::{NONE, Sizes};
 
@@ -19,17 +19,22 @@ fn step_of(v: u32, x: u32) -> u32
     if v == NONE { x } else { v }
 }
 
+// stays: sizes and area, not an Area: find_ends, and what it calls, ask less of the header than an Area states. By a rule of the project (docs/DECISIONS.md) what
+// is public asks no more from one version to the next.
+
 // One step from each of the first chunks, as many as there are ends.
 fn take_step(sizes: Sizes, area: &[u32], ends: &mut [u32])
     requires { CanFollow sizes area.now (length ends.old) }
     ensures { Led (into_in sizes area.now) (length ends.old) 1 ends.new }
 {
-    for x in 0..ends.len() {
-        ends[x] = step_of(area[into_place(sizes, x)], x as u32);
+    let places = Places { sizes };
+    for (x, end) in ends.iter_mut().enumerate() {
+        *end = step_of(area[places.into(x)], x as u32);
     }
 }
 
 // Each is led on from where it was: at least twice as far.
+// stays: an index, as each step reads the list that it writes, which an iterator would hold.
 fn double(ends: &mut [u32])
     requires { Inside (length ends.old) ends.old }
     ensures { Doubled (length ends.old) ends.old ends.new }
@@ -55,8 +60,9 @@ fn some_left(sizes: Sizes, area: &[u32], ends: &[u32]) -> bool
     requires { CanFollow sizes area.now (length ends.now) × Inside (length ends.now) ends.now }
     ensures { result ≡ some_below (λ (x : ℕ). not (eqb (into_in sizes area.now (get_or ends.now x 0)) None)) (length ends.now) }
 {
+    let places = Places { sizes };
     for &end in ends {
-        if area[into_place(sizes, end as usize)] != NONE {
+        if area[places.into(end as usize)] != NONE {
             return true;
         }
     }
@@ -64,6 +70,7 @@ fn some_left(sizes: Sizes, area: &[u32], ends: &[u32]) -> bool
 }
 
 // The merges of the first n chunks run in a ring.
+// stays: a local array, as memory is fixed and nothing is on the heap; n is how many chunks are made, of C in the area.
 fn has_ring(sizes: Sizes, area: &[u32], n: usize) -> bool
     requires { CanFollow sizes area.now n }
     ensures { result ≡ cyclic (merged_into (into_in sizes area.now)) (below n) }
@@ -88,7 +95,7 @@ impl<'a> Area<'a> {
     pub fn is_gone(&self, x: usize) -> bool
         ensures { result ≡ gone (read self.now.sizes self.now.numbers.now) x }
     {
-        self.is_mode() && x < self.sizes.chunks && self.numbers[into_place(self.sizes, x)] != NONE
+        self.is_mode() && x < self.sizes.chunks && self.numbers[self.places().into(x)] != NONE
     }
 
     // Chunk x needs creation and wasn't merged away.
@@ -97,7 +104,7 @@ impl<'a> Area<'a> {
         requires { x < self.now.sizes.chunks }
         ensures { result ≡ waits (read self.now.sizes self.now.numbers.now) x }
     {
-        let at = need_place(self.sizes, x);
+        let at = self.places().need(x);
         self.numbers[at] != 0 && !self.is_gone(x)
     }
 
@@ -108,14 +115,15 @@ impl<'a> Area<'a> {
     {
         let made = self.header(MADE) as usize;
         let others = self.sizes.chunks - made;
-        let a = count_faults(self.numbers, into_place(self.sizes, 0), made, made, true);
-        let b = count_faults(self.numbers, into_place(self.sizes, made), others, 0, true);
+        let places = self.places();
+        let a = count_faults(self.numbers, places.into(0), made, made, true);
+        let b = count_faults(self.numbers, places.into(made), others, 0, true);
         a + b
     }
 
     // A recorded merge is out of range, or merges run in a ring.
     #[tactic(auto, unfolding(crate::specs::Consistent::merges_fault))]
-    pub(crate) fn merges_have_fault(&self) -> bool
+    pub fn merges_have_fault(&self) -> bool
         ensures { result ≡ merges_fault self.now.sizes self.now.numbers.now }
     {
         self.is_mode()

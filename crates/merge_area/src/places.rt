@@ -1,12 +1,13 @@
 // Where the numbers of the area stand.
-ghost use Rattle.std.specs.Prelude.{◌≡◌, ◌^◌, ◌<◌};
-ghost use Rattle.merge_area.specs.Layout.{head, set_place, set_chunk, side, need, key, into, home, entry_chunk, entry_module};
+ghost use Rattle.std.specs.Prelude.{◌≡◌, ◌^◌, ◌<◌, ◌≤◌, length};
+ghost use Rattle.merge_area.specs.Layout.{room, cell, head, set_place, set_chunk, side, need, key, into, home, entry_chunk, entry_module};
 ghost use Rattle.merge_area.specs.Within.{Within};
 
 use merge_state::Sizes;
 
 // The numbers of the header: how many chunks are initial, how many are made, how many the passes created, how many sets are named, how many list
 // entries are in use, and whether merged chunks stand for their target.
+// stays: the header's numbers and the area's flags are u32 in the area that C lends.
 pub const INITIAL: usize = 0;
 
 pub const MADE: usize = 1;
@@ -19,82 +20,109 @@ pub const USED: usize = 4;
 
 pub const MODE: usize = 5;
 
-// Number k of the header.
-pub fn head_place(sizes: Sizes, k: usize) -> usize
-    requires { Within sizes × (k < 2 ^ 32) }
-    ensures { result ≡ head sizes k }
-{
-    sizes.chunks * sizes.chunks + k
+// Where each number of an area stands, by sizes within the limits.
+// stays: a method for each lane, as each has its name and its definition in specs/Layout: one with the lane's factor as a parameter would be named by its factor. The
+// index is any number below 2 ^ 32, as u32s give it: a type for that would be made at each call: no plainer.
+#[derive(Clone, Copy, PartialEq, Eq, Debug)]
+pub struct Places {
+    pub sizes: Sizes,
+    ghost limits: { Within sizes },
 }
 
-// The first of the eight words of set i.
-pub fn set_place(sizes: Sizes, i: usize) -> usize
-    requires { Within sizes × (i < 2 ^ 32) }
-    ensures { result ≡ set_place sizes i }
-{
-    sizes.chunks * sizes.chunks + 32 + 8 * i
-}
+impl Places {
+    // How long an area is at least.
+    pub fn room(self) -> usize
+        ensures { result ≡ room self.sizes }
+    {
+        let sizes = self.sizes;
+        sizes.chunks * sizes.chunks + 32 * (sizes.chunks + sizes.modules + sizes.entries + 1)
+    }
 
-// The chunk of set i.
-pub fn set_chunk_place(sizes: Sizes, i: usize) -> usize
-    requires { Within sizes × (i < 2 ^ 32) }
-    ensures { result ≡ set_chunk sizes i }
-{
-    sizes.chunks * sizes.chunks + 32 + 16 * sizes.chunks + i
-}
+    // Number k of the header.
+    pub fn head(self, k: usize) -> usize
+        requires { k < 2 ^ 32 }
+        ensures { result ≡ head self.sizes k }
+    {
+        self.sizes.chunks * self.sizes.chunks + k
+    }
 
-// Chunk x's side effects.
-pub fn side_place(sizes: Sizes, x: usize) -> usize
-    requires { Within sizes × (x < 2 ^ 32) }
-    ensures { result ≡ side sizes x }
-{
-    sizes.chunks * sizes.chunks + 32 + 18 * sizes.chunks + x
-}
+    // The first of the eight words of set i.
+    pub fn set(self, i: usize) -> usize
+        requires { i < 2 ^ 32 }
+        ensures { result ≡ set_place self.sizes i }
+    {
+        self.head(32) + 8 * i
+    }
 
-// Whether chunk x needs creation.
-pub fn need_place(sizes: Sizes, x: usize) -> usize
-    requires { Within sizes × (x < 2 ^ 32) }
-    ensures { result ≡ need sizes x }
-{
-    sizes.chunks * sizes.chunks + 32 + 19 * sizes.chunks + x
-}
+    // The chunk of set i.
+    pub fn set_chunk(self, i: usize) -> usize
+        requires { i < 2 ^ 32 }
+        ensures { result ≡ set_chunk self.sizes i }
+    {
+        self.head(32) + 16 * self.sizes.chunks + i
+    }
 
-// The chunk registered for key k.
-pub fn key_place(sizes: Sizes, k: usize) -> usize
-    requires { Within sizes × (k < 2 ^ 32) }
-    ensures { result ≡ key sizes k }
-{
-    sizes.chunks * sizes.chunks + 32 + 20 * sizes.chunks + k
-}
+    // Chunk x's side effects.
+    pub fn side(self, x: usize) -> usize
+        requires { x < 2 ^ 32 }
+        ensures { result ≡ side self.sizes x }
+    {
+        self.head(32) + 18 * self.sizes.chunks + x
+    }
 
-// The chunk that chunk x was merged into.
-pub fn into_place(sizes: Sizes, x: usize) -> usize
-    requires { Within sizes × (x < 2 ^ 32) }
-    ensures { result ≡ into sizes x }
-{
-    sizes.chunks * sizes.chunks + 32 + 21 * sizes.chunks + x
-}
+    // Whether chunk x needs creation.
+    pub fn need(self, x: usize) -> usize
+        requires { x < 2 ^ 32 }
+        ensures { result ≡ need self.sizes x }
+    {
+        self.head(32) + 19 * self.sizes.chunks + x
+    }
 
-// Module m's chunk.
-pub fn home_place(sizes: Sizes, m: usize) -> usize
-    requires { Within sizes × (m < 2 ^ 32) }
-    ensures { result ≡ home sizes m }
-{
-    sizes.chunks * sizes.chunks + 32 + 32 * sizes.chunks + m
-}
+    // The chunk registered for key k.
+    pub fn key(self, k: usize) -> usize
+        requires { k < 2 ^ 32 }
+        ensures { result ≡ key self.sizes k }
+    {
+        self.head(32) + 20 * self.sizes.chunks + k
+    }
 
-// The chunk of list entry i.
-pub fn entry_chunk_place(sizes: Sizes, i: usize) -> usize
-    requires { Within sizes × (i < 2 ^ 32) }
-    ensures { result ≡ entry_chunk sizes i }
-{
-    home_place(sizes, 0) + 32 * sizes.modules + i
-}
+    // The chunk that chunk x was merged into.
+    pub fn into(self, x: usize) -> usize
+        requires { x < 2 ^ 32 }
+        ensures { result ≡ into self.sizes x }
+    {
+        self.head(32) + 21 * self.sizes.chunks + x
+    }
 
-// The module of list entry i.
-pub fn entry_module_place(sizes: Sizes, i: usize) -> usize
-    requires { Within sizes × (i < 2 ^ 32) }
-    ensures { result ≡ entry_module sizes i }
-{
-    entry_chunk_place(sizes, 0) + sizes.entries + i
+    // Module m's chunk.
+    pub fn home(self, m: usize) -> usize
+        requires { m < 2 ^ 32 }
+        ensures { result ≡ home self.sizes m }
+    {
+        self.head(32) + 32 * self.sizes.chunks + m
+    }
+
+    // The chunk of list entry i.
+    pub fn entry_chunk(self, i: usize) -> usize
+        requires { i < 2 ^ 32 }
+        ensures { result ≡ entry_chunk self.sizes i }
+    {
+        self.home(0) + 32 * self.sizes.modules + i
+    }
+
+    // The module of list entry i.
+    pub fn entry_module(self, i: usize) -> usize
+        requires { i < 2 ^ 32 }
+        ensures { result ≡ entry_module self.sizes i }
+    {
+        self.entry_chunk(0) + self.sizes.entries + i
+    }
+
+    // Number k of an area's header: INITIAL, MADE, CREATED, SETS, USED or MODE.
+    pub fn header(self, area: &[u32], k: usize) -> u32
+        requires { (room self.sizes ≤ length area.now) × (k < 32) }
+        ensures { result ≡ cell area.now (head self.sizes k) }
+    {
+        area[self.head(k)]
+    }
 }

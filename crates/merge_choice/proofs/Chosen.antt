@@ -1,17 +1,10 @@
 -- Theorems on the definitions of specs/Chosen: they stand here, so that the crate can be read with a definition changed. Assumes nothing.
-use Rattle.std.specs.Prelude.{ℕ, zero, suc, ◌/◌, ◌%◌, ◌^◌, ◌<◌, ◌≤◌, ◌≡◌, refl, Bool, true, false, cond, ◌&&◌, ◌||◌, List, get_or, length, ltb, eqb}
-use Rattle.std.proofs.Common.{arith, ◌∙◌, eq-eqb, ne_eqb, ltb-true}
+use Rattle.std.specs.Prelude.{ℕ, ◌<◌, ◌≡◌, Bool, true, false, List}
+use Rattle.std.proofs.Common.{arith, ◌∙◌}
 use Rattle.std.proofs.Math.Path.{sym, ap}
-use Rattle.graphs.specs.Bools.{and_left, Same, it, other, same?}
 use Rattle.merge_state.specs.State.{None}
-use Rattle.merge_state.specs.Table.{Answer, refused, chunk, nothing}
-use Rattle.merge_choice.specs.Choice.{Lists, Lent, lists, bits, role, first_below, some_role, wins, first_target, unreached, leaks, strayed, polluted, guarded, user_target, dynamic_target, chosen, choice, built_in}
-use Rattle.merge_choice.specs.Find.{row23, told, find}
-use Rattle.merge_choice.specs.Spans.{Spans}
-use Rattle.merge_choice.specs.Named.{reads, Named, CanSetRoles, named-all, bits_le}
-use Rattle.merge_choice.specs.Search.{CanFirst}
-use Rattle.merge_choice.specs.Guards.{CanReach, CanLeakFrom, CanStray, CanPollute}
-use Rattle.merge_choice.specs.Rows.{Legal}
+use Rattle.merge_choice.specs.Choice.{Lists, lists, bits, wins, first_target, polluted, guarded, dynamic_target}
+use Rattle.merge_choice.specs.Named.{reads, bits_le}
 use Rattle.merge_choice.specs.Chosen.{first_in, none_found, barred, unbarred}
 
 -- so is an entry that wins

@@ -1,18 +1,12 @@
 -- Theorems on the definitions of specs/Classes: they stand here, so that the crate can be read with a definition changed. Assumes nothing.
-use Rattle.std.specs.Prelude.{ℕ, ◌/◌, ◌%◌, ◌<◌, ◌≡◌, refl, Bool, true, false, not, cond, ◌&&◌, ◌||◌, List, get_or, length, ltb, eqb}
-use Rattle.std.proofs.Common.{sym, ◌∙◌, eq-eqb, ne_eqb, eqb-true}
-use Rattle.std.proofs.Math.Path.{ap}
+use Rattle.std.specs.Prelude.{ℕ, ◌<◌, ◌≡◌, refl, Bool, false, not, cond, get_or, eqb}
+use Rattle.std.proofs.Common.{eqb-true}
 use Rattle.std.proofs.lemmas.Bool.{not-false}
-use Rattle.graphs.specs.Bools.{or_false_left, or_false_right}
 use Rattle.graphs.specs.Lists.{any, below, some_below, some_none}
-use Rattle.merge_state.specs.State.{misfit}
-use Rattle.merge_state.specs.Table.{Answer, refused, any_misfit, other_length}
-use Rattle.merge_state.specs.Kept.{no_misfit}
-use Rattle.merge_choice.specs.Choice.{Lent, choice, built_in}
-use Rattle.merge_choice.specs.Find.{row23, row25, told, find_by}
+use Rattle.merge_choice.specs.Choice.{built_in}
 use Rattle.merge_choice.specs.Classes.{user_kind}
 
--- the table's rule, one test over its eight rows: so "rows 0 and 2 are dynamic"
+-- the table's rule, one test over its eight rows: so rows 0 and 2 are dynamic
 abbrev off : ℕ → Bool
 off kind = not (eqb (get_or built_in kind 0) (cond (user_kind kind) 1 0))
 

@@ -1,16 +1,14 @@
 -- Theorems on the definitions of specs/Guards: they stand here, so that the crate can be read with a definition changed. Assumes nothing.
-use Rattle.std.specs.Prelude.{ℕ, ◌<◌, ◌≤◌, ◌≡◌, refl, Bool, true, false, ◌&&◌, ◌||◌, List, get_or, length}
+use Rattle.std.specs.Prelude.{ℕ, ◌≡◌, refl, Bool, true, false, ◌&&◌, ◌||◌, List, get_or, length}
 use Rattle.std.proofs.Common.{sym, ◌∙◌}
 use Rattle.std.proofs.Math.Path.{ap, fun_ext}
 use Rattle.std.proofs.Math.Bool.{not, cond}
 use Rattle.std.proofs.Math.Dec.{eqb}
-use borrow.Author.Tests.{eq-eqb, ne_eqb, eqb-true}
+use borrow.Author.Tests.{eqb-true}
 use Rattle.graphs.specs.Bools.{alike, and_left, and_right, and_both}
 use Rattle.graphs.specs.Lists.{some_below, some_give, some_take}
-use Rattle.merge_state.specs.State.{flag}
-use Rattle.merge_choice.specs.Choice.{lists, size, some_from, some_of, some_in, in_list, unreached, leaks, there, strayed, dynamic_module, pollutes, polluted}
-use Rattle.merge_choice.specs.Spans.{Span}
-use Rattle.merge_choice.specs.Marks.{Marked, hits, all, part, empty, dynamic}
+use Rattle.merge_choice.specs.Choice.{lists, size, some_from, some_of, some_in, in_list, there, strayed}
+use Rattle.merge_choice.specs.Marks.{Marked, hits, all, part, empty}
 use Rattle.merge_choice.specs.Named.{reads}
 use Rattle.merge_choice.specs.Guards.{stands, outside, one_or_none, Zero}
 

@@ -1,18 +1,15 @@
 -- Theorems on the definitions of specs/Search: they stand here, so that the crate can be read with a definition changed. Assumes nothing.
-use Prim.Native.Nat.{ℕ, zero, suc, ◌+◌, ◌<◌, ◌≤◌}
-use Rattle.std.proofs.Common.{arith, add-one, sym, ◌∙◌, subst}
-use Rattle.std.specs.Prelude.{◌≡◌, Bool, true, false, ◌&&◌, ◌||◌, List, length}
+use Prim.Native.Nat.{ℕ, ◌+◌, ◌≤◌}
+use Rattle.std.proofs.Common.{arith, ◌∙◌}
+use Rattle.std.specs.Prelude.{◌≡◌, Bool, true, false, ◌&&◌, ◌||◌, List}
 use Rattle.std.proofs.Math.Path.{refl, ap, fun_ext}
 use Rattle.std.proofs.Math.Bool.{not, cond}
 use Rattle.std.proofs.Math.ListN.{get_or}
 use Rattle.std.proofs.Math.Dec.{eqb}
 use borrow.Author.Tests.{eq-eqb, ne_eqb}
-use Rattle.graphs.specs.Bools.{Same, it, other, same?}
 use Rattle.graphs.specs.Lists.{some_below}
-use Rattle.merge_state.specs.State.{None}
-use Rattle.merge_choice.specs.Choice.{lists, size, some_from, in_list, first_below, imports, wins}
-use Rattle.merge_choice.specs.Spans.{Span}
-use Rattle.merge_choice.specs.Marks.{Marked, hits, all, part, CanMarkList}
+use Rattle.merge_choice.specs.Choice.{lists, size, some_from, in_list, imports, wins}
+use Rattle.merge_choice.specs.Marks.{Marked, hits, all, part}
 use Rattle.merge_choice.specs.Named.{reads}
 use Rattle.merge_choice.specs.Search.{misses, CanWin, Won}
 

@@ -5,7 +5,7 @@ use Rattle.std.proofs.Math.Path.{sym, ap}
 use Rattle.graphs.specs.Bools.{and_left, Same, it, other, same?}
 use Rattle.merge_state.specs.State.{None}
 use Rattle.merge_state.specs.Table.{Answer, refused, chunk, nothing}
-use Rattle.merge_choice.specs.Choice.{Lists, Lent, lists, bits, role, first_below, some_role, wins, first_target, unreached, leaks, strayed, polluted, guarded, user_target, dynamic_target, chosen, choice, built_in}
+use Rattle.merge_choice.specs.Choice.{Lists, Lent, lists, bits, role, first_below, some_role, first_target, unreached, leaks, strayed, guarded, user_target, dynamic_target, chosen, choice, built_in}
 use Rattle.merge_choice.specs.Find.{row23, told, find}
 use Rattle.merge_choice.specs.Spans.{Spans}
 use Rattle.merge_choice.specs.Named.{reads, Named, CanSetRoles, named-all, bits_le}
@@ -214,7 +214,7 @@ module _ {k m : ℕ} {kinds : List ℕ} {l : Lent} (ok : Legal k m kinds l) wher
         pub among-dynamic : {r : ℕ} → b ≡ false → r ≡ dynamic_target (reads roles) k l.entries l.static l.exports l.candidate → r ≡ choice classes kinds set l
         among-dynamic {r} h f = f ∙ dynamic_picked h ∙ by_roles
 
--- the answer in document 01's terms
+-- a target, or none, as an answer
 pub told_none : (x : ℕ) → x ≡ None → nothing ≡ told x
 unfolding told
 told_none x h = rw (eq-eqb x None h)

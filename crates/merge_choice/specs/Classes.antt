@@ -1,17 +1,17 @@
--- The classes of the entry kinds: the built-in table, and a bank's own. Sentences quoted are document 02's, (i) and (iv). Assumes nothing.
-use Rattle.std.specs.Prelude.{ℕ, ◌/◌, ◌%◌, ◌<◌, ◌≡◌, refl, Bool, true, false, not, cond, ◌&&◌, ◌||◌, List, get_or, length, ltb, eqb}
-use Rattle.std.proofs.Common.{sym, ◌∙◌, eq-eqb, ne_eqb, eqb-true}
+-- The classes of the entry kinds: the built-in table, and a bank's own. Assumes nothing.
+use Rattle.std.specs.Prelude.{ℕ, ◌/◌, ◌%◌, ◌<◌, ◌≡◌, refl, Bool, true, false, not, ◌&&◌, ◌||◌, List, get_or, length, eqb}
+use Rattle.std.proofs.Common.{◌∙◌, eq-eqb, ne_eqb, eqb-true}
 use Rattle.std.proofs.Math.Path.{ap}
 use Rattle.std.proofs.lemmas.Bool.{not-false}
 use Rattle.graphs.specs.Bools.{or_false_left, or_false_right}
-use Rattle.graphs.specs.Lists.{any, below, some_below, some_none}
+use Rattle.graphs.specs.Lists.{any, below, some_none}
 use Rattle.merge_state.specs.State.{misfit}
 use Rattle.merge_state.specs.Table.{Answer, refused, any_misfit, other_length}
 use Rattle.merge_state.specs.Kept.{no_misfit}
 use Rattle.merge_choice.specs.Choice.{Lent, choice, built_in}
 use Rattle.merge_choice.specs.Find.{row23, row25, told, find_by}
 
--- "1 for UserDefinedEntry plus 2 for DynamicImported plus 4 for EmittedChunk"; "Entries with UserDefinedEntry or EmittedChunk are user entries"
+-- a kind with UserDefinedEntry, which is its 1, or EmittedChunk, its 4
 unfoldable pub user_kind : ℕ → Bool
 user_kind kind = eqb (kind % 2) 1 || eqb (kind / 4 % 2) 1
 

@@ -1,16 +1,15 @@
 -- What bars a target, read from tables of marks. Assumes nothing.
-use Rattle.std.specs.Prelude.{ℕ, ◌<◌, ◌≤◌, ◌≡◌, refl, Bool, true, false, ◌&&◌, ◌||◌, List, get_or, length}
-use Rattle.std.proofs.Common.{sym, ◌∙◌}
+use Rattle.std.specs.Prelude.{ℕ, ◌<◌, ◌≤◌, ◌≡◌, refl, Bool, true, false, ◌&&◌, List, get_or, length}
+use Rattle.std.proofs.Common.{◌∙◌}
 use Rattle.std.proofs.Math.Path.{ap, fun_ext}
 use Rattle.std.proofs.Math.Bool.{not, cond}
 use Rattle.std.proofs.Math.Dec.{eqb}
-use borrow.Author.Tests.{eq-eqb, ne_eqb, eqb-true}
-use Rattle.graphs.specs.Bools.{alike, and_left, and_right, and_both}
-use Rattle.graphs.specs.Lists.{some_below, some_give, some_take}
+use borrow.Author.Tests.{eq-eqb, ne_eqb}
+use Rattle.graphs.specs.Lists.{some_below}
 use Rattle.merge_state.specs.State.{flag}
-use Rattle.merge_choice.specs.Choice.{lists, size, some_from, some_of, some_in, in_list, unreached, leaks, there, strayed, dynamic_module, pollutes, polluted}
+use Rattle.merge_choice.specs.Choice.{lists, size, some_from, some_of, some_in, in_list, unreached, leaks, dynamic_module, pollutes, polluted}
 use Rattle.merge_choice.specs.Spans.{Span}
-use Rattle.merge_choice.specs.Marks.{Marked, hits, all, part, empty, dynamic}
+use Rattle.merge_choice.specs.Marks.{Marked, hits, all, part, dynamic}
 use Rattle.merge_choice.specs.Named.{reads}
 
 -- v stands in the table at y
@@ -43,20 +42,12 @@ pub record CanLeakFrom (k : ℕ) (roles starts reached : List ℕ) : Type 0 wher
   pub spans : (x : ℕ) → x < k → Span starts reached x
   pub below : (i : ℕ) → i < length reached → get_or reached i 0 < length roles
 
-pub record CanStrayList (candidate starts items marks : List ℕ) : Type 0 where
-  pub spans : (i : ℕ) → i < length candidate → Span starts items (get_or candidate i 0)
-  pub below : (i : ℕ) → i < length items → get_or items i 0 < length marks
-
 pub record CanStray (homes modules starts items candidate : List ℕ) (t : ℕ) : Type 0 where
   pub home : Span homes modules t
   pub inside : (i : ℕ) → i < length modules → get_or modules i 0 < 4096
   pub spans : (i : ℕ) → i < length candidate → Span starts items (get_or candidate i 0)
   pub below : (i : ℕ) → i < length items → get_or items i 0 < 4096
   pub own : (i : ℕ) → i < length candidate → get_or candidate i 0 < 4096
-
-pub record CanPolluteBy (exports marks candidate : List ℕ) : Type 0 where
-  pub flagged : (i : ℕ) → i < length candidate → get_or candidate i 0 < length exports
-  pub marked : (i : ℕ) → i < length candidate → get_or candidate i 0 < length marks
 
 pub record CanPollute (n : ℕ) (roles entries exports candidate : List ℕ) (t : ℕ) : Type 0 where
   pub named : n ≤ length roles

@@ -1,5 +1,5 @@
 -- Numbers of lists marked in a table. Assumes nothing.
-use Rattle.std.specs.Prelude.{ℕ, ◌+◌, ◌-◌, ◌<◌, ◌≤◌, ◌≡◌, refl, Bool, true, false, cond, ◌&&◌, ◌||◌, List, get_or, length, set, eqb, leb}
+use Rattle.std.specs.Prelude.{ℕ, ◌+◌, ◌-◌, ◌<◌, ◌≡◌, refl, Bool, true, false, cond, ◌&&◌, ◌||◌, List, get_or, length, set, eqb, leb}
 use Rattle.std.proofs.Common.{arith, add-one, sym, ap, ◌∙◌, subst, length-set, get_or-set_same, get_or-set_other, eq-eqb, ne_eqb, eqb-true, leb-true, le-leb}
 use Rattle.graphs.specs.Bools.{Same, it, other, same?, alike}
 use Rattle.graphs.specs.Lists.{some_below, some_suc, some_zero}
@@ -46,10 +46,6 @@ all i = true
 abbrev pub part : List ℕ → ℕ → ℕ → ℕ
 part items from i = get_or items (from + i) 0
 
-pub record CanMark (items : List ℕ) (from n : ℕ) (marks : List ℕ) : Type 0 where
-  pub inside : from + n ≤ length items
-  pub below : (i : ℕ) → i < n → get_or items (from + i) 0 < length marks
-
 pub record CanMarkList (starts items : List ℕ) (x : ℕ) (marks : List ℕ) : Type 0 where
   pub span : Span starts items x
   pub below : (i : ℕ) → i < length items → get_or items i 0 < length marks
@@ -58,17 +54,8 @@ pub record CanMarkList (starts items : List ℕ) (x : ℕ) (marks : List ℕ) : 
 abbrev pub empty : List ℕ → List ℕ → ℕ → Bool
 empty candidate starts i = eqb (size (lists starts starts) (get_or candidate i 0)) 0
 
-pub record CanMarkFree (candidate starts marks : List ℕ) : Type 0 where
-  pub next : (i : ℕ) → i < length candidate → get_or candidate i 0 + 1 < length starts
-  pub below : (i : ℕ) → i < length candidate → get_or candidate i 0 < length marks
-
 abbrev pub dynamic : List ℕ → ℕ → Bool
 dynamic roles d = eqb (get_or roles d 0) 1
-
-pub record CanMarkEntries (n : ℕ) (roles entries marks : List ℕ) : Type 0 where
-  pub named : n ≤ length roles
-  pub listed : n ≤ length entries
-  pub below : (d : ℕ) → d < n → get_or roles d 0 ≡ 1 → get_or entries d 0 < length marks
 
 -- all numbers are put
 pub marked-end : {g : ℕ → Bool} {f : ℕ → ℕ} {v i n : ℕ} {l₀ l : List ℕ} → i ≡ n → Marked g f i v l₀ l → Marked g f n v l₀ l

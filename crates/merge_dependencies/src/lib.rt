@@ -2,15 +2,15 @@
 #![tactic(auto)]
 
 ghost use Rattle.std.specs.Prelude.{◌≡◌, ◌+◌, ◌*◌, ◌<◌, length, get_or, set};
-ghost use Rattle.merge_area.specs.Writes.{link, linked, calc_area, union_cell, merged_rows, absorb_area, record_area, merge_area};
+ghost use Rattle.merge_area.specs.Writes.{link, linked, calc_area, union_cell, merged_rows, absorb_area, merge_area};
 ghost use Rattle.merge_laws.specs.Can.{CanLink, CanLinked, CanCalc, CanMerge, CanMergeArea};
 
-use merge_area::header;
-use merge_area::places::{
-    MODE, entry_chunk_place, entry_module_place, home_place, into_place, side_place,
-};
+use merge_area::places::{MODE, Places};
 use merge_state::{ChunkIdx, NONE, Sizes};
 use merge_writes::or_flag;
+
+// stays: sizes, and the area that is written, as in merge_writes.
+// stays: the flags are a square of u32, and chunks and modules are u32, in the area that C lends.
 
 // Chunk x depends on chunk y, if y isn't NONE nor x.
 #[tactic(auto, unfolding(merge_area::specs::Writes::link))]
@@ -29,20 +29,23 @@ fn add_links(sizes: Sizes, area: &mut [u32], x: u32, dependencies: &[u32])
     requires { CanLinked sizes area.old dependencies.now x 0 (length dependencies.now) }
     ensures { area.new ≡ linked sizes dependencies.now x 0 area.old (length dependencies.now) }
 {
+    let places = Places { sizes };
     for &m in dependencies {
-        let y = area[home_place(sizes, m as usize)];
+        let y = area[places.home(m as usize)];
         add_link(sizes, area, x, y);
     }
 }
 
 // Each listed module's chunk depends on the chunks of the module's dependencies.
+// stays: starts beside dependencies, as C lends them to the call: a struct of them would be made for this call and that of its row: no plainer.
 pub fn calculate(sizes: Sizes, area: &mut [u32], starts: &[u32], dependencies: &[u32], used: usize)
     requires { CanCalc sizes area.old starts.now dependencies.now used }
     ensures { area.new ≡ calc_area sizes starts.now dependencies.now area.old used }
 {
+    let places = Places { sizes };
     for i in 0..used {
-        let m = area[entry_module_place(sizes, i)] as usize;
-        let x = area[entry_chunk_place(sizes, i)];
+        let m = area[places.entry_module(i)] as usize;
+        let x = area[places.entry_chunk(i)];
         let from = starts[m] as usize;
         let end = starts[m + 1] as usize;
         add_links(sizes, area, x, &dependencies[from..end]);
@@ -58,6 +61,7 @@ fn union_of(a: u32, b: u32, y: usize, target: usize) -> u32
 }
 
 // Number y of both rows.
+// stays: two indices into one list. Two rows are lent at once only by splitting it, at a place that depends on which row is lower: no plainer.
 fn merge_cell(flags: &mut [u32], c: usize, target: usize, source: usize, y: usize)
     requires { (target * c + y < length flags.old) × (source * c + y < length flags.old) }
     ensures { flags.new ≡ set (set flags.old (target * c + y) (union_cell (get_or flags.old (target * c + y) 0) (get_or flags.old (source * c + y) 0) y target)) (source * c + y) 0 }
@@ -83,30 +87,23 @@ fn absorb(sizes: Sizes, area: &mut [u32], target: ChunkIdx, source: ChunkIdx)
     requires { CanMergeArea sizes area.old target.0 source.0 }
     ensures { area.new ≡ absorb_area sizes area.old target.0 source.0 }
 {
-    let kept = side_place(sizes, target.0 as usize);
-    let taken = side_place(sizes, source.0 as usize);
+    let places = Places { sizes };
+    let kept = places.side(target.0 as usize);
+    let taken = places.side(source.0 as usize);
     let effects = or_flag(area[kept], area[taken] != 0);
     merge_rows(area, sizes.chunks, target.0 as usize, source.0 as usize);
     area[kept] = effects;
 }
 
-// Where merged chunks stand for their target, the source is recorded as merged into it.
-#[tactic(auto, unfolding(merge_area::specs::Writes::record_area, merge_area::specs::Read::mode_in))]
-fn record_merge(sizes: Sizes, area: &mut [u32], target: ChunkIdx, source: ChunkIdx)
-    requires { CanMergeArea sizes area.old target.0 source.0 }
-    ensures { area.new ≡ record_area sizes area.old target.0 source.0 }
-{
-    if header(sizes, area, MODE) != 0 {
-        area[into_place(sizes, source.0 as usize)] = target.0;
-    }
-}
-
-// The target takes over the source's dependencies and side effects.
-#[tactic(auto, unfolding(merge_area::specs::Writes::merge_area))]
+// The target takes over the source's dependencies and side effects. Where merged chunks stand for their target, the merge is recorded.
+#[tactic(auto, unfolding(merge_area::specs::Writes::merge_area, merge_area::specs::Writes::record_area, merge_area::specs::Read::mode_in))]
 pub fn merge(sizes: Sizes, area: &mut [u32], target: ChunkIdx, source: ChunkIdx)
     requires { CanMergeArea sizes area.old target.0 source.0 }
     ensures { area.new ≡ merge_area sizes area.old target.0 source.0 }
 {
     absorb(sizes, area, target, source);
-    record_merge(sizes, area, target, source);
+    let places = Places { sizes };
+    if places.header(area, MODE) != 0 {
+        area[places.into(source.0 as usize)] = target.0;
+    }
 }

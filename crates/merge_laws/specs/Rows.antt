@@ -6,6 +6,7 @@ use Rattle.std.proofs.Math.Bool.{true, false}
 use Rattle.graphs.specs.Bools.{or_false_left, or_false_right}
 use Rattle.refusals.specs.declared.Refusal.{Refusal}
 use Rattle.refusals.specs.Rows.{row}
+pub use Rattle.refusals.specs.Rows.{row_some}
 use Rattle.merge_state.specs.declared.Sizes.{Sizes}
 use borrow.Author.Tests.{leb-false}
 use Rattle.merge_state.specs.Table.{register_chunk_graph_index, Answer, refused, Call, first_fitting, over_lists, bad_lists, later, acted, turned}
@@ -46,10 +47,6 @@ module _ (l : List (Bool × ℕ)) where
   go_on false true b₃ h = absurd (omega arith)
   go_on false false true h = absurd (omega arith)
   go_on false false false h = refl
-
--- no row has number 0
-pub row_some : (r : Refusal) → row r ≡ 0 → ⊥
-row_some r h = grind arith
 
 module _ (z : Sizes) (a : List ℕ) (c : Call) where
   -- rows 14, 15 and 21 refuse the call

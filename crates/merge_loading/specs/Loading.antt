@@ -1,4 +1,4 @@
--- `new`: the area after a loading, and the rows that refuse one. Sentences quoted are document 01's. Assumes nothing.
+-- `new`: the area after a loading, and the rows that refuse one. Assumes nothing.
 use Rattle.std.specs.Prelude.{ℕ, zero, suc, ◌*◌, ◌≡◌, cond, ◌||◌, List, ◌∷◌, get_or, length, set, replicate, ltb}
 use Rattle.graphs.specs.Count.{ind}
 use Rattle.graphs.specs.Tab.{tab}
@@ -25,7 +25,7 @@ lent_by l = lent l.initial l.starts.now l.modules.now l.sets.now l.chunks.now l.
 unfoldable pub mode_area : Sizes → ℕ → List ℕ → List ℕ
 mode_area z m a = set (patch (into z 0) (replicate z.chunks None) a) (head z 5) (ind (yes m))
 
--- "Initial chunks have equal indices in both graphs": the chunk first registered for key k, of i initial chunks
+-- the chunk first registered for key k, of i initial chunks, which have their keys as numbers
 abbrev pub first_key : ℕ → ℕ → ℕ
 first_key i k = cond (ltb k i) k None
 
@@ -55,11 +55,11 @@ listed_area z i starts modules effects a zero = a
 listed_area z i starts modules effects a (suc k) =
     append_area z (listed_area z i starts modules effects a k) (lister starts i k) (get_or modules k 0) (flag effects (get_or modules k 0))
 
--- "`new` takes each initial chunk's modules and pairs (set, chunk), distinct sets"
+-- the whole area: each initial chunk's modules are listed, and its sets are named
 unfoldable pub loaded_area : Sizes → Lent → List ℕ → List ℕ
 loaded_area z n a = listed_area z n.initial n.starts n.modules n.effects (bare_area z n.initial n.flat n.chunks (mode_area z n.mode a)) (length n.modules)
 
--- "Merge calls check 14, 15; at loading then 16, 17, 19"
+-- the row that refuses a loading: 14, 15, then 16, 17, 19
 unfoldable pub load_refusal : Sizes → Lent → List ℕ → ℕ
 load_refusal z n a = first_fitting ((over z || over_load z n, 14) ∷ (bad_load z n || short z a, 15) ∷ later_load z n)
 

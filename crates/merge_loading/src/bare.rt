@@ -6,27 +6,26 @@ ghost use Rattle.layout.specs.Patch.{patch};
 ghost use Rattle.entry_set.specs.Sets.{number};
 ghost use Rattle.entry_set.specs.Lanes.{set_lanes};
 ghost use Rattle.merge_area.specs.Layout.{room, set_place, set_chunk};
-ghost use Rattle.merge_area.specs.Within.{Within};
 ghost use Rattle.merge_loading.specs.Loading.{mode_area, first_key, cleared_area, headed_area, named_area, bare_area};
 ghost use Rattle.merge_loading.specs.Bare.{CanName};
 
 use crate::Loading;
 use entry_set::{EntrySet, set_width};
 use layout::fill_with;
-use merge_area::places::{
-    CREATED, INITIAL, MADE, MODE, SETS, USED, head_place, home_place, into_place, key_place,
-    set_chunk_place, set_place, side_place,
-};
+use merge_area::places::{CREATED, INITIAL, MADE, MODE, Places, SETS, USED};
 use merge_state::{NONE, Sizes};
+
+// stays: sizes or places, and the area that is written, as in merge_writes: so each asks that the area is as long as they say.
+// stays: keys, chunks and the header's numbers are u32 in the area that C lends.
 
 // The mode, and no merge.
 #[tactic(auto, unfolding(crate::specs::Loading::mode_area))]
-pub fn write_mode(sizes: Sizes, area: &mut [u32], follows_merges: bool)
-    requires { Within sizes × (room sizes ≤ length area.old) }
-    ensures { area.new ≡ mode_area sizes (ind follows_merges) area.old }
+pub fn write_mode(places: Places, area: &mut [u32], follows_merges: bool)
+    requires { room places.sizes ≤ length area.old }
+    ensures { area.new ≡ mode_area places.sizes (ind follows_merges) area.old }
 {
-    fill_with(area, into_place(sizes, 0), sizes.chunks, NONE);
-    area[head_place(sizes, MODE)] = u32::from(follows_merges);
+    fill_with(area, places.into(0), places.sizes.chunks, NONE);
+    area[places.head(MODE)] = u32::from(follows_merges);
 }
 
 // The chunk first registered for key k: k itself where that is an initial chunk, else NONE.
@@ -49,23 +48,24 @@ fn write_keys(area: &mut [u32], at: usize, c: usize, initial: usize)
 
 // No dependency, side effect or need of creation, no module's chunk, and the first keys.
 #[tactic(auto, unfolding(crate::specs::Loading::cleared_area))]
-fn clear(sizes: Sizes, area: &mut [u32], initial: usize)
-    requires { Within sizes × (room sizes ≤ length area.old) }
-    ensures { area.new ≡ cleared_area sizes initial area.old }
+fn clear(places: Places, area: &mut [u32], initial: usize)
+    requires { room places.sizes ≤ length area.old }
+    ensures { area.new ≡ cleared_area places.sizes initial area.old }
 {
+    let sizes = places.sizes;
     fill_with(area, 0, sizes.chunks * sizes.chunks, 0);
-    fill_with(area, side_place(sizes, 0), 2 * sizes.chunks, 0);
-    write_keys(area, key_place(sizes, 0), sizes.chunks, initial);
-    fill_with(area, home_place(sizes, 0), sizes.modules, NONE);
+    fill_with(area, places.side(0), 2 * sizes.chunks, 0);
+    write_keys(area, places.key(0), sizes.chunks, initial);
+    fill_with(area, places.home(0), sizes.modules, NONE);
 }
 
 // The header.
 #[tactic(auto, unfolding(crate::specs::Loading::headed_area))]
-fn write_header(sizes: Sizes, area: &mut [u32], initial: u32, pairs: u32)
-    requires { Within sizes × (room sizes ≤ length area.old) }
-    ensures { area.new ≡ headed_area sizes initial pairs area.old }
+fn write_header(places: Places, area: &mut [u32], initial: u32, pairs: u32)
+    requires { room places.sizes ≤ length area.old }
+    ensures { area.new ≡ headed_area places.sizes initial pairs area.old }
 {
-    let head = head_place(sizes, 0);
+    let head = places.head(0);
     area[head + INITIAL] = initial;
     area[head + MADE] = initial;
     area[head + CREATED] = 0;
@@ -74,22 +74,22 @@ fn write_header(sizes: Sizes, area: &mut [u32], initial: u32, pairs: u32)
 }
 
 // Pair k.
-fn write_pair(sizes: Sizes, area: &mut [u32], k: usize, named: EntrySet, chunk: u32)
-    requires { Within sizes × (room sizes ≤ length area.old) × (k < sizes.chunks) }
-    ensures { area.new ≡ set (set_lanes area.old (set_place sizes k) 1 (number named)) (set_chunk sizes k) chunk }
+fn write_pair(places: Places, area: &mut [u32], k: usize, named: EntrySet, chunk: u32)
+    requires { (room places.sizes ≤ length area.old) × (k < places.sizes.chunks) }
+    ensures { area.new ≡ set (set_lanes area.old (set_place places.sizes k) 1 (number named)) (set_chunk places.sizes k) chunk }
 {
-    named.write_lanes(area, set_place(sizes, k), 1);
-    area[set_chunk_place(sizes, k)] = chunk;
+    named.write_lanes(area, places.set(k), 1);
+    area[places.set_chunk(k)] = chunk;
 }
 
 // All pairs.
-fn write_pairs(sizes: Sizes, area: &mut [u32], loading: &Loading)
-    requires { CanName sizes loading.now.sets.now loading.now.chunks.now area.old }
-    ensures { area.new ≡ named_area sizes loading.now.sets.now loading.now.chunks.now area.old (length loading.now.chunks.now) }
+fn write_pairs(places: Places, area: &mut [u32], loading: &Loading)
+    requires { CanName places.sizes loading.now.sets.now loading.now.chunks.now area.old }
+    ensures { area.new ≡ named_area places.sizes loading.now.sets.now loading.now.chunks.now area.old (length loading.now.chunks.now) }
 {
-    let w = set_width(sizes.bits);
+    let w = set_width(places.sizes.bits);
     for (k, &chunk) in loading.chunks.iter().enumerate() {
-        write_pair(sizes, area, k, EntrySet::at(loading.sets, w, k), chunk);
+        write_pair(places, area, k, EntrySet::at(loading.sets, w, k), chunk);
     }
 }
 
@@ -99,12 +99,13 @@ pub fn write_bare(sizes: Sizes, area: &mut [u32], loading: &Loading)
     requires { CanName sizes loading.now.sets.now loading.now.chunks.now area.old × (loading.now.initial ≤ sizes.chunks) }
     ensures { area.new ≡ bare_area sizes loading.now.initial loading.now.sets.now loading.now.chunks.now area.old }
 {
-    clear(sizes, area, loading.initial);
+    let places = Places { sizes };
+    clear(places, area, loading.initial);
     write_header(
-        sizes,
+        places,
         area,
         loading.initial as u32,
         loading.chunks.len() as u32,
     );
-    write_pairs(sizes, area, loading);
+    write_pairs(places, area, loading);
 }

@@ -6,7 +6,10 @@ ghost use Rattle.merge_loading.specs.Rows.{CanLoad};
 
 use crate::Loading;
 use crate::bare::{write_bare, write_mode};
+use merge_area::places::Places;
 use merge_state::{ChunkIdx, ModuleIdx, Sizes};
+
+// stays: sizes, and the area that is written, as in merge_writes.
 
 // Each module of a list is listed with the chunk.
 #[tactic(auto, unfolding(crate::specs::Listing::with_area))]
@@ -37,7 +40,7 @@ pub fn load(sizes: Sizes, area: &mut [u32], loading: &Loading)
     requires { CanLoad sizes (lent_by loading.now) area.old }
     ensures { area.new ≡ loaded_area sizes (lent_by loading.now) area.old }
 {
-    write_mode(sizes, area, loading.follows_merges);
+    write_mode(Places { sizes }, area, loading.follows_merges);
     write_bare(sizes, area, loading);
     list_modules(sizes, area, loading);
 }

@@ -11,6 +11,7 @@ ghost use Rattle.merge_loading.specs.Listing.{CanPart, modules_of};
 
 // How many initial chunks there are; each one's modules, modules[starts[x]..starts[x + 1]] those of chunk x; pairs of a set and a chunk; which modules have
 // side effects, and whether merged chunks stand for their target.
+// stays: Clone and Copy alone, as nobody compares or prints lent lists; the flag is a fact of its own, beside no value.
 #[derive(Clone, Copy)]
 pub struct Loading<'l> {
     pub initial: usize,

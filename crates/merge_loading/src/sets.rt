@@ -22,6 +22,7 @@ pub fn any_illegal(sets: &[u64], w: usize, p: usize, e: usize) -> bool
 }
 
 // Two of the first p sets are equal.
+// stays: local arrays, as memory is fixed and nothing is on the heap. A list of sets has its w and how many it holds beside it, as C lends it.
 #[tactic(auto, using(merge_area::specs::Twice::twice_is))]
 pub fn any_twice(sets: &[u64], w: usize, p: usize) -> bool
     requires { (w ≤ 4) × (p * w ≤ length sets.now) × (p ≤ 1024) }
@@ -29,5 +30,6 @@ pub fn any_twice(sets: &[u64], w: usize, p: usize) -> bool
 {
     let mut lanes = [0u32; 8192];
     let mut order = [0u32; 1024];
-    !equal_sets::are_distinct(sets, w, p, 1024, &mut lanes, &mut order)
+    let mut scratch = [0u32; 1024];
+    !equal_sets::are_distinct(sets, w, p, 1024, &mut lanes, &mut order, &mut scratch)
 }

@@ -16,7 +16,7 @@ use Rattle.merge_reads.specs.Pass.{CanPlace}
 use Rattle.merge_pass.specs.declared.Placed.{Placed}
 use Rattle.merge_pass.specs.Turns.{kind_of, number_of, kind_in, number_in, PlacedIn, CanAnswer, CanTurn, TurnedIn}
 
--- "Merged if proposed, unwarned and unbarred", test by test
+-- merged if proposed, unwarned and unbarred, test by test
 module _ (g : Graph) (x p b : ℕ) where
   pub not_proposed : p ≡ None → false ≡ merges g x p b
   unfolding merges

@@ -14,7 +14,7 @@ use Rattle.merge_reads.specs.Pass.{CanPlace}
 use Rattle.merge_pass.specs.declared.Placed.{Placed}
 use Rattle.merge_pass.specs.declared.Placed.TheVariants.{Merged, Created}
 
--- "kind (0 merged, 1 created) and number" of candidate x with proposal p and bar b
+-- the kind, 0 merged or 1 created, and the number of candidate x with proposal p and bar b
 unfoldable pub kind_of : Graph → ℕ → ℕ → ℕ → ℕ
 kind_of g x p b = cond (merges g x p b) 0 1
 

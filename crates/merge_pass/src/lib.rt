@@ -10,8 +10,8 @@ ghost use Rattle.merge_area.specs.Read.{read};
 ghost use Rattle.merge_reads.specs.Pass.{CanPlace};
 ghost use Rattle.merge_pass.specs.Turns.{kind_in, number_in, PlacedIn, CanPass, PassedIn};
 
-use merge_area::places::{CREATED, INITIAL, MADE};
-use merge_area::{Area, header};
+use merge_area::Area;
+use merge_area::places::{CREATED, INITIAL, MADE, Places};
 use merge_questions::warns;
 use merge_state::{ChunkIdx, Sizes};
 
@@ -52,6 +52,8 @@ fn may_merge(area: &Area, x: ChunkIdx, p: ChunkIdx, barred: bool) -> bool
     !barred && !warns(area, x, p)
 }
 
+// stays: sizes, and the area that is written, as in merge_writes. Proposals, bars, kinds and numbers are four lists of u32 that C lends.
+
 // Candidate x is merged into its proposal, or created.
 fn place(
     sizes: Sizes,
@@ -73,7 +75,8 @@ fn place(
             Placed::Merged(p)
         }
         _ => {
-            let number = header(sizes, area, INITIAL) + header(sizes, area, CREATED);
+            let places = Places { sizes };
+            let number = places.header(area, INITIAL) + places.header(area, CREATED);
             merge_writes::create(sizes, area, x);
             Placed::Created(number)
         }
@@ -81,6 +84,7 @@ fn place(
 }
 
 // Every chunk that waits for creation, in rising index.
+// stays: j goes on only where a chunk waits, and is the place in four lists: as an iterator over all four it would be advanced by hand at the same line: no plainer.
 pub fn commit(
     sizes: Sizes,
     area: &mut [u32],
@@ -92,7 +96,7 @@ pub fn commit(
     requires { CanPass sizes area.old proposals.now bars.now kinds.old numbers.old }
     ensures { PassedIn sizes area.old proposals.now bars.now area.new kinds.new numbers.new }
 {
-    let made = header(sizes, area, MADE) as usize;
+    let made = Places { sizes }.header(area, MADE) as usize;
     let mut j = 0;
     for k in 0..made {
         let standing = Area {

@@ -1,7 +1,7 @@
 // The two questions about an area's graph, whether or not merged chunks stand for their target there.
 #![tactic(auto)]
 
-ghost use Rattle.std.specs.Prelude.{◌≡◌, ◌<◌, ◌≤◌, length, true};
+ghost use Rattle.std.specs.Prelude.{◌≡◌, ◌<◌, length, true};
 ghost use Rattle.merge_state.specs.Methods.{warn, reachable};
 ghost use Rattle.merge_area.specs.Layout.{cell, head};
 ghost use Rattle.merge_area.specs.Read.{read, mode_in};
@@ -10,10 +10,12 @@ ghost use Rattle.merge_questions.specs.Lent.{FlagsOf, EndsOf};
 
 use graph_walks::FlagRows;
 use graph_walks::end_rows::EndRows;
+use merge_area::Area;
 use merge_area::merges::find_ends;
-use merge_area::places::MADE;
-use merge_area::{Area, header};
+use merge_area::places::{MADE, Places};
 use merge_state::{ChunkIdx, Sizes};
+
+// stays: local arrays, as memory is fixed and nothing is on the heap.
 
 // The flags of the chunks that are made.
 fn flag_rows<'a>(area: &Area<'a>) -> FlagRows<'a>
@@ -27,6 +29,7 @@ fn flag_rows<'a>(area: &Area<'a>) -> FlagRows<'a>
 }
 
 // The same with the ends of merges, and the two chunks that are asked about.
+// stays: sizes and numbers, not an Area: with one the proof doesn't close, since the ends are lent for a shorter time than the area (tried).
 fn end_rows<'a>(
     sizes: Sizes,
     numbers: &'a [u32],
@@ -34,10 +37,11 @@ fn end_rows<'a>(
     target: ChunkIdx,
     ends: &'a mut [u32],
 ) -> EndRows<'a>
-    requires { Stood sizes numbers.now × (mode_in sizes numbers.now ≡ true) × (length ends.old ≡ 1024) }
+    requires stood { Stood sizes numbers.now × (mode_in sizes numbers.now ≡ true) × (length ends.old ≡ 1024) }
+    requires pair { (source.0 < cell numbers.now (head sizes 1)) × (target.0 < cell numbers.now (head sizes 1)) }
     ensures { EndsOf sizes numbers.now source.0 target.0 result }
 {
-    let count = header(sizes, numbers, MADE) as usize;
+    let count = Places { sizes }.header(numbers, MADE) as usize;
     let ends = &mut ends[..count];
     find_ends(sizes, numbers, ends);
     EndRows {
@@ -66,6 +70,7 @@ pub fn warns(area: &Area, source: ChunkIdx, target: ChunkIdx) -> bool
 }
 
 // `from` reaches `to` in one step or more.
+// stays: the shape of `warns`, as two questions: one with the answer as a parameter would be no shorter than the two.
 pub fn reaches(area: &Area, from: ChunkIdx, to: ChunkIdx) -> bool
     requires { Stood area.now.sizes area.now.numbers.now × (from.0 < cell area.now.numbers.now (head area.now.sizes 1)) × (to.0 < cell area.now.numbers.now (head area.now.sizes 1)) }
     ensures { result ≡ reachable (read area.now.sizes area.now.numbers.now) from.0 to.0 }

@@ -31,7 +31,7 @@ use Rattle.merge_reads.specs.Fields.{home_at, depends_on, effects_same, needs_sa
 abbrev On : Sizes → List ℕ → ℕ → ℕ → Type 0
 On z a u w = cell a (u * z.chunks + w) ≡ 0 → ⊥
 
--- chunk y is "assigned and different" from x
+-- chunk y is assigned, and another than x
 abbrev Linked : ℕ → ℕ → Type 0
 Linked x y = (y ≡ None → ⊥) × (x ≡ y → ⊥)
 

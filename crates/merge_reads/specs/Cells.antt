@@ -81,11 +81,11 @@ module _ (z : Sizes) (a : List ℕ) (t s : ℕ) (can : CanMergeArea z a t s) whe
   unfolding absorb_area merged_rows
   area_row i b = unrecorded i (omega arith) ∙ get_or-set_other (merged_rows a z.chunks t s) (side z t) i _ 0 (omega arith) ∙ tab-at (merging a z.chunks t s z.chunks) (length a) i (omega (arith, can.long))
 
-  -- "target gets the union without itself"
+  -- the target's row becomes the union without the target
   pub area_target : (y : ℕ) → y < z.chunks → cell (merge_area z a t s) (t * z.chunks + y) ≡ union_cell (cell a (t * z.chunks + y)) (cell a (s * z.chunks + y)) y t
   area_target y b = area_row (t * z.chunks + y) (omega (arith, sets-room {i = t} {n = z.chunks} z.chunks can.target)) ∙ at_target rows y z.chunks b (omega arith)
 
-  -- "source's set empties"
+  -- the source's row empties
   pub area_source : (y : ℕ) → y < z.chunks → cell (merge_area z a t s) (s * z.chunks + y) ≡ 0
   area_source y b = area_row (s * z.chunks + y) (omega (arith, sets-room {i = s} {n = z.chunks} z.chunks can.source)) ∙ at_source rows y z.chunks b (omega arith)
 
@@ -95,7 +95,7 @@ module _ (z : Sizes) (a : List ℕ) (t s : ℕ) (can : CanMergeArea z a t s) whe
       ∙ at_none rows z.chunks (x * z.chunks + y) (rows_apart z.chunks t x z.chunks (x * z.chunks + y) (λ i. n (sym i)) (omega arith) (omega arith) (omega arith))
       (rows_apart z.chunks s x z.chunks (x * z.chunks + y) (λ i. m (sym i)) (omega arith) (omega arith) (omega arith))
 
-  -- "side effects are or-ed"
+  -- side effects are or-ed
   pub area_side : cell (merge_area z a t s) (side z t) ≡ ind (state.yes (cell a (side z t)) || state.yes (cell a (side z s)))
   unfolding absorb_area
   area_side = unrecorded (side z t) (omega (arith, can.target)) ∙ get_or-set_same (merged_rows a z.chunks t s) (side z t) _ 0 (omega (arith, merged-length a z.chunks t s, can.long, can.target))

@@ -16,7 +16,7 @@ use Rattle.merge_state.specs.Table.{any_misfit, any_gone}
 use Rattle.merge_state.specs.Ordered.{Ordered, never}
 use Rattle.merge_state.specs.Kept.{Passing, proposal}
 use Rattle.merge_state.proofs.Kept.{passed-kept}
-use Rattle.merge_area.specs.Layout.{room, cell, head}
+use Rattle.merge_area.specs.Layout.{cell, head}
 use Rattle.merge_area.specs.Read.{needs_in, named_set, entry, read}
 use Rattle.merge_state.specs.Pairs.{pairs-length}
 use Rattle.merge_area.specs.Writes.{merge_area, create_area, candidate_area, pass_area}

@@ -1,2 +1,2 @@
-// The graph that a merge area holds after each write. Laws only.
+// The graph that a merge area holds after each write. Definitions and laws only.
 #![tactic(auto)]

@@ -87,6 +87,7 @@ pub fn lacks_numbers(area: &Area, n: usize) -> bool
 }
 
 // Some start is above the next, among the first n + 1. It has no early exit, so that it compiles to vector code.
+// stays: n counts the pairs that are compared, one less than the starts; the list's length less one says no more.
 fn is_falling(starts: &[u32], n: usize) -> bool
     requires { n < length starts.now }
     ensures { result ≡ falling n starts.now }
@@ -99,6 +100,7 @@ fn is_falling(starts: &[u32], n: usize) -> bool
 }
 
 // The list isn't n + 1 numbers that start from 0, don't fall and end at d.
+// stays: n isn't the list's length, but what that is held against.
 #[tactic(auto, unfolding(merge_state::specs::Table::bad_starts))]
 pub fn are_bad_starts(n: usize, starts: &[u32], d: usize) -> bool
     ensures { result ≡ bad_starts n starts.now d }

@@ -1,7 +1,7 @@
 // The row that refuses a call, if one does.
-ghost use Rattle.std.specs.Prelude.{◌≡◌, ◌&&◌, ◌≤◌, length, eqb, leb};
+ghost use Rattle.std.specs.Prelude.{◌≡◌, ◌&&◌, eqb, leb};
 ghost use Rattle.refusals.specs.Rows.{row_of};
-ghost use Rattle.entry_set.specs.Sets.{value};
+ghost use Rattle.entry_set.specs.Sets.{number};
 ghost use Rattle.merge_state.specs.State.{None, chunk_of};
 ghost use Rattle.merge_state.specs.Named.{named};
 ghost use Rattle.merge_state.specs.Table.{init_module_assignment, add_module_to_chunk, calc_chunk_dependencies, would_create_circular_dependency, is_reachable, pass};
@@ -19,21 +19,22 @@ use merge_area::{Area, standing_row};
 use merge_state::{ChunkIdx, ModuleIdx, Sizes};
 use refusals::Refusal;
 
-// The chunk named with a lent set.
-pub fn find_chunk(area: &Area, bits: &[u64]) -> Option<ChunkIdx>
-    requires { length bits.now ≤ 4 }
-    ensures { result ≡ named (chunk_of (value bits.now) (sets-in area.now.sizes area.now.numbers.now)) }
+// The chunk named with a set.
+// stays: `Area::chunk_of_set` promises the same, and what is public isn't taken away.
+pub fn find_chunk(area: &Area, set: EntrySet) -> Option<ChunkIdx>
+    ensures { result ≡ named (chunk_of (number set) (sets-in area.now.sizes area.now.numbers.now)) }
 {
-    area.chunk_of_set(EntrySet::from_list(bits))
+    area.chunk_of_set(set)
 }
 
-// A chunk must be made for a lent set, and C are made.
-fn lacks_chunk(area: &Area, bits: &[u64]) -> bool
-    requires { length bits.now ≤ 4 }
-    ensures { result ≡ eqb (chunk_of (value bits.now) (sets-in area.now.sizes area.now.numbers.now)) None && leb area.now.sizes.chunks (cell area.now.numbers.now (head area.now.sizes 1)) }
+// A chunk must be made for a set, and C are made.
+fn lacks_chunk(area: &Area, set: EntrySet) -> bool
+    ensures { result ≡ eqb (chunk_of (number set) (sets-in area.now.sizes area.now.numbers.now)) None && leb area.now.sizes.chunks (cell area.now.numbers.now (head area.now.sizes 1)) }
 {
-    find_chunk(area, bits).is_none() && area.sizes.chunks <= area.header(MADE) as usize
+    find_chunk(area, set).is_none() && area.sizes.chunks <= area.header(MADE) as usize
 }
+
+// stays: sizes and area come one by one, in the rows below, as C lends them: an Area they are once rows 14, 15 and 21 don't fit.
 
 // The row of `init_module_assignment`.
 pub fn init_row(
@@ -49,7 +50,7 @@ pub fn init_row(
     if sizes.modules <= m.0 as usize || !entry_set::is_legal(bits, sizes.bits) {
         return Err(Refusal::MergeIndex);
     }
-    let lacks = lacks_chunk(&area, bits);
+    let lacks = lacks_chunk(&area, EntrySet::from_list(bits));
     let full = is_full(&area);
     if lacks {
         return Err(Refusal::NoRoomForChunk);

@@ -175,7 +175,7 @@ module _ (d : ℕ → ℕ → Bool) (n s t : ℕ) (self : (x : ℕ) → d x x �
   unfolding without
   direct h = true≢false (sym (and_right (d s t) _ h) ∙ ap not (and_both _ _ (eq-eqb s s refl) (eq-eqb t t refl)))
 
-  -- "The warning is then yes exactly when the fused chunk lies on a cycle with another; a direct dependency alone no longer warns."
+  -- The warning is then yes exactly when the fused chunk lies on a cycle with another; a direct dependency alone doesn't warn.
   pub mode_warning : (warns (without d s t) n s t ≡ true) ↔ Walk (fused d s t) t t
   mode_warning =
       let w = warning_exactly holder sound s t apart in

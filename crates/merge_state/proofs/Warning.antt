@@ -48,7 +48,7 @@ module _ (g : Graph) (v : Sound g) (s t : ℕ) (differ : s ≡ t → ⊥) where
       homing (first_in z (⊎_elim (λ a. inr (rw p at a)) (λ k. ⊎_elim (λ l. inl l.1) (λ l. absurd ((fuse_ends g.depends s t x z h).0 (p ∙ sym l.0))) k) (fuse_cases g.depends s t x z h)))
       (λ i. (fuse_ends g.depends s t x z h).0 (p ∙ sym i)) q w
 
-  -- "the merge warning is yes exactly when the source depends directly on the target or the two fused lie on a cycle with another chunk"
+  -- the warning is yes exactly when the source depends directly on the target or the two fused lie on a cycle with another chunk
   pub warning_exactly : (warns g.depends g.made s t ≡ true) ↔ ((g.depends s t ≡ true) ⊎ Looped g s t)
   unfolding warning_here.Bad warning_here.First
   warning_exactly = ((warning_here.warned g v s t differ), λ b. ⊎_elim (λ e. target_in (first_in t (inl e))) (λ (l : Looped g s t). leaving refl refl (join l.out l.back)) b)

@@ -26,14 +26,14 @@ counted-ends d e f n q = fun_ext (λ x. fun_ext (λ y. alike _ _ (go e f q x y) 
         let b : f r.target ≡ y = sym (q r.target r.target_in) ∙ r.to in
         moved (counted d f n) a b (counted_give d f n r.source r.target r.source_in r.target_in r.edge (λ g. r.differ (sym a ∙ g ∙ b)))
 
--- (xiii): fusing two nodes of a graph without cycles gives one without cycles, unless the fused node lies on a cycle with another
+-- Fusing two nodes of a graph without cycles gives one without cycles, unless the fused node lies on a cycle with another
 pub fused_acyclic : (d : ℕ → ℕ → Bool) (s t : ℕ) → ((x : ℕ) → Walk d x x → ⊥) → (Walk (fused d s t) t t → ⊥) → (x : ℕ) → Walk (fused d s t) x x → ⊥
 fused_acyclic d s t none unwarned x w = ⊎_elim (none x) (λ p. unwarned (join p.1 p.0)) (walks.closed t keep x w)
   where
     keep : (x y : ℕ) → (x ≡ t → ⊥) → (y ≡ t → ⊥) → fused d s t x y ≡ true → d x y ≡ true
     keep x y a b h = ⊎_elim (λ c. c) (λ c. ⊎_elim (λ p. absurd (a p.0)) (λ p. absurd (b p.0)) c) (fuse_cases d s t x y h)
 
--- The warning of the mode: the old one's rule, with the direct dependency of source on target left out.
+-- The warning of the mode: the rule of the other mode, with the direct dependency of source on target left out.
 module _ (d : ℕ → ℕ → Bool) (n s t : ℕ) (self : (x : ℕ) → d x x ≡ false) (from : (x y : ℕ) → d x y ≡ true → x < n) (to : (x y : ℕ) → d x y ≡ true → y < n) (apart : s ≡ t → ⊥) where
   abbrev pub fewer : ℕ → ℕ → Bool
   fewer = without d s t

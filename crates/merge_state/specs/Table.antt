@@ -1,5 +1,4 @@
--- The calls of a merge list, the rows that each can be refused by, and what it answers and leaves. Sentences quoted are document 01's, (vii) is
--- document 02's. Assumes nothing.
+-- The calls of a merge list, the rows that each can be refused by, and what it answers and leaves. Assumes nothing.
 use Rattle.std.specs.Prelude.{ℕ, zero, suc, ◌+◌, Bool, true, false, not, cond, ◌&&◌, ◌||◌, List, [], ◌∷◌, get_or, length, ltb, leb, eqb}
 use Rattle.graphs.specs.Count.{count}
 use Rattle.graphs.specs.Lists.{some_below}

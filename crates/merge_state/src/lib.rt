@@ -22,6 +22,7 @@ pub struct ChunkIdx(pub u32);
 pub struct ModuleIdx(pub u32);
 
 // No chunk, in a list of numbers.
+// stays: lists and areas that C lends hold it; `ChunkIdx::named` makes an Option of it.
 pub const NONE: u32 = 4294967295;
 
 impl ChunkIdx {

@@ -3,5 +3,6 @@ pub mod Any
 pub mod Parts
 pub mod Tables
 pub mod Searches
+pub mod Eight
 pub mod Choosing
 pub mod Told

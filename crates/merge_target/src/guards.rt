@@ -1,16 +1,16 @@
 // What bars a target: entries that it doesn't reach, side effects that would leak, importers elsewhere, exports.
-ghost use Rattle.std.specs.Prelude.{◌≡◌, ℕ, ◌<◌, ◌≤◌, not, ◌&&◌, eqb, length, get_or, All};
+ghost use Rattle.std.specs.Prelude.{◌≡◌, ◌<◌, not, ◌&&◌, eqb, length, get_or, All};
 ghost use Rattle.std.specs.List.{list_any, zip, range_with_len};
 ghost use Rattle.merge_choice.specs.Choice.{unreached, leaks, strayed, polluted};
 ghost use Rattle.merge_choice.specs.Named.{reads};
 ghost use Rattle.merge_choice.specs.Spans.{Span};
 ghost use Rattle.merge_target.specs.Lent.{lists_of, list_of};
 ghost use Rattle.merge_target.specs.Roles.{role_number, numbers};
-ghost use Rattle.merge_target.specs.Sound.{Sound, Roled};
 
-use crate::marks::{mark_entries, mark_free, mark_list};
+use crate::Lists;
+use crate::checked::Checked;
+use crate::marks::mark_list;
 use crate::roles::{Role, is_dynamic};
-use crate::{Bundle, Candidate, Lists};
 
 // A dynamic entry among the roles isn't marked.
 fn some_unmarked_entry(roles: &[Role], marks: &[u32]) -> bool
@@ -22,40 +22,11 @@ fn some_unmarked_entry(roles: &[Role], marks: &[u32]) -> bool
         .any(|(&role, &mark)| role == Role::DynamicEntry && mark == 0)
 }
 
-// A dynamic entry that is named isn't reached by t.
-pub(crate) fn is_unreached(bundle: &Bundle, roles: &[Role], t: usize) -> bool
-    requires sound { Sound bundle.now }
-    requires few { length roles.now ≤ 256 }
-    requires chunk { t < bundle.now.chunks }
-    ensures { result ≡ unreached (reads (numbers roles.now)) (length roles.now) (lists_of bundle.now.reached) t }
-{
-    let mut marks = [0u32; 1024];
-    mark_list(bundle.reached.of(t), 1, &mut marks);
-    some_unmarked_entry(roles, &marks)
-}
-
 // A chunk of the list is a dynamic entry that is named.
 fn some_named(list: &[u32], roles: &[Role]) -> bool
     ensures { result ≡ list_any (λ d. eqb (get_or (numbers roles.now) d 0) 1) list.now }
 {
     list.iter().any(|&d| is_dynamic(roles, d as usize))
-}
-
-// One of the chunks other than t reaches such an entry.
-fn some_other_reaches(bundle: &Bundle, roles: &[Role], t: usize) -> bool
-    requires { (x : ℕ) → x < bundle.now.chunks → Span bundle.now.reached.starts.now bundle.now.reached.items.now x }
-    ensures { result ≡ list_any (λ o. not (eqb o t) && list_any (λ d. eqb (get_or (numbers roles.now) d 0) 1) (list_of (lists_of bundle.now.reached) o)) (range_with_len 0 bundle.now.chunks) }
-{
-    (0..bundle.chunks).any(|o| o != t && some_named(bundle.reached.of(o), roles))
-}
-
-// The side effects of t would leak.
-pub(crate) fn leaks(bundle: &Bundle, roles: &[Role], t: usize) -> bool
-    requires sound { Sound bundle.now }
-    requires chunk { t < bundle.now.chunks }
-    ensures { result ≡ leaks (reads (numbers roles.now)) (length roles.now) (lists_of bundle.now.reached) bundle.now.effects.now bundle.now.chunks t }
-{
-    bundle.effects[t] != 0 && some_other_reaches(bundle, roles, t)
 }
 
 // A number of the list isn't marked.
@@ -77,19 +48,6 @@ fn some_strays(modules: &[u32], lists: &Lists, marks: &[u32]) -> bool
         .any(|&m| some_unmarked(lists.of(m as usize), marks))
 }
 
-// A dynamic importer of one of the candidate's modules is neither in t nor comes with the candidate.
-pub(crate) fn strays(bundle: &Bundle, candidate: &Candidate, t: usize) -> bool
-    requires sound { Sound bundle.now }
-    requires own { All (λ m. m < bundle.now.modules) candidate.now.modules.now }
-    requires chunk { t < bundle.now.chunks }
-    ensures { result ≡ strayed (lists_of bundle.now.contents) (lists_of bundle.now.dynamic_importers) candidate.now.modules.now t }
-{
-    let mut marks = [0u32; 4096];
-    mark_list(bundle.contents.of(t), 1, &mut marks);
-    mark_free(bundle, candidate, &mut marks);
-    some_strays(candidate.modules, &bundle.dynamic_importers, &marks)
-}
-
 // One of the modules isn't e, has observable exports, and is marked.
 fn some_polluting(modules: &[u32], e: u32, exports: &[u32], marks: &[u32]) -> bool
     requires flagged { All (λ m. m < length exports.now) modules.now }
@@ -99,15 +57,62 @@ fn some_polluting(modules: &[u32], e: u32, exports: &[u32], marks: &[u32]) -> bo
     modules.iter().any(|&m| m != e && exports[m as usize] != 0 && marks[m as usize] != 0)
 }
 
-// The candidate would bring another dynamic entry's exports into t.
-pub(crate) fn pollutes(bundle: &Bundle, candidate: &Candidate, roles: &[Role], t: usize) -> bool
-    requires sound { Sound bundle.now }
-    requires own { All (λ m. m < bundle.now.modules) candidate.now.modules.now }
-    requires roled { Roled bundle.now roles.now }
-    requires chunk { t < bundle.now.chunks }
-    ensures { result ≡ polluted (reads (numbers roles.now)) (length roles.now) bundle.now.entries.now bundle.now.exports.now candidate.now.modules.now t }
-{
-    let mut marks = [0u32; 4096];
-    mark_entries(bundle, roles, &mut marks);
-    some_polluting(candidate.modules, bundle.entries[t], bundle.exports, &marks)
+// stays: the arrays of marks below are of fixed lengths: memory is fixed, nothing is on the heap.
+// stays: that t is one of the chunks is asked of each guard's own argument; a type for it would be made for the one call of each alone: no plainer.
+impl Checked<'_> {
+    // A dynamic entry that is named isn't reached by t.
+    pub(crate) fn is_unreached(&self, t: usize) -> bool
+        requires { t < self.now.bundle.now.chunks }
+        ensures { result ≡ unreached (reads (numbers self.now.roles.now)) (length self.now.roles.now) (lists_of self.now.bundle.now.reached) t }
+    {
+        let mut marks = [0u32; 1024];
+        mark_list(self.bundle.reached.of(t), 1, &mut marks);
+        some_unmarked_entry(self.roles, &marks)
+    }
+
+    // One of the chunks other than t reaches such an entry.
+    fn some_other_reaches(&self, t: usize) -> bool
+        ensures { result ≡ list_any (λ o. not (eqb o t) && list_any (λ d. eqb (get_or (numbers self.now.roles.now) d 0) 1) (list_of (lists_of self.now.bundle.now.reached) o)) (range_with_len 0 self.now.bundle.now.chunks) }
+    {
+        (0..self.bundle.chunks).any(|o| o != t && some_named(self.bundle.reached.of(o), self.roles))
+    }
+
+    // The side effects of t would leak.
+    pub(crate) fn leaks(&self, t: usize) -> bool
+        requires { t < self.now.bundle.now.chunks }
+        ensures { result ≡ leaks (reads (numbers self.now.roles.now)) (length self.now.roles.now) (lists_of self.now.bundle.now.reached) self.now.bundle.now.effects.now self.now.bundle.now.chunks t }
+    {
+        self.bundle.effects[t] != 0 && self.some_other_reaches(t)
+    }
+
+    // A dynamic importer of one of the candidate's modules is neither in t nor comes with the candidate.
+    pub(crate) fn strays(&self, t: usize) -> bool
+        requires { t < self.now.bundle.now.chunks }
+        ensures { result ≡ strayed (lists_of self.now.bundle.now.contents) (lists_of self.now.bundle.now.dynamic_importers) self.now.candidate.now.modules.now t }
+    {
+        let mut marks = [0u32; 4096];
+        mark_list(self.bundle.contents.of(t), 1, &mut marks);
+        self.mark_free(&mut marks);
+        some_strays(
+            self.candidate.modules,
+            &self.bundle.dynamic_importers,
+            &marks,
+        )
+    }
+
+    // The candidate would bring another dynamic entry's exports into t.
+    pub(crate) fn pollutes(&self, t: usize) -> bool
+        requires { t < self.now.bundle.now.chunks }
+        ensures { result ≡ polluted (reads (numbers self.now.roles.now)) (length self.now.roles.now) self.now.bundle.now.entries.now self.now.bundle.now.exports.now self.now.candidate.now.modules.now t }
+    {
+        let mut marks = [0u32; 4096];
+        self.mark_entries(&mut marks);
+        let bundle = self.bundle;
+        some_polluting(
+            self.candidate.modules,
+            bundle.entries[t],
+            bundle.exports,
+            &marks,
+        )
+    }
 }

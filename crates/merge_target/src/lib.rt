@@ -1,6 +1,7 @@
 // The choice of the chunk that a candidate may be merged into, over lent lists.
 #![tactic(auto)]
 
+mod checked; // checked.rt: a call that no row refuses
 mod classes; // classes.rt: the row that refuses a bank's own classes
 mod guards; // guards.rt: what bars a target
 mod marks; // marks.rt: numbers marked in a table
@@ -8,7 +9,7 @@ mod roles; // roles.rt: what the bits of a set name
 mod row; // row.rt: the row that refuses a call
 mod target; // target.rt: the first entry that all others import
 
-ghost use Rattle.std.specs.Prelude.{◌≡◌, ◌<◌, false, length, IfSome, All};
+ghost use Rattle.std.specs.Prelude.{◌≡◌, ◌<◌, false, IfSome};
 ghost use Rattle.entry_set.specs.Sets.{number};
 ghost use Rattle.merge_choice.specs.Choice.{user_target, dynamic_target, chosen, choice};
 ghost use Rattle.merge_choice.specs.Find.{row23, find, find_by};
@@ -18,12 +19,14 @@ ghost use Rattle.merge_state.specs.Named.{number_of};
 ghost use Rattle.merge_target.specs.Answers.{target_told};
 ghost use Rattle.merge_target.specs.Lent.{lists_of, list_of, lent_by};
 ghost use Rattle.merge_target.specs.Roles.{numbers};
-ghost use Rattle.merge_target.specs.Sound.{Sound, Roled};
 
+use checked::Checked;
 use entry_set::EntrySet;
 use merge_state::ChunkIdx;
 use refusals::Refusal;
 use roles::Role;
+
+// stays: Lists, Bundle and Candidate have Clone and Copy alone, as Checked has: they hold what is lent, and nobody compares or prints them.
 
 // Lists of numbers in one: list x is the items from start x up to start x + 1.
 #[derive(Clone, Copy)]
@@ -48,6 +51,7 @@ impl<'l> Lists<'l> {
 #[derive(Clone, Copy)]
 pub struct Bundle<'b> {
     // How many there are.
+    // stays: each beside the lists that are as long, for C lends the counts, and row 23 compares them with the lists.
     pub chunks: usize,
     pub modules: usize,
     // Each chunk's kind, its entry module, whether it has side effects, its modules, and the dynamic entries that it reaches.
@@ -70,68 +74,64 @@ pub struct Candidate<'c> {
 }
 
 // The class of each entry kind: 1 for a user entry, 0 for a dynamic one.
+// stays: numbers, as C lends a bank's own.
 const BUILT_IN: [u32; 8] = [0, 1, 0, 1, 1, 1, 1, 1];
 
-// The target where a user entry is named.
-fn user_target(bundle: &Bundle, candidate: &Candidate, roles: &[Role]) -> Option<ChunkIdx>
-    requires sound { Sound bundle.now }
-    requires own { All (λ m. m < bundle.now.modules) candidate.now.modules.now }
-    requires roled { Roled bundle.now roles.now }
-    ensures value { number_of result ≡ user_target (reads (numbers roles.now)) bundle.now.chunks bundle.now.entries.now (lists_of bundle.now.contents) (lists_of bundle.now.importers) (lists_of bundle.now.dynamic_importers) (lists_of bundle.now.reached) bundle.now.effects.now candidate.now.modules.now }
-    ensures below { IfSome result (λ t. t.0 < bundle.now.chunks) }
-{
-    let t = target::first_target(bundle, roles, Role::UserEntry)?;
-    let at = t.0 as usize;
-    if guards::is_unreached(bundle, roles, at)
-        || guards::leaks(bundle, roles, at)
-        || guards::strays(bundle, candidate, at)
+impl Checked<'_> {
+    // The target where a user entry is named.
+    fn user_target(&self) -> Option<ChunkIdx>
+        ensures value { number_of result ≡ user_target (reads (numbers self.now.roles.now)) self.now.bundle.now.chunks self.now.bundle.now.entries.now (lists_of self.now.bundle.now.contents) (lists_of self.now.bundle.now.importers) (lists_of self.now.bundle.now.dynamic_importers) (lists_of self.now.bundle.now.reached) self.now.bundle.now.effects.now self.now.candidate.now.modules.now }
+        ensures below { IfSome result (λ t. t.0 < self.now.bundle.now.chunks) }
     {
-        return None;
+        let t = self.first_target(Role::UserEntry)?;
+        let at = t.0 as usize;
+        if self.is_unreached(at) || self.leaks(at) || self.strays(at) {
+            return None;
+        }
+        Some(t)
     }
-    Some(t)
-}
 
-// The target where no user entry is named.
-fn dynamic_target(bundle: &Bundle, candidate: &Candidate, roles: &[Role]) -> Option<ChunkIdx>
-    requires sound { Sound bundle.now }
-    requires own { All (λ m. m < bundle.now.modules) candidate.now.modules.now }
-    requires roled { Roled bundle.now roles.now }
-    ensures value { number_of result ≡ dynamic_target (reads (numbers roles.now)) bundle.now.chunks bundle.now.entries.now (lists_of bundle.now.importers) bundle.now.exports.now candidate.now.modules.now }
-    ensures below { IfSome result (λ t. t.0 < bundle.now.chunks) }
-{
-    let t = target::first_target(bundle, roles, Role::DynamicEntry)?;
-    if guards::pollutes(bundle, candidate, roles, t.0 as usize) {
-        return None;
+    // The target where no user entry is named.
+    fn dynamic_target(&self) -> Option<ChunkIdx>
+        ensures value { number_of result ≡ dynamic_target (reads (numbers self.now.roles.now)) self.now.bundle.now.chunks self.now.bundle.now.entries.now (lists_of self.now.bundle.now.importers) self.now.bundle.now.exports.now self.now.candidate.now.modules.now }
+        ensures below { IfSome result (λ t. t.0 < self.now.bundle.now.chunks) }
+    {
+        let t = self.first_target(Role::DynamicEntry)?;
+        if self.pollutes(t.0 as usize) {
+            return None;
+        }
+        Some(t)
     }
-    Some(t)
-}
 
-// The target by the roles of the chunks that bits can name.
-fn chosen(bundle: &Bundle, candidate: &Candidate, roles: &[Role]) -> Option<ChunkIdx>
-    requires sound { Sound bundle.now }
-    requires own { All (λ m. m < bundle.now.modules) candidate.now.modules.now }
-    requires roled { Roled bundle.now roles.now }
-    ensures value { number_of result ≡ chosen (reads (numbers roles.now)) bundle.now.chunks (lent_by bundle.now candidate.now) }
-    ensures below { IfSome result (λ t. t.0 < bundle.now.chunks) }
-{
-    if roles.contains(&Role::CommonChunk) {
-        return None;
+    // The target by the roles of the chunks that bits can name.
+    fn chosen(&self) -> Option<ChunkIdx>
+        ensures value { number_of result ≡ chosen (reads (numbers self.now.roles.now)) self.now.bundle.now.chunks (lent_by self.now.bundle.now self.now.candidate.now) }
+        ensures below { IfSome result (λ t. t.0 < self.now.bundle.now.chunks) }
+    {
+        if self.roles.contains(&Role::CommonChunk) {
+            return None;
+        }
+        if self.roles.contains(&Role::UserEntry) {
+            return self.user_target();
+        }
+        self.dynamic_target()
     }
-    if roles.contains(&Role::UserEntry) {
-        return user_target(bundle, candidate, roles);
-    }
-    dynamic_target(bundle, candidate, roles)
 }
 
 // The target by the classes of the entry kinds.
-fn choose(bundle: &Bundle, candidate: &Candidate, classes: &[u32]) -> Option<ChunkIdx>
-    requires lists { row23 bundle.now.chunks bundle.now.modules bundle.now.kinds.now (lent_by bundle.now candidate.now) ≡ false }
-    requires eight { length classes.now ≡ 8 }
+fn choose(bundle: &Bundle, candidate: &Candidate, classes: &[u32; 8]) -> Option<ChunkIdx>
+    requires { row23 bundle.now.chunks bundle.now.modules bundle.now.kinds.now (lent_by bundle.now candidate.now) ≡ false }
     ensures value { number_of result ≡ choice classes.now bundle.now.kinds.now (number candidate.now.set) (lent_by bundle.now candidate.now) }
     ensures below { IfSome result (λ t. t.0 < bundle.now.chunks) }
 {
     let table = roles::table(bundle.kinds, classes, candidate.set);
-    chosen(bundle, candidate, &table[..roles::bits(bundle.chunks)])
+    let roles = &table[..roles::bits(bundle.chunks)];
+    let checked = Checked {
+        bundle,
+        candidate,
+        roles,
+    };
+    checked.chosen()
 }
 
 // The chunk that the candidate may be merged into, if there is one.
@@ -152,8 +152,8 @@ pub fn merge_target_by_classes(
     if row::is_refused(bundle, candidate) {
         return Err(Refusal::ChoiceLists);
     }
-    if classes::are_refused(classes) {
+    let Some(classes) = classes::checked(classes) else {
         return Err(Refusal::FaultyClasses);
-    }
+    };
     Ok(choose(bundle, candidate, classes))
 }

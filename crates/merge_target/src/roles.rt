@@ -33,8 +33,9 @@ fn has_bit(set: EntrySet, b: usize) -> bool
 }
 
 // The role of chunk b.
+// stays: a kind is a number from 0 to 8, and a class 0 or 1, in lists that C lends; from here on they are a Role.
 #[tactic(auto, unfolding(merge_choice::specs::Choice::role))]
-fn role_of(kinds: &[u32], classes: &[u32], set: EntrySet, b: usize) -> Role
+fn role_of(kinds: &[u32], classes: &[u32; 8], set: EntrySet, b: usize) -> Role
     requires { CanName kinds.now classes.now b }
     ensures { role_number result ≡ role classes.now kinds.now (number set) b }
 {
@@ -49,12 +50,11 @@ fn role_of(kinds: &[u32], classes: &[u32], set: EntrySet, b: usize) -> Role
 }
 
 // The role of each chunk that a bit can name.
-pub(crate) fn table(kinds: &[u32], classes: &[u32], set: EntrySet) -> [Role; 256]
-    requires small { All (λ kind. kind < 9) kinds.now }
-    requires eight { length classes.now ≡ 8 }
+pub(crate) fn table(kinds: &[u32], classes: &[u32; 8], set: EntrySet) -> [Role; 256]
+    requires { All (λ kind. kind < 9) kinds.now }
     ensures { reads (numbers result) ≡ role classes.now kinds.now (number set) }
 {
-    let mut roles = [Role::Nothing; 256];
+    let mut roles = [Role::Nothing; 256]; // stays: memory is fixed, nothing is on the heap
     for b in 0..bits(kinds.len()) {
         roles[b] = role_of(kinds, classes, set, b);
     }

@@ -39,14 +39,15 @@ fn has_bad_spans(bundle: &Bundle) -> bool
         || are_bad_lists(bundle.chunks, bundle.chunks, &bundle.reached)
 }
 
-// A chunk's entry module isn't below m; a common chunk's isn't read.
-fn has_bad_entry(kinds: &[u32], entries: &[u32], m: usize) -> bool
-    ensures { result ≡ list_any (λ p. not (eqb p.0 8) && leb m p.1) (zip kinds.now entries.now) }
+// A chunk's entry module isn't one of so many modules; a common chunk's isn't read.
+// stays: a kind is a number in a list that C lends, 8 for a common chunk.
+fn has_bad_entry(kinds: &[u32], entries: &[u32], modules: usize) -> bool
+    ensures { result ≡ list_any (λ p. not (eqb p.0 8) && leb modules p.1) (zip kinds.now entries.now) }
 {
     kinds
         .iter()
         .zip(entries)
-        .any(|(&kind, &entry)| kind != 8 && m <= entry as usize)
+        .any(|(&kind, &entry)| kind != 8 && modules <= entry as usize)
 }
 
 // A kind above 8, or a module out of range.

@@ -1,5 +1,5 @@
 // The first entry whose module all others of its role import.
-ghost use Rattle.std.specs.Prelude.{◌≡◌, ℕ, ◌<◌, ◌≤◌, not, ◌&&◌, eqb, length, get_or, IfSome, All};
+ghost use Rattle.std.specs.Prelude.{◌≡◌, ℕ, ◌<◌, ◌≤◌, not, ◌&&◌, eqb, length, get_or, IfSome};
 ghost use Rattle.std.specs.List.{list_any, range_with_len};
 ghost use Rattle.merge_choice.specs.Choice.{first_target};
 ghost use Rattle.merge_choice.specs.Named.{reads};
@@ -7,9 +7,9 @@ ghost use Rattle.merge_choice.specs.Search.{Searching, Won};
 ghost use Rattle.merge_state.specs.Named.{number_of};
 ghost use Rattle.merge_target.specs.Lent.{lists_of};
 ghost use Rattle.merge_target.specs.Roles.{role_number, numbers};
-ghost use Rattle.merge_target.specs.Sound.{Sound, Roled, IsEntry};
+ghost use Rattle.merge_target.specs.Sound.{IsEntry};
 
-use crate::Bundle;
+use crate::checked::Checked;
 use crate::marks::mark_list;
 use crate::roles::Role;
 use merge_state::ChunkIdx;
@@ -25,37 +25,35 @@ fn some_missing(roles: &[Role], v: Role, entries: &[u32], e: u32, marks: &[u32],
     })
 }
 
-// All chunks of role v import t, which has it; the marks are those of chunks up to t, each by its number.
-fn wins(bundle: &Bundle, roles: &[Role], v: Role, t: usize, marks: &mut [u32]) -> bool
-    requires sound { Sound bundle.now }
-    requires roled { Roled bundle.now roles.now }
-    requires entry { IsEntry v }
-    requires chunk { t < length roles.now }
-    requires searching { Searching (length roles.now) (numbers roles.now) (role_number v) bundle.now.entries.now bundle.now.importers.starts.now bundle.now.importers.items.now marks.old t }
-    ensures { Won (length roles.now) (numbers roles.now) (role_number v) bundle.now.entries.now bundle.now.importers.starts.now bundle.now.importers.items.now marks.old t marks.new result }
-{
-    if roles[t] != v {
-        return false;
-    }
-    let e = bundle.entries[t];
-    let mark = t as u32 + 1;
-    mark_list(bundle.importers.of(e as usize), mark, marks);
-    !some_missing(roles, v, bundle.entries, e, marks, mark)
-}
-
-// The first chunk of role v that wins.
-pub(crate) fn first_target(bundle: &Bundle, roles: &[Role], v: Role) -> Option<ChunkIdx>
-    requires sound { Sound bundle.now }
-    requires roled { Roled bundle.now roles.now }
-    requires entry { IsEntry v }
-    ensures value { number_of result ≡ first_target (reads (numbers roles.now)) (length roles.now) bundle.now.entries.now (lists_of bundle.now.importers) (role_number v) }
-    ensures below { IfSome result (λ t. t.0 < length roles.now) }
-{
-    let mut marks = [0u32; 4096];
-    for t in 0..roles.len() {
-        if wins(bundle, roles, v, t, &mut marks) {
-            return Some(ChunkIdx(t as u32));
+impl Checked<'_> {
+    // All chunks of role v import t, which has it; the marks are those of chunks up to t, each by its number.
+    fn wins(&self, v: Role, t: usize, marks: &mut [u32]) -> bool
+        requires entry { IsEntry v }
+        requires chunk { t < length self.now.roles.now }
+        requires searching { Searching (length self.now.roles.now) (numbers self.now.roles.now) (role_number v) self.now.bundle.now.entries.now self.now.bundle.now.importers.starts.now self.now.bundle.now.importers.items.now marks.old t }
+        ensures { Won (length self.now.roles.now) (numbers self.now.roles.now) (role_number v) self.now.bundle.now.entries.now self.now.bundle.now.importers.starts.now self.now.bundle.now.importers.items.now marks.old t marks.new result }
+    {
+        if self.roles[t] != v {
+            return false;
         }
+        let e = self.bundle.entries[t];
+        let mark = t as u32 + 1;
+        mark_list(self.bundle.importers.of(e as usize), mark, marks);
+        !some_missing(self.roles, v, self.bundle.entries, e, marks, mark)
     }
-    None
+
+    // The first chunk of role v that wins.
+    pub(crate) fn first_target(&self, v: Role) -> Option<ChunkIdx>
+        requires { IsEntry v }
+        ensures value { number_of result ≡ first_target (reads (numbers self.now.roles.now)) (length self.now.roles.now) self.now.bundle.now.entries.now (lists_of self.now.bundle.now.importers) (role_number v) }
+        ensures below { IfSome result (λ t. t.0 < length self.now.roles.now) }
+    {
+        let mut marks = [0u32; 4096]; // stays: memory is fixed, nothing is on the heap
+        for t in 0..self.roles.len() {
+            if self.wins(v, t, &mut marks) {
+                return Some(ChunkIdx(t as u32));
+            }
+        }
+        None
+    }
 }

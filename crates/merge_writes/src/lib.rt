@@ -12,12 +12,12 @@ ghost use Rattle.merge_area.specs.Within.{Within};
 ghost use Rattle.merge_laws.specs.Can.{CanAppend, CanOpen, CanAssign, CanCreate};
 
 use entry_set::EntrySet;
-use merge_area::header;
-use merge_area::places::{
-    CREATED, INITIAL, MADE, SETS, USED, entry_chunk_place, entry_module_place, head_place,
-    home_place, key_place, need_place, set_chunk_place, set_place, side_place,
-};
+use merge_area::places::{CREATED, INITIAL, MADE, Places, SETS, USED};
 use merge_state::{ChunkIdx, ModuleIdx, Sizes};
+
+// stays: sizes, and the area that is written. A struct of the two, with a `&mut`, was tried for `register` and `append`: each contract must then say,
+// beside what is written, that the sizes and the loan stay, and `append` reads each place before its store, and isn't proved by the check alone: no plainer.
+// stays: chunks, modules, flags and the header's numbers are u32 in the area that C lends.
 
 // Chunk x is registered for key k.
 #[tactic(auto, unfolding(merge_area::specs::Writes::register_area))]
@@ -25,7 +25,8 @@ pub fn register(sizes: Sizes, area: &mut [u32], k: ChunkIdx, x: ChunkIdx)
     requires { Within sizes × (room sizes ≤ length area.old) × (k.0 < sizes.chunks) }
     ensures { area.new ≡ register_area sizes area.old k.0 x.0 }
 {
-    area[key_place(sizes, k.0 as usize)] = x.0;
+    let places = Places { sizes };
+    area[places.key(k.0 as usize)] = x.0;
 }
 
 // 1 where v isn't 0 or e holds.
@@ -41,13 +42,14 @@ pub fn append(sizes: Sizes, area: &mut [u32], m: ModuleIdx, x: ChunkIdx, e: bool
     requires { CanAppend sizes area.old x.0 m.0 }
     ensures { area.new ≡ append_area sizes area.old x.0 m.0 e }
 {
-    let n = header(sizes, area, USED);
-    let side = side_place(sizes, x.0 as usize);
+    let places = Places { sizes };
+    let n = places.header(area, USED);
+    let side = places.side(x.0 as usize);
     let effects = or_flag(area[side], e);
-    area[entry_chunk_place(sizes, n as usize)] = x.0;
-    area[entry_module_place(sizes, n as usize)] = m.0;
-    area[head_place(sizes, USED)] = n + 1;
-    area[home_place(sizes, m.0 as usize)] = x.0;
+    area[places.entry_chunk(n as usize)] = x.0;
+    area[places.entry_module(n as usize)] = m.0;
+    area[places.head(USED)] = n + 1;
+    area[places.home(m.0 as usize)] = x.0;
     area[side] = effects;
 }
 
@@ -57,14 +59,15 @@ pub fn open(sizes: Sizes, area: &mut [u32], set: EntrySet)
     requires { CanOpen sizes area.old }
     ensures { area.new ≡ open_area sizes area.old (number set) }
 {
-    let n = header(sizes, area, MADE);
-    let s = header(sizes, area, SETS);
-    set.write_lanes(area, set_place(sizes, s as usize), 1);
-    area[set_chunk_place(sizes, s as usize)] = n;
-    area[head_place(sizes, SETS)] = s + 1;
-    area[side_place(sizes, n as usize)] = 0;
-    area[need_place(sizes, n as usize)] = 1;
-    area[head_place(sizes, MADE)] = n + 1;
+    let places = Places { sizes };
+    let n = places.header(area, MADE);
+    let s = places.header(area, SETS);
+    set.write_lanes(area, places.set(s as usize), 1);
+    area[places.set_chunk(s as usize)] = n;
+    area[places.head(SETS)] = s + 1;
+    area[places.side(n as usize)] = 0;
+    area[places.need(n as usize)] = 1;
+    area[places.head(MADE)] = n + 1;
 }
 
 // Module m is listed with a chunk, or with a new one where there is none.
@@ -83,7 +86,7 @@ pub fn assign(
     match chunk {
         Some(x) => append(sizes, area, m, x, e),
         None => {
-            let n = header(sizes, area, MADE);
+            let n = Places { sizes }.header(area, MADE);
             open(sizes, area, set);
             append(sizes, area, m, ChunkIdx(n), e);
         }
@@ -96,8 +99,9 @@ pub fn create(sizes: Sizes, area: &mut [u32], x: ChunkIdx)
     requires { CanCreate sizes area.old }
     ensures { area.new ≡ create_area sizes area.old x.0 }
 {
-    let created = header(sizes, area, CREATED);
-    let number = header(sizes, area, INITIAL) as usize + created as usize;
-    area[key_place(sizes, number)] = x.0;
-    area[head_place(sizes, CREATED)] = created + 1;
+    let places = Places { sizes };
+    let created = places.header(area, CREATED);
+    let number = places.header(area, INITIAL) as usize + created as usize;
+    area[places.key(number)] = x.0;
+    area[places.head(CREATED)] = created + 1;
 }

@@ -1,5 +1,5 @@
 -- What a move graph's area holds: the ledger, the walk counter and the walk marks, and what is worked out from them. Assumes nothing.
-use Rattle.std.specs.Prelude.{Bool, not, cond, ◌&&◌, List, [], ◌∷◌, ℕ, suc, ◌+◌, ◌*◌, ◌^◌, ◌/◌, ◌%◌, eqb, ltb, leb, length, get_or}
+use Rattle.std.specs.Prelude.{Bool, not, cond, ◌&&◌, List, ℕ, ◌+◌, ◌*◌, ◌^◌, ◌/◌, ◌%◌, eqb, ltb, leb, length, get_or}
 use Rattle.graphs.specs.Count.{ind}
 use Rattle.graphs.specs.Lists.{all, has, some_below}
 use Rattle.graphs.specs.Tab.{tab}
@@ -26,8 +26,8 @@ square n f = tab (λ i. f (i / n) (i % n)) (n * n)
 abbrev pub nodewise : List ℕ → (ℕ → ℕ) → ℕ → ℕ
 nodewise sets f x = cond (ltb x (length sets)) (f (at sets x)) 0
 
--- "counts, edges, .. acyclic flag and component (none if acyclic)", "worked out from the load and placement"; 02: "the number of occupied sets and of
--- distinct edges"
+-- what the fields hold for a state: counts, edges, totals, acyclic flag and component (none where there is no cycle) are worked out from the load and the
+-- placement
 unfoldable pub bodies : Load → ℕ → State → Bodies
 bodies load N st =
     let place = st.ledger.place in
@@ -71,7 +71,7 @@ decode load N area =
 unfoldable pub distinct : List ℕ → Bool
 distinct sets = not (some_below (λ i. some_below (λ j. eqb (at sets j) (at sets i)) i) (length sets))
 
--- "its registered sets are distinct, in range and at most N, every atom has one, no walk mark is above the walk counter"
+-- the registered sets are distinct, in range and at most N, each atom has one, and no walk mark is above the walk counter
 unfoldable pub in_order : Load → ℕ → State → Bool
 in_order load N st =
     let sets = st.ledger.registered in
@@ -82,7 +82,6 @@ in_order load N st =
 unfoldable pub alike_lists : List ℕ → List ℕ → Bool
 alike_lists k l = eqb (length k) (length l) && not (some_below (λ i. not (eqb (at k i) (at l i))) (length k))
 
--- the named state is in order, "and counts, edges, .. acyclic flag and component (none if acyclic) equal those worked out from the load and placement";
--- 02: "both fall under the area check of 9": written anew, the area is the same
+-- the named state is in order, and all that is worked out from the load and the placement is as it stands in the area: written anew, the area is the same
 unfoldable pub consistent : Load → ℕ → List ℕ → Bool
 consistent load N area = in_order load N (decode load N area) && alike_lists (encode load N (decode load N area) area) area

@@ -38,7 +38,7 @@ checked load fixed N area answer =
 unfoldable pub asked : Load → List ℕ → ℕ → List ℕ → Question → Answer
 asked load fixed N area q = checked load fixed N area (ask load (decode load N area).ledger.place q)
 
--- "mark at 4,294,967,295 clears marks and restarts"
+-- the last value of the walk counter, after which it restarts at 1
 abbrev pub last : ℕ → Bool
 last counter = eqb counter 4294967295
 

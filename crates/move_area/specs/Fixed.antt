@@ -1,4 +1,4 @@
--- Which atoms are fixed, as an area keeps it (02, (iii)). Assumes nothing.
+-- Which atoms are fixed, as an area keeps it. Assumes nothing.
 use Rattle.std.specs.Prelude.{Bool, ◌&&◌, List, ℕ, ◌+◌}
 use Rattle.graphs.specs.Count.{ind}
 use Rattle.graphs.specs.Tab.{tab}
@@ -12,7 +12,7 @@ use Rattle.move_area.specs.Area.{alike_lists, consistent}
 abbrev pub fixed_at : ℕ → ℕ → ℕ
 fixed_at n a = atom_at n + a
 
--- "kept as fixed or not with each atom's record": 1 for each fixed atom, else 0, whatever its mark is
+-- 1 for each fixed atom, else 0, whatever its mark is
 unfoldable pub flags : Load → List ℕ → List ℕ
 flags load fixed = tab (λ i. ind (stays fixed i)) load.A
 
@@ -24,6 +24,6 @@ flag load fixed N area = patch (fixed_at N load.A) (flags load fixed) area
 unfoldable pub flagged : Load → List ℕ → ℕ → List ℕ → Bool
 flagged load fixed N area = alike_lists (part (fixed_at N load.A) load.A area) (flags load fixed)
 
--- "and covered by the area check": what row 9 asks
+-- what row 9 asks of an area: it is consistent, and its flags are those of the marks
 abbrev pub checks_out : Load → List ℕ → ℕ → List ℕ → Bool
 checks_out load fixed N area = consistent load N area && flagged load fixed N area

@@ -44,7 +44,7 @@ pub record Holding (load : Load) (fixed : List ℕ) (N : ℕ) (area : List ℕ) 
   pub bits : load.E ≤ 256
   pub held : Held load N st
   pub whole : encode load N st area ≡ area
-  -- "kept as fixed or not"
+  -- each atom is kept as fixed or not
   pub kept : part (fixed_at N load.A) load.A area ≡ flags load fixed
 
 module _ {load : Load} {fixed : List ℕ} {N : ℕ} {area : List ℕ} {st : State} (h : Holding load fixed N area st) where

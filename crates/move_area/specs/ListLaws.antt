@@ -1,10 +1,10 @@
 -- Laws of the tests that `consistent` is made of. Assumes nothing.
-use Rattle.std.specs.Prelude.{◌≡◌, refl, Bool, true, false, not, cond, List, [], ◌∷◌, ℕ, suc, ◌<◌, eqb, length}
-use Rattle.std.proofs.Common.{sym, ap, true≢false, arith, ext_get_or, eqb-true, eq-eqb}
+use Rattle.std.specs.Prelude.{◌≡◌, true, not, List, ℕ, ◌<◌, eqb, length}
+use Rattle.std.proofs.Common.{sym, ap, arith, ext_get_or, eqb-true, eq-eqb}
 use Rattle.std.proofs.Math.Decide.{ℕ_discrete, dec_lt}
 use Rattle.std.proofs.lemmas.Bool.{eqb-false, not-true, not-false}
 use Rattle.graphs.specs.Bools.{and_left, and_right, and_both, fails}
-use Rattle.graphs.specs.Lists.{any, has, some_below, some_take, some_none, has-at}
+use Rattle.graphs.specs.Lists.{some_below, some_take, some_none, has-at}
 use Rattle.move_ledger.specs.Graph.{at}
 use Rattle.move_ledger.specs.Ledger.{index}
 use Rattle.move_ledger.specs.Places.{index-has}

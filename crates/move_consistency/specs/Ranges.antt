@@ -12,10 +12,11 @@ abbrev pub SetsBelow : List ℕ → ℕ → ℕ → ℕ → ℕ → Type 0
 SetsBelow area from stride registered e = (x : ℕ) → x < registered → lanes area (from + x) stride < 2 ^ e
 
 -- the area has its header and lanes, and there is room to sort the nodes
-pub record CanRange (a n : ℕ) (area order : List ℕ) : Type 0 where
+pub record CanRange (a n : ℕ) (area order spare : List ℕ) : Type 0 where
   pub nodes : n ≤ 1024
   pub room : atom_at n + a ≤ length area
   pub order_long : n ≤ length order
+  pub spare_long : n ≤ length spare
 
 -- the registered nodes stand in `order` by rising sets
 abbrev pub SetOrder : ℕ → List ℕ → List ℕ → Type 0

@@ -5,6 +5,7 @@ ghost use Rattle.move_load_view.specs.View.{lent_by};
 ghost use Rattle.move_consistency.specs.Ranges.{SetsBelow, CanRange, RangeTold};
 
 use entry_set::EntrySet;
+use move_area::Area;
 use move_load_view::Load;
 use set_order::Lanes;
 
@@ -22,22 +23,31 @@ fn sets_in_range(sets: &Lanes, r: usize, e: usize) -> bool
 }
 
 // Whether at most n sets are registered, each atom's node is one of them, no mark is above the counter, and the sets are in range and
-// distinct. If so, `order` has the registered nodes by rising sets.
-pub fn in_ranges(load: &Load, n: usize, area: &[u32], order: &mut [u32]) -> bool
-    requires { CanRange load.now.atoms n area.now order.old }
-    ensures { RangeTold (lent_by load.now) n area.now order.new result }
+// distinct. If so, `order` has the registered nodes by rising sets. `spare` is scratch.
+pub fn in_ranges(load: &Load, area: &Area, order: &mut [u32], spare: &mut [u32]) -> bool
+    requires { CanRange load.now.atoms area.now.n area.now.numbers.now order.old spare.old }
+    ensures { RangeTold (lent_by load.now) area.now.n area.now.numbers.now order.new result }
 {
-    let header = n * n;
-    let registered = area[header] as usize;
-    if n < registered {
+    let registered = area.numbers[area.n * area.n] as usize;
+    if area.n < registered {
         return false;
     }
-    let lanes = header + 24;
-    let sets = Lanes { area, at: lanes, n };
-    let nodes_fit = layout::all_below(area, lanes + 24 * n, load.atoms, area[header]);
-    let marks_fit = layout::none_above(area, lanes + 9 * n, n, area[header + 1]);
+    let sets = Lanes {
+        area: area.numbers,
+        at: area.n * area.n + 24,
+        n: area.n,
+    };
+    let nodes = sets.at + 24 * area.n;
+    let nodes_fit = layout::all_below(
+        area.numbers,
+        nodes,
+        load.atoms,
+        area.numbers[area.n * area.n],
+    );
+    let counter = area.numbers[area.n * area.n + 1];
+    let marks_fit = layout::none_above(area.numbers, sets.at + 9 * area.n, area.n, counter);
     let sets_fit = sets_in_range(&sets, registered, load.bits);
-    sets.sort(registered, order);
+    sets.sort(registered, order, spare);
     let apart = sets.distinct(registered, order);
     nodes_fit & marks_fit & sets_fit & apart
 }

@@ -6,6 +6,8 @@ ghost use Rattle.move_ledger.specs.Graph.{at};
 ghost use Rattle.move_consistency.specs.Ready.{Lanes};
 ghost use Rattle.move_consistency.specs.Totals.{TotalsAre};
 
+use move_area::{Area, DISTINCT, OCCUPIED};
+
 // The sum of the numbers.
 pub fn sum(degrees: &[u32]) -> u64
     requires { length degrees.now ≤ 1024 }
@@ -15,10 +17,9 @@ pub fn sum(degrees: &[u32]) -> u64
 }
 
 // Whether the header has these numbers of chunks and of distinct edges.
-pub fn totals_are(area: &[u32], n: usize, chunks: u32, edges: u64) -> bool
-    requires { Lanes area.now n }
-    ensures { Decides (TotalsAre chunks edges n area.now) result }
+pub fn totals_are(area: &Area, chunks: u32, edges: u64) -> bool
+    requires { Lanes area.now.numbers.now area.now.n }
+    ensures { Decides (TotalsAre chunks edges area.now.n area.now.numbers.now) result }
 {
-    let header = n * n;
-    area[header + 3] == chunks && u64::from(area[header + 4]) == edges
+    area.header(OCCUPIED) == chunks && u64::from(area.header(DISTINCT)) == edges
 }

@@ -11,78 +11,86 @@ ghost use Rattle.move_consistency.specs.Ready.{CanLane, CanFlag, CanWork, WorkTo
 
 use super::totals::{sum, totals_are};
 use graph_neighbours::Slots;
+use move_area::{ACYCLIC, Area};
 use move_load_view::Load;
 
+// stays: memory is fixed, nothing is on the heap: the working lists are arrays.
+
 // Whether the counts in the area are these.
-fn counts_hold(area: &[u32], n: usize, counts: &[u32]) -> bool
-    requires { CanLane area.now n counts.now }
-    ensures { Decides (SamePart area.now (lane_at n 8) counts.now 0 n) result }
+fn counts_hold(area: &Area, counts: &[u32]) -> bool
+    requires { CanLane area.now.numbers.now area.now.n counts.now }
+    ensures { Decides (SamePart area.now.numbers.now (lane_at area.now.n 8) counts.now 0 area.now.n) result }
 {
-    layout::same_numbers(area, n * n + 24 + 8 * n, counts, 0, n)
+    layout::same_numbers(
+        area.numbers,
+        area.n * area.n + 24 + 8 * area.n,
+        counts,
+        0,
+        area.n,
+    )
 }
 
 // Whether the matrix counts the slots. They are grouped by source: `heads` has where each node's part of `list` starts. `row` is scratch.
 fn edges_hold(
-    area: &[u32],
-    n: usize,
+    area: &Area,
     slots: &Slots,
     heads: &mut [u32],
     list: &mut [u32],
     row: &mut [u32],
     degrees: &mut [u32],
 ) -> bool
-    requires { CanMatch area.now n slots.now.count slots.now.sources.now slots.now.targets.now heads.old list.old row.old degrees.old }
-    ensures { Matched area.now n slots.now.count slots.now.sources.now slots.now.targets.now heads.new list.new degrees.new result }
+    requires { CanMatch area.now.numbers.now area.now.n slots.now.count slots.now.sources.now slots.now.targets.now heads.old list.old row.old degrees.old }
+    ensures { Matched area.now.numbers.now area.now.n slots.now.count slots.now.sources.now slots.now.targets.now heads.new list.new degrees.new result }
 {
-    graph_neighbours::group(slots, n, heads, list);
-    move_edges::rows::check(area, n, heads, list, row, degrees)
+    graph_neighbours::group(slots, area.n, heads, list);
+    move_edges::rows::check(area.numbers, area.n, heads, list, row, degrees)
 }
 
 // Whether the area has this acyclic flag and this component.
-fn flags_are(area: &[u32], n: usize, acyclic: u32, flags: &[u32]) -> bool
-    requires { CanLane area.now n flags.now }
-    ensures { Decides (FlagsAre acyclic (at flags.now) n area.now) result }
+fn flags_are(area: &Area, acyclic: u32, flags: &[u32]) -> bool
+    requires { CanLane area.now.numbers.now area.now.n flags.now }
+    ensures { Decides (FlagsAre acyclic (at flags.now) area.now.n area.now.numbers.now) result }
 {
-    let header = n * n;
-    layout::same_numbers(area, header + 24 + 10 * n, flags, 0, n) && area[header + 2] == acyclic
+    let component = area.n * area.n + 24 + 10 * area.n;
+    let same = layout::same_numbers(area.numbers, component, flags, 0, area.n);
+    same && area.header(ACYCLIC) == acyclic
 }
 
 // Whether the acyclic flag and the component are those of the slots' graph.
-fn flags_hold(area: &[u32], n: usize, slots: &Slots, heads: &[u32], list: &[u32]) -> bool
-    requires { CanFlag area.now n slots.now.count slots.now.sources.now slots.now.targets.now heads.now list.now }
-    ensures { Decides (Flagged (slot_edge slots.now.sources.now slots.now.targets.now slots.now.count) n area.now) result }
+fn flags_hold(area: &Area, slots: &Slots, heads: &[u32], list: &[u32]) -> bool
+    requires { CanFlag area.now.numbers.now area.now.n slots.now.count slots.now.sources.now slots.now.targets.now heads.now list.now }
+    ensures { Decides (Flagged (slot_edge slots.now.sources.now slots.now.targets.now slots.now.count) area.now.n area.now.numbers.now) result }
 {
     let mut flags = [0u32; 1024];
-    let cyclic = graph_slots::cyclic_component(slots, n, heads, list, &mut flags);
-    flags_are(area, n, u32::from(!cyclic), &flags)
+    let cyclic = graph_slots::cyclic_component(slots, area.n, heads, list, &mut flags);
+    flags_are(area, u32::from(!cyclic), &flags)
 }
 
 // Whether counts, edges, totals, acyclic flag and component are those worked out from the load and the area's placement, with lists for so many nodes,
 // their heads and so many slots. `degrees` has the atom counts first.
 pub fn is_worked<const NODES: usize, const HEADS: usize, const SLOTS: usize>(
     load: &Load,
-    n: usize,
-    area: &[u32],
+    area: &Area,
     degrees: &mut [u32],
 ) -> bool
-    requires { CanWork (lent_by load.now) n area.now degrees.old NODES HEADS SLOTS }
-    ensures { WorkTold (lent_by load.now) n area.now degrees.new result }
+    requires { CanWork (lent_by load.now) area.now.n area.now.numbers.now degrees.old NODES HEADS SLOTS }
+    ensures { WorkTold (lent_by load.now) area.now.n area.now.numbers.now degrees.new result }
 {
     let mut sources = [0u32; SLOTS];
     let mut targets = [0u32; SLOTS];
     let mut heads = [0u32; HEADS];
     let mut list = [0u32; SLOTS];
     let mut row = [0u32; NODES];
-    move_slots::fill_own_slots(load, n, area, degrees, &mut sources, &mut targets);
+    move_slots::fill_own_slots(load, area, degrees, &mut sources, &mut targets);
     let slots = Slots {
         sources: &sources,
         targets: &targets,
-        count: move_slots::slot_count(load, n),
+        count: move_slots::slot_count(load, area.n),
     };
-    let counts_fit = counts_hold(area, n, degrees);
-    let chunks = move_edges::rows::count_filled(&degrees[..n]);
-    let edges_fit = edges_hold(area, n, &slots, &mut heads, &mut list, &mut row, degrees);
-    let totals_fit = totals_are(area, n, chunks, sum(&degrees[..n]));
-    let flags_fit = flags_hold(area, n, &slots, &heads, &list);
+    let counts_fit = counts_hold(area, degrees);
+    let chunks = move_edges::rows::count_filled(&degrees[..area.n]);
+    let edges_fit = edges_hold(area, &slots, &mut heads, &mut list, &mut row, degrees);
+    let totals_fit = totals_are(area, chunks, sum(&degrees[..area.n]));
+    let flags_fit = flags_hold(area, &slots, &heads, &list);
     counts_fit & edges_fit & totals_fit & flags_fit
 }

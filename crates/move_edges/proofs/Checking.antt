@@ -10,7 +10,7 @@ use lib.ListN.{length, get_or, set, length-set, take}
 use lib.Seq.{get_or-set_same, get_or-set_other, length-take-le}
 use borrow.Author.Tests.{lt-ltb, le-ltb, eq-eqb, ne_eqb, eqb-true}
 use Rattle.graphs.specs.Bools.{Same, it, other, same?}
-use Rattle.graphs.specs.Count.{ind, count, ind_le, count-more, count_le, count_ext, count_pos, count-all_no}
+use Rattle.graphs.specs.Count.{ind, count, ind_le, count_ext, count_pos, count-all_no}
 use Rattle.graph_neighbours.specs.Groups.{occ, occ-more, occ_le}
 use Rattle.graph_neighbours.specs.Parts.{part_of}
 use Rattle.move_edges.specs.Rows.{CanTally, Tallied, CanWipe, Wiped, differing, nonzero, numbers_of, CanCompare, Compared, Clean, CanCheckRow, RowIs}
@@ -154,13 +154,6 @@ module _ {numbers part row : List ℕ} (can : CanCheckRow numbers part row) wher
         go : (y : ℕ) → y < length numbers → Dec (0 < occ y part) → get_or row₂ y 0 ≡ 0
         go y z (yes p) = w.zero y p
         go y z (no p) = w.kept y (omega arith) ∙ counts y z ∙ omega arith
-
--- the first k numbers are compared
-pub differing_more : (f g : ℕ → ℕ) (k : ℕ) {u d : ℕ} → u ≡ differing f g k → d ≡ ind (not (eqb (f k) (g k))) → u + d ≡ differing f g (k + 1)
-differing_more f g k p q = omega (arith, p, q, count-more (λ y. not (eqb (f y) (g y))) k)
-
-pub differing_le : (f g : ℕ → ℕ) (k : ℕ) → differing f g k ≤ k
-differing_le f g k = count_le (λ y. not (eqb (f y) (g y))) k
 
 -- no number differs exactly where two rows are alike
 alike_rows : (f g : ℕ → ℕ) (n : ℕ) → differing f g n ≡ 0 → (y : ℕ) → y < n → f y ≡ g y

@@ -34,7 +34,7 @@ appears e n x y = not (eqb x y) && eqb (get_or e (x * n + y) 0) 0
 abbrev pub vanishes : List ℕ → ℕ → ℕ → ℕ → Bool
 vanishes e n x y = not (eqb x y) && eqb (get_or e (x * n + y) 0) 1
 
--- how many edges the slots (u, v) have that the slots (s, t) haven't, "an edge in both counting as neither"
+-- how many edges the slots (u, v) have that the slots (s, t) haven't
 abbrev pub fresh : ℕ → List ℕ → List ℕ → List ℕ → List ℕ → ℕ → ℕ
 fresh n s t u v m = count (λ i. eqb (flat s t n m i) 0 && ltb 0 (flat u v n m i)) (n * n)
 

@@ -14,6 +14,9 @@ use graph_neighbours::Slots;
 
 pub mod rows;
 
+// stays: `n` is how far apart the rows of the square stand, at the front of the area that C lends, and no list's length. A writer has the square itself beside n:
+// a struct over a lent list that is written would make each clause say, besides what is written, that n and the loan's end stay: no plainer.
+
 // How many edges one graph has that the other hasn't: those that appeared, those that vanished.
 #[derive(Clone, Copy, PartialEq, Eq, Debug)]
 pub struct Changes {
@@ -22,6 +25,8 @@ pub struct Changes {
 }
 
 // One edge more from x to y, and whether it appeared; nothing where the two are equal.
+// stays: a twin of `remove`: one adds what may not overflow, the other takes what must be there, so that their laws differ; one function over a closure
+// would need the closure's law and both laws of the matrix beside it: no plainer.
 #[tactic(auto, unfolding(graphs::specs::Slots::more))]
 pub fn add(edges: &mut [u32], n: usize, x: u32, y: u32) -> bool
     requires { CanAdd edges.old n x y }
@@ -80,6 +85,7 @@ fn shed(edges: &mut [u32], n: usize, old: &Slots, new: &Slots, k: usize) -> bool
 }
 
 // Every changed slot's new edge is added: how many appeared.
+// stays: a twin of `shed_all`, as `add` is of `remove`, and for the same reason: what each turn asks and shows differs.
 fn gain_all(edges: &mut [u32], n: usize, old: &Slots, new: &Slots) -> u32
     requires { CanGain edges.old n old.now.sources.now old.now.targets.now new.now.sources.now new.now.targets.now old.now.count }
     ensures n_value { result + filled edges.old n ≡ filled edges.new n }
@@ -105,13 +111,12 @@ fn shed_all(edges: &mut [u32], n: usize, old: &Slots, new: &Slots) -> u32
     found
 }
 
-// The matrix of the old slots becomes that of the new ones, as many. Edges come before edges go, so that one
+// The matrix of the old slots becomes that of as many new ones. Edges come before edges go, so that one
 // that is in both graphs is there all the time.
 pub fn update(edges: &mut [u32], n: usize, old: &Slots, new: &Slots) -> Changes
-    requires as_many { new.now.count ≡ old.now.count }
-    requires can { CanUpdate edges.old n old.now.sources.now old.now.targets.now new.now.sources.now new.now.targets.now old.now.count }
+    requires { CanUpdate edges.old n old.now.sources.now old.now.targets.now new.now.sources.now new.now.targets.now old.now.count }
     ensures changed { Changed n old.now.sources.now old.now.targets.now new.now.sources.now new.now.targets.now old.now.count result.appeared result.vanished }
-    ensures edges_after { edges.new ≡ patch 0 (matrix new.now.sources.now new.now.targets.now n new.now.count) edges.old }
+    ensures edges_after { edges.new ≡ patch 0 (matrix new.now.sources.now new.now.targets.now n old.now.count) edges.old }
 {
     let appeared = gain_all(edges, n, old, new);
     let vanished = shed_all(edges, n, old, new);

@@ -1,6 +1,9 @@
 // Whether the kept matrix is that of grouped slots, row by row. Each row is read once and to its end, so that several numbers can be compared at once.
-ghost use Rattle.std.specs.Prelude.{◌≡◌};
+ghost use Rattle.std.specs.Prelude.{◌≡◌, ℕ, ◌^◌, ◌<◌, Bool};
+ghost use Rattle.graphs.specs.Count.{count};
 ghost use Rattle.move_edges.specs.Rows.{CanTally, Tallied, CanWipe, Wiped, numbers_of, CanCompare, CanCount, Compared, CanCheckRow, RowChecked, CanCheck, Checked};
+
+// stays: `n` is how far apart the rows of the square stand, at the front of the area that C lends, and no list's length.
 
 // Each neighbour is counted on top of what stands at it; the answer is how many of them had nothing there.
 fn tally(part: &[u32], row: &mut [u32]) -> u32
@@ -26,16 +29,25 @@ fn wipe(part: &[u32], row: &mut [u32])
     }
 }
 
+// How many numbers below n pass the test.
+fn count_below<F: Fn(usize) -> bool>(n: usize, passes: F) -> u32
+    requires few { n < 2 ^ 32 }
+    requires callable { (k : ℕ) → k < n → F.pre passes k }
+    ensures { (test : ℕ → Bool) → ((k : ℕ) (r : Bool) → F.post passes k r → r ≡ test k) → result ≡ count test n }
+{
+    let mut found = 0;
+    for k in 0..n {
+        found += u32::from(passes(k));
+    }
+    found
+}
+
 // How many numbers differ from those of row.
 fn compare(numbers: &[u32], row: &[u32]) -> u32
     requires { CanCompare numbers.now row.now }
     ensures { Compared numbers.now (numbers_of row.now) result }
 {
-    let mut unequal = 0;
-    for k in 0..numbers.len() {
-        unequal += u32::from(numbers[k] != row[k]);
-    }
-    unequal
+    count_below(numbers.len(), |k| numbers[k] != row[k])
 }
 
 // How many numbers aren't 0.
@@ -43,11 +55,7 @@ pub fn count_filled(numbers: &[u32]) -> u32
     requires { CanCount numbers.now }
     ensures { Compared numbers.now (λ y. 0) result }
 {
-    let mut filled = 0;
-    for &number in numbers {
-        filled += u32::from(number != 0);
-    }
-    filled
+    count_below(numbers.len(), |k| numbers[k] != 0)
 }
 
 // How many edges start at a node, where its row of the matrix counts its neighbours; else None. The numbers of `row` are 0 before and after.

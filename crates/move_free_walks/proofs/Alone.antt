@@ -1,10 +1,10 @@
 -- Theorems on the definitions of specs/Alone: they stand here, so that the crate can be read with a definition changed. Assumes nothing.
-use Rattle.std.specs.Prelude.{ℕ, ◌^◌, ◌<◌, ◌≡◌, Bool, true, List}
+use Rattle.std.specs.Prelude.{ℕ, ◌<◌, ◌≡◌, true, List}
 use Rattle.std.proofs.Math.Decide.{ℕ_discrete}
 use Rattle.std.proofs.Common.{sym, ap, subst, ◌∙◌}
 use Rattle.graphs.specs.Bools.{alike}
 use Rattle.move_ledger.specs.Graph.{Load, at, owner, lies, occupied, edge}
-use Rattle.move_ledger.specs.GraphLaws.{lies_atom, lies-set, lies_in, occupied-by, occupy, entry-lies, lies-entry, Faces, Why, by_entry, by_facade, Apart}
+use Rattle.move_ledger.specs.GraphLaws.{lies_atom, lies-set, lies_in, occupied-by, occupy, entry-lies, lies-entry, Faces, Why, by_entry, by_facade}
 use Rattle.move_ledger.proofs.GraphLaws.{edge_why, why_edge, edge_kept}
 use Rattle.move_free_walks.specs.Joins.{cut, cut_edge, edge-cut, joined, old, leaves, enters, joined_why, why_joined}
 use Rattle.move_free_walks.specs.Joins as joins

@@ -1,27 +1,20 @@
 -- Theorems on the definitions of specs/AtomCount: they stand here, so that the crate can be read with a definition changed. Assumes nothing.
-use Rattle.std.specs.Prelude.{ℕ, ◌+◌, ◌^◌, ◌≤◌, ◌<◌, ◌≡◌, refl, Bool, true, false, not, ◌&&◌, List, eqb, ltb, length, set}
+use Rattle.std.specs.Prelude.{ℕ, ◌+◌, ◌^◌, ◌≤◌, ◌<◌, ◌≡◌, Bool, false, not, ◌&&◌, List, eqb, ltb, length, set}
 use Rattle.std.proofs.Common.{arith, ap₂, ◌∙◌}
 use Rattle.std.proofs.Math.Path.{sym, ap, subst}
-use Rattle.graphs.specs.Bools.{Decides, fails}
+use Rattle.graphs.specs.Bools.{Decides}
 use Rattle.graphs.specs.Count.{ind, count, count-more, count_ext}
-use Rattle.graphs.specs.Lists.{has, has-place, below}
-use Rattle.graphs.specs.Slots.{slot_edge, Ends}
+use Rattle.graphs.specs.Slots.{slot_edge}
 use Rattle.graphs.specs.SlotLaws.{mult_self}
 use Rattle.graphs.specs.Walk.{cyclic}
-use Rattle.graphs.specs.Walks.{acyclic_walk, cyclic_walk, sources-below}
 use Rattle.move_ledger.specs.Graph.{Load, none, at, occupied, edge}
 use Rattle.move_ledger.specs.LoadLaws.{InOrder}
-use Rattle.move_ledger.specs.Ledger.{put}
 use Rattle.move_ledger.specs.Nodes.{placed, Placing, sources, targets, node_edge}
-use Rattle.move_ledger.specs.NodeWalks.{ends-nodes, edge-inside}
-use Rattle.move_ledger.specs.NodeMoves.{placing_set}
-use Rattle.move_ledger.specs.NodePlaces.{placed-put, placing_put}
-use Rattle.move_ledger.specs.Places.{put_behind}
-use Rattle.move_free_walks.specs.Joins.{cut, cut_edge, Ahead, Behind, Acyclic}
-use Rattle.move_free_walks.specs.NodeFree.{Spare, spare_top, aside, node_rest, fine, counted}
+use Rattle.move_ledger.specs.NodePlaces.{placed-put}
+use Rattle.move_free_walks.specs.Joins.{cut, Ahead, Behind, Acyclic}
+use Rattle.move_free_walks.specs.NodeFree.{aside, node_rest, fine, counted}
 use Rattle.move_free_walks.proofs.NodeFree.{counted-free, counted_none, node_rest_acyclic}
 use Rattle.move_free_walks.specs.SpareNode.{bare, counted_spare}
-use Rattle.move_free_walks.specs.SpareSlots.{sources_spare, targets_spare}
 use Rattle.move_free_walks.specs.Counted.{meets, is_free}
 use Rattle.move_free_walks.specs.ByMarks.{after, before, free_by, after_decides, before_decides, free_is}
 use Rattle.move_free_walks.specs.AtomCount.{z, more, e, long, grown, spare, same_edges, inside}

@@ -1,17 +1,15 @@
 -- Theorems on the definitions of specs/Free: they stand here, so that the crate can be read with a definition changed. Assumes nothing.
-use Rattle.std.specs.Prelude.{ℕ, ◌^◌, ◌<◌, ◌≡◌, refl, ◌↔◌, Bool, true, false, List, length, set}
-use Rattle.std.proofs.Common.{arith, sym, ap, ◌∙◌, ⊎_elim, true≢false, length-set, get_or-set_same, get_or-set_other}
-use Rattle.std.proofs.Math.Decide.{ℕ_discrete}
-use Rattle.std.proofs.Math.Pow.{pow-lt}
-use Rattle.graphs.specs.Lists.{has, has-place}
-use Rattle.graphs.specs.Walk.{Walk, cyclic, only}
-use Rattle.graphs.specs.Walks.{join, closed, cyclic_walk, acyclic_walk, only_walk}
+use Rattle.std.specs.Prelude.{ℕ, ◌<◌, ◌≡◌, ◌↔◌, Bool, true, false, List, length, set}
+use Rattle.std.proofs.Common.{arith, sym, ap, ◌∙◌, length-set, get_or-set_other}
+use Rattle.graphs.specs.Lists.{has}
+use Rattle.graphs.specs.Walk.{Walk, cyclic}
+use Rattle.graphs.specs.Walks.{cyclic_walk, acyclic_walk}
 use Rattle.move_ledger.specs.Graph.{Load, at, occupied, edge}
-use Rattle.move_ledger.specs.GraphLaws.{occupied-by, occupy, apart_back}
-use Rattle.move_ledger.proofs.GraphLaws.{edge_kept, edge-source, edge-target}
-use Rattle.move_free_walks.specs.Joins.{edge-cut, joined, old, why_joined, Closes, Ahead, Behind, Free, Acyclic, lift}
+use Rattle.move_ledger.specs.GraphLaws.{occupied-by, occupy}
+use Rattle.move_ledger.proofs.GraphLaws.{edge-source}
+use Rattle.move_free_walks.specs.Joins.{joined, old, why_joined, Closes, Ahead, Behind, Free, Acyclic, lift}
 use Rattle.move_free_walks.proofs.Joins.{closes_when, acyclic_when, acyclic_own}
-use Rattle.move_free_walks.specs.Alone.{rest, out, into, Alone, Back}
+use Rattle.move_free_walks.specs.Alone.{Alone, Back}
 use Rattle.move_free_walks.proofs.Alone.{joined-edge, edge-joined}
 use Rattle.move_free_walks.specs.Free.{back-moved, back_now, without, outs, ins, H}
 use Rattle.move_free_walks.specs.Free as free_here

@@ -1,11 +1,8 @@
 -- Theorems on the definitions of specs/Joins: they stand here, so that the crate can be read with a definition changed. Assumes nothing.
-use Rattle.std.specs.Prelude.{ℕ, ◌≡◌, refl, ◌⊎◌, ◌↔◌, Bool, true, ◌&&◌, ◌||◌, eqb}
+use Rattle.std.specs.Prelude.{ℕ, ◌≡◌, refl, ◌⊎◌, ◌↔◌, Bool, true}
 use Rattle.std.proofs.Math.Decide.{ℕ_discrete}
-use Rattle.std.proofs.Common.{sym, ap, subst, ◌∙◌, inl, inr, eqb-true, eq-eqb, ne_eqb}
+use Rattle.std.proofs.Common.{sym, subst, ◌∙◌, inl, inr}
 use Rattle.std.proofs.Math.Logic.{⊎_elim}
-use Rattle.std.proofs.Math.Bool.{not}
-use Rattle.std.proofs.lemmas.Bool.{eqb-false, not-true}
-use Rattle.graphs.specs.Bools.{or_cases, or_left, or_right, and_left, and_right, and_both}
 use Rattle.graphs.specs.Walk.{Walk, one, more}
 use Rattle.graphs.specs.Walks.{join, closed}
 use Rattle.move_free_walks.specs.Joins.{joined, Why, old, leaves, enters, joined_why, why_joined, Upto, Ahead, Behind, Around, Closes, Acyclic, longer, lift, Free}

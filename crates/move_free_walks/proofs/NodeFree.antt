@@ -1,27 +1,20 @@
 -- Theorems on the definitions of specs/NodeFree: they stand here, so that the crate can be read with a definition changed. Assumes nothing.
-use Rattle.std.specs.Prelude.{ℕ, ◌^◌, ◌<◌, ◌≡◌, ◌↔◌, Bool, not, ◌&&◌, List, eqb, ltb, length, set}
+use Rattle.std.specs.Prelude.{ℕ, ◌<◌, ◌≡◌, ◌↔◌, Bool, not, ◌&&◌, List, eqb, ltb, length, set}
 use Rattle.std.proofs.Common.{arith, sym, ap, subst, ◌∙◌, true≢false}
 use Rattle.std.proofs.Math.Path.{refl}
 use Rattle.std.proofs.Math.Bool.{true, false}
-use Rattle.std.proofs.Math.Pow.{pow-lt}
-use Rattle.std.proofs.lemmas.Bool.{eqb-false, not-true}
+use Rattle.std.proofs.lemmas.Bool.{not-true}
 use Rattle.graphs.specs.Bools.{Decides, same_decides, and_left, and_right, and_both, fails}
-use Rattle.graphs.specs.Count.{count, count_ext, count-all_no}
-use Rattle.graphs.specs.Lists.{has, has-place}
-use Rattle.graphs.specs.Slots.{slot_edge}
+use Rattle.graphs.specs.Count.{count, count-all_no}
 use Rattle.graphs.specs.Walk.{cyclic}
 use Rattle.graphs.specs.Relabel.{Named}
-use Rattle.move_ledger.specs.Graph.{Load, at, occupied, mult, edge}
-use Rattle.move_ledger.proofs.GraphLaws.{edge-source, edge-target}
-use Rattle.move_ledger.specs.Ledger.{put}
-use Rattle.move_ledger.specs.Places.{put_same, put-there}
+use Rattle.move_ledger.specs.Graph.{Load, at, occupied, edge}
 use Rattle.move_ledger.specs.LoadLaws.{InOrder}
 use Rattle.move_ledger.specs.Nodes.{placed, Placing, node_edge}
-use Rattle.move_ledger.specs.NodeLaws.{placed-length, placed_at, placed-set, members-nodes}
+use Rattle.move_ledger.specs.NodeLaws.{placed_at, placed-set, members-nodes}
 use Rattle.move_ledger.specs.NodeWalks.{edge-inside}
-use Rattle.move_ledger.proofs.NodeWalks.{mult-nodes}
 use Rattle.move_ledger.specs.NodeMoves.{placing_set}
-use Rattle.move_free_walks.specs.Joins.{cut, Ahead, Behind, Fore, Aft, Free, Acyclic}
+use Rattle.move_free_walks.specs.Joins.{Ahead, Behind, Fore, Aft, Free, Acyclic}
 use Rattle.move_free_walks.specs.Alone.{Alone}
 use Rattle.move_free_walks.specs.Free.{outs, ins, alone_in}
 use Rattle.move_free_walks.proofs.Free.{rest_acyclic, moved-free, moved_own}

@@ -1,12 +1,12 @@
 -- Theorems on the definitions of specs/Present: they stand here, so that the crate can be read with a definition changed. Assumes nothing.
-use Rattle.std.specs.Prelude.{ℕ, ◌≡◌, refl, ◌↔◌, Bool, true, false, List, length, set}
+use Rattle.std.specs.Prelude.{ℕ, ◌≡◌, refl, ◌↔◌, true, false, List, length, set}
 use Rattle.std.proofs.Math.Decide.{ℕ_discrete}
 use Rattle.std.proofs.Common.{sym, subst, inl, inr, ⊎_elim}
 use Rattle.graphs.specs.Walk.{Walk, one, more, cyclic}
 use Rattle.graphs.specs.Walks.{join, avoid, acyclic_walk}
 use Rattle.move_ledger.specs.Graph.{Load, at, edge}
 use Rattle.move_ledger.proofs.GraphLaws.{edge-source}
-use Rattle.move_free_walks.specs.Joins.{old, leaves, enters, why_joined, Upto, Ahead, Behind, Fore, Aft, lift}
+use Rattle.move_free_walks.specs.Joins.{old, leaves, enters, why_joined, Upto, Ahead, Behind, Fore, Aft}
 use Rattle.move_free_walks.specs.Alone.{Alone}
 use Rattle.move_free_walks.proofs.Alone.{joined-edge}
 use Rattle.move_free_walks.specs.Free.{without, outs, ins, back_now, kept}

@@ -1,14 +1,9 @@
 -- The chunk graph without an atom: the atom alone in a set Z that no other atom has, and Z left out. The atom back in an occupied set X joins
 -- to X what Z led to and what led to Z. Assumes nothing.
-use Rattle.std.specs.Prelude.{ℕ, ◌^◌, ◌<◌, ◌≡◌, Bool, true, List}
-use Rattle.std.proofs.Math.Decide.{ℕ_discrete}
-use Rattle.std.proofs.Common.{sym, ap, subst, ◌∙◌}
-use Rattle.graphs.specs.Bools.{alike}
-use Rattle.move_ledger.specs.Graph.{Load, at, owner, lies, occupied, edge}
-use Rattle.move_ledger.specs.GraphLaws.{lies_atom, lies-set, lies_in, occupied-by, occupy, entry-lies, lies-entry, Faces, Why, by_entry, by_facade, Apart}
-use Rattle.move_ledger.proofs.GraphLaws.{edge_why, why_edge, edge_kept}
-use Rattle.move_free_walks.specs.Joins.{cut, cut_edge, edge-cut, joined, old, leaves, enters, joined_why, why_joined}
-use Rattle.move_free_walks.specs.Joins as joins
+use Rattle.std.specs.Prelude.{ℕ, ◌^◌, ◌<◌, ◌≡◌, Bool, List}
+use Rattle.move_ledger.specs.Graph.{Load, at, edge}
+use Rattle.move_ledger.specs.GraphLaws.{Apart}
+use Rattle.move_free_walks.specs.Joins.{cut}
 
 -- the graph of q without the set Z; what Z leads to; what leads to Z
 abbrev pub rest : Load → List ℕ → ℕ → ℕ → ℕ → Bool

@@ -1,28 +1,24 @@
 -- For the code: the moves of an atom that are accepted, counted over nodes. The atom stands alone at node z, behind all registered sets. Assumes nothing.
-use Rattle.std.specs.Prelude.{ℕ, ◌+◌, ◌^◌, ◌≤◌, ◌<◌, ◌≡◌, refl, Bool, true, false, not, ◌&&◌, List, eqb, ltb, length, set}
+use Rattle.std.specs.Prelude.{ℕ, ◌+◌, ◌^◌, ◌≤◌, ◌<◌, ◌≡◌, refl, Bool, true, false, List, length, set}
 use Rattle.std.proofs.Common.{arith, ap₂, ◌∙◌}
-use Rattle.std.proofs.Math.Path.{sym, ap, subst}
-use Rattle.graphs.specs.Bools.{Decides, fails}
-use Rattle.graphs.specs.Count.{ind, count, count-more, count_ext}
-use Rattle.graphs.specs.Lists.{has, has-place, below}
+use Rattle.std.proofs.Math.Path.{sym, ap}
+use Rattle.graphs.specs.Bools.{fails}
+use Rattle.graphs.specs.Lists.{has-place, below}
 use Rattle.graphs.specs.Slots.{slot_edge, Ends}
-use Rattle.graphs.specs.SlotLaws.{mult_self}
 use Rattle.graphs.specs.Walk.{cyclic}
 use Rattle.graphs.specs.Walks.{acyclic_walk, cyclic_walk, sources-below}
-use Rattle.move_ledger.specs.Graph.{Load, none, at, occupied, edge}
+use Rattle.move_ledger.specs.Graph.{Load, none, at}
 use Rattle.move_ledger.specs.LoadLaws.{InOrder}
 use Rattle.move_ledger.specs.Ledger.{put}
-use Rattle.move_ledger.specs.Nodes.{placed, Placing, sources, targets, node_edge}
+use Rattle.move_ledger.specs.Nodes.{Placing, sources, targets, node_edge}
 use Rattle.move_ledger.specs.NodeWalks.{ends-nodes, edge-inside}
 use Rattle.move_ledger.specs.NodeMoves.{placing_set}
-use Rattle.move_ledger.specs.NodePlaces.{placed-put, placing_put}
+use Rattle.move_ledger.specs.NodePlaces.{placing_put}
 use Rattle.move_ledger.specs.Places.{put_behind}
-use Rattle.move_free_walks.specs.Joins.{cut, cut_edge, Ahead, Behind, Acyclic}
-use Rattle.move_free_walks.specs.NodeFree.{Spare, spare_top, aside, node_rest, fine, counted}
-use Rattle.move_free_walks.specs.SpareNode.{bare, counted_spare}
+use Rattle.move_free_walks.specs.Joins.{cut, cut_edge, Acyclic}
+use Rattle.move_free_walks.specs.NodeFree.{Spare, spare_top, aside}
+use Rattle.move_free_walks.specs.SpareNode.{bare}
 use Rattle.move_free_walks.specs.SpareSlots.{sources_spare, targets_spare}
-use Rattle.move_free_walks.specs.Counted.{meets, is_free}
-use Rattle.move_free_walks.specs.ByMarks.{after, before, free_by, after_decides, before_decides, free_is}
 
 module _ {load : Load} {nodes sets : List ℕ} (o : InOrder load) (p : Placing load nodes sets) (small : (x : ℕ) → x < length sets → at sets x < 2 ^ load.E)
     (few : length sets + 1 ≤ none) (a : ℕ) (b : a < load.A) where

@@ -1,15 +1,15 @@
 -- Which moves of an atom to an occupied set close a cycle: two walks in the graph without the atom answer for all of them. Assumes nothing.
-use Rattle.std.specs.Prelude.{ℕ, ◌^◌, ◌<◌, ◌≡◌, refl, ◌↔◌, Bool, true, false, List, length, set}
-use Rattle.std.proofs.Common.{arith, sym, ap, ◌∙◌, ⊎_elim, true≢false, length-set, get_or-set_same, get_or-set_other}
+use Rattle.std.specs.Prelude.{ℕ, ◌^◌, ◌<◌, ◌≡◌, refl, Bool, true, false, List, length, set}
+use Rattle.std.proofs.Common.{arith, sym, ap, ◌∙◌, ⊎_elim, true≢false, get_or-set_same, get_or-set_other}
 use Rattle.std.proofs.Math.Decide.{ℕ_discrete}
 use Rattle.std.proofs.Math.Pow.{pow-lt}
 use Rattle.graphs.specs.Lists.{has, has-place}
 use Rattle.graphs.specs.Walk.{Walk, cyclic, only}
-use Rattle.graphs.specs.Walks.{join, closed, cyclic_walk, acyclic_walk, only_walk}
-use Rattle.move_ledger.specs.Graph.{Load, at, occupied, edge}
-use Rattle.move_ledger.specs.GraphLaws.{occupied-by, occupy, apart_back}
+use Rattle.graphs.specs.Walks.{join, closed, cyclic_walk, only_walk}
+use Rattle.move_ledger.specs.Graph.{Load, at, edge}
+use Rattle.move_ledger.specs.GraphLaws.{apart_back}
 use Rattle.move_ledger.proofs.GraphLaws.{edge_kept, edge-source, edge-target}
-use Rattle.move_free_walks.specs.Joins.{edge-cut, joined, old, why_joined, Closes, Ahead, Behind, Free, Acyclic, lift}
+use Rattle.move_free_walks.specs.Joins.{edge-cut, Acyclic}
 use Rattle.move_free_walks.specs.Alone.{rest, out, into, Alone, Back}
 
 -- a set that no other atom has, and that is no {e}, will do

@@ -1,4 +1,4 @@
--- 02, (ix): "How free is this plan?" Assumes nothing.
+-- How free a plan is: of every atom and every other occupied set, how the move is answered. Assumes nothing.
 use Rattle.std.specs.Prelude.{ℕ, Bool, true, false, not, ◌&&◌, List, eqb}
 use Rattle.graphs.specs.Count.{ind}
 use Rattle.graphs.specs.Total.{total}
@@ -30,7 +30,7 @@ is_fixed (number n) = false
 is_fixed (edge e) = false
 is_fixed none = false
 
--- "For every atom and every occupied set other than its own": the sets for which the answer to atom a passes
+-- the occupied sets other than atom a's own for which the answer to a passes
 unfoldable pub targets : Load → List ℕ → List ℕ → (Answer → Bool) → ℕ → ℕ
 targets load fixed place p a =
     sum (λ X. ind (not (eqb X (at place a)) && p (decide load fixed place a (words (width load.E) X)))) (rising place)
@@ -39,7 +39,7 @@ targets load fixed place p a =
 unfoldable pub pairs : Load → List ℕ → List ℕ → (Answer → Bool) → ℕ
 pairs load fixed place p = total (targets load fixed place p) load.A
 
--- "count accepted, rejected and fixed, by the move rule"
+-- how many pairs are accepted, rejected, and refused as the atom is fixed
 pub record Freedom : Type 0 where
   pub accepted : ℕ
   pub rejected : ℕ

@@ -1,12 +1,12 @@
 -- For the code: which moves of an atom are free, in node numbers. The atom stands alone at a node z. Assumes nothing.
-use Rattle.std.specs.Prelude.{ℕ, ◌^◌, ◌<◌, ◌≡◌, ◌↔◌, Bool, not, ◌&&◌, List, eqb, ltb, length, set}
-use Rattle.std.proofs.Common.{arith, sym, ap, subst, ◌∙◌, true≢false}
+use Rattle.std.specs.Prelude.{ℕ, ◌^◌, ◌<◌, ◌≡◌, Bool, not, ◌&&◌, List, eqb, ltb, length, set}
+use Rattle.std.proofs.Common.{arith, sym, subst, ◌∙◌, true≢false}
 use Rattle.std.proofs.Math.Path.{refl}
 use Rattle.std.proofs.Math.Bool.{true, false}
 use Rattle.std.proofs.Math.Pow.{pow-lt}
 use Rattle.std.proofs.lemmas.Bool.{eqb-false, not-true}
-use Rattle.graphs.specs.Bools.{Decides, same_decides, and_left, and_right, and_both, fails}
-use Rattle.graphs.specs.Count.{count, count_ext, count-all_no}
+use Rattle.graphs.specs.Bools.{Decides}
+use Rattle.graphs.specs.Count.{count, count_ext}
 use Rattle.graphs.specs.Lists.{has, has-place}
 use Rattle.graphs.specs.Slots.{slot_edge}
 use Rattle.graphs.specs.Walk.{cyclic}
@@ -17,15 +17,10 @@ use Rattle.move_ledger.specs.Ledger.{put}
 use Rattle.move_ledger.specs.Places.{put_same, put-there}
 use Rattle.move_ledger.specs.LoadLaws.{InOrder}
 use Rattle.move_ledger.specs.Nodes.{placed, Placing, node_edge}
-use Rattle.move_ledger.specs.NodeLaws.{placed-length, placed_at, placed-set, members-nodes}
+use Rattle.move_ledger.specs.NodeLaws.{placed-length, placed_at}
 use Rattle.move_ledger.specs.NodeWalks.{edge-inside}
 use Rattle.move_ledger.proofs.NodeWalks.{mult-nodes}
-use Rattle.move_ledger.specs.NodeMoves.{placing_set}
-use Rattle.move_free_walks.specs.Joins.{cut, Ahead, Behind, Fore, Aft, Free, Acyclic}
-use Rattle.move_free_walks.specs.Alone.{Alone}
-use Rattle.move_free_walks.specs.Free.{outs, ins, alone_in}
-use Rattle.move_free_walks.specs.Renamed.{ahead-named, behind_named, out-named, in_named, acyclic_named, free-named, fore_named, aft_named}
-use Rattle.move_free_walks.specs.Counted.{meets, is_free, free_decides}
+use Rattle.move_free_walks.specs.Joins.{cut, Ahead, Behind}
 
 -- the sets name the nodes
 pub nodes-named : {load : Load} {nodes sets : List ℕ} → InOrder load → Placing load nodes sets → Named (node_edge load nodes sets) (edge load (placed nodes sets)) (length sets) (at sets)

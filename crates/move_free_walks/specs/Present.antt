@@ -1,15 +1,10 @@
 -- From an acyclic graph the two walks can go along the present edges, whose lists serve every atom: only their first steps are asked to be
 -- edges without the atom. Assumes nothing.
-use Rattle.std.specs.Prelude.{ℕ, ◌≡◌, refl, ◌↔◌, Bool, true, false, List, length, set}
-use Rattle.std.proofs.Math.Decide.{ℕ_discrete}
-use Rattle.std.proofs.Common.{sym, subst, inl, inr, ⊎_elim}
-use Rattle.graphs.specs.Walk.{Walk, one, more, cyclic}
-use Rattle.graphs.specs.Walks.{join, avoid, acyclic_walk}
-use Rattle.move_ledger.specs.Graph.{Load, at, edge}
-use Rattle.move_ledger.proofs.GraphLaws.{edge-source}
-use Rattle.move_free_walks.specs.Joins.{old, leaves, enters, why_joined, Upto, Ahead, Behind, Fore, Aft, lift}
-use Rattle.move_free_walks.specs.Alone.{Alone}
-use Rattle.move_free_walks.specs.Free.{without, outs, ins, back_now, kept}
+use Rattle.std.specs.Prelude.{ℕ, ◌≡◌, refl, Bool, true}
+use Rattle.std.proofs.Common.{sym, subst, inl, inr}
+use Rattle.graphs.specs.Walk.{Walk, one, more}
+use Rattle.graphs.specs.Walks.{join}
+use Rattle.move_free_walks.specs.Joins.{Upto, lift}
 
 pub then-more : {g : ℕ → ℕ → Bool} {x y z : ℕ} → Upto g x y → Walk g y z → Walk g x z
 then-more {g} {x} {y} {z} (inl e) w = subst (λ k. Walk g k z) (sym e) w

@@ -30,7 +30,7 @@ words-value e X h = joined-parts 64 (width e) X (lt_of_lt_of_le h (pow_mono (ome
 pub words-legal : (e X : ℕ) → X < 2 ^ e → legal e (words (width e) X) ≡ true
 words-legal e X h = and_both (eqb (length (words (width e) X)) (width e)) _ (eq-eqb _ _ (length-parts 64 (width e) X)) (lt-ltb _ _ (subst (λ k. k < 2 ^ e) (sym (words-value e X h)) h))
 
--- "by the move rule": what an atom's move to another set in range is answered. Row 24 is the only one that refuses it
+-- what an atom's move to another set in range is answered. Row 24 is the only one that refuses it
 module _ (load : Load) (fixed place : List ℕ) (a X : ℕ) (n : length place ≡ load.A) (b : a < load.A) (small : X < 2 ^ load.E) (d : X ≡ at place a → ⊥) where
   s : List ℕ
   s = words (width load.E) X
@@ -189,7 +189,7 @@ module _ (load : Load) (fixed place : List ℕ) (n : length place ≡ load.A) (s
   total_times f k zero h = rw (native.Mathlib.Nat.zero-mul) refl
   total_times f k (suc n) h = rw (native.Mathlib.Nat.suc-mul) (omega (arith, total_times f k n (λ i b. h i (omega arith)), h n (omega arith)))
 
-  -- "The three counts add up to atoms × (occupied sets - 1), or 0 without atoms"
+  -- the three counts add up to the atoms times one less than the occupied sets, or to 0 without atoms
   pub free-sum : pairs load fixed place is_accepted + pairs load fixed place is_rejected + pairs load fixed place is_fixed ≡ load.A * (length (rising place) - 1)
   unfolding pairs
   free-sum = omega (

@@ -9,7 +9,7 @@ use Rattle.graphs.specs.Bools.{and_right}
 use Rattle.graphs.specs.Count.{ind, count, count_le, count_ext}
 use Rattle.graphs.specs.Lists.{below}
 use Rattle.graphs.specs.Slots.{slot_edge, Ends}
-use Rattle.graphs.specs.Total.{total-none, total-more}
+use Rattle.graphs.specs.Total.{total, total-none, total-more}
 use Rattle.graphs.specs.Walk.{cyclic}
 use Rattle.layout.specs.Patch.{part, part_at, part_long}
 use Rattle.layout.specs.Lent.{mid_part}
@@ -45,10 +45,10 @@ more_than k = go (eqb k 0) refl
     go false e = sym (lt-ltb 0 k (let d = eqb-false k 0 e in omega arith))
 
 -- the atom counts of the registered sets
-pub counts_part : {n : ℕ} {area : List ℕ} {to : ℕ} → CanCounts area n → to ≡ lane_at n 8 + get_or area (n * n) 0 → take (to - lane_at n 8) (drop (lane_at n 8) area) ≡ counts_in n area
-counts_part {n} {area} {to} can e =
-    let q : to - lane_at n 8 ≡ get_or area (n * n) 0 = omega arith in
-    mid_part (lane_at n 8) to area (omega arith) (omega (arith, can.inside)) ∙ ap (λ k. part (lane_at n 8) k area) q
+pub counts_part : {n : ℕ} {area : List ℕ} → CanCounts area n → take (get_or area (n * n) 0) (drop (lane_at n 8) area) ≡ counts_in n area
+counts_part {n} {area} can =
+    let q : lane_at n 8 + get_or area (n * n) 0 - lane_at n 8 ≡ get_or area (n * n) 0 = omega arith in
+    subst (λ k. take k (drop (lane_at n 8) area) ≡ part (lane_at n 8) k area) q (mid_part (lane_at n 8) (lane_at n 8 + get_or area (n * n) 0) area (omega arith) (omega (arith, can.inside)))
 
 -- they are those of the placement
 occupied-counts : (load : Load) (n : ℕ) (area : List ℕ) (X : ℕ) → X < get_or area (n * n) 0 → get_or area (lane_at n 8 + X) 0 ≡ members load (nodes_in load n area) X → has_atom (counts_in n area) X ≡ occupied load (nodes_in load n area) X
@@ -176,12 +176,15 @@ pub counted_zero : (load : Load) (fixed place : List ℕ) → Counted load fixed
 counted_zero load fixed place = record { accepted = sym (total-none _); rejected = sym (total-none _); fixed = sym (total-none _) }
 
 pub counted_next : {load : Load} {fixed place : List ℕ} {k each : ℕ} {all one : Counts} → Counted load fixed place k all → OfAtom load fixed place k each one
-    → Counted load fixed place (k + 1) (record { accepted = all.accepted + one.accepted; rejected = all.rejected + one.rejected; fixed = all.fixed + one.fixed })
-counted_next {load} {fixed} {place} {k} v o = record {
-  accepted = omega (arith, v.accepted, o.accepted, total-more (free.targets load fixed place is_accepted) k);
-  rejected = omega (arith, v.rejected, o.rejected, total-more (free.targets load fixed place is_rejected) k);
-  fixed = omega (arith, v.fixed, o.fixed, total-more (free.targets load fixed place is_fixed) k);
+    → {k' : ℕ} {all' : Counts} → k' ≡ k + 1 → all'.accepted ≡ all.accepted + one.accepted → all'.rejected ≡ all.rejected + one.rejected → all'.fixed ≡ all.fixed + one.fixed → Counted load fixed place k' all'
+counted_next {load} {fixed} {place} {k} v o e f g h = record {
+  accepted = omega (arith, f, v.accepted, o.accepted, total-more (free.targets load fixed place is_accepted) k, ap (total (free.targets load fixed place is_accepted)) e);
+  rejected = omega (arith, g, v.rejected, o.rejected, total-more (free.targets load fixed place is_rejected) k, ap (total (free.targets load fixed place is_rejected)) e);
+  fixed = omega (arith, h, v.fixed, o.fixed, total-more (free.targets load fixed place is_fixed) k, ap (total (free.targets load fixed place is_fixed)) e);
 }
+
+pub counted_upto : {load : Load} {fixed place : List ℕ} {k m : ℕ} {all : Counts} → Counted load fixed place k all → k ≡ m → Counted load fixed place m all
+counted_upto {load} {fixed} {place} {k} {m} {all} v e = subst (λ j. Counted load fixed place j all) e v
 
 module _ {load : Load} {fixed : List ℕ} {n : ℕ} {area : List ℕ} {atom each : ℕ} (can : CanCountAtom load fixed n area atom each) where
   pub atom_asks : CanCount load n area atom
@@ -236,13 +239,13 @@ module _ {load : Load} {fixed : List ℕ} {n : ℕ} {area : List ℕ} (can : Can
       (rw (long, c) (count_ext _ (λ x. occupied load (nodes_in load n area) x) (get_or area (n * n) 0) (λ x b. occupied-counts load n area x b (can.worked.counts x (omega (arith, can.ranged.few))))))
       ∙ ap (count (λ x. occupied load (nodes_in load n area) x)) (sym (sets-length n area)) ∙ sym (chunk_count load fixed placing (λ x b. can.ranged.range x (omega (arith, sets-length n area))))
 
-  pub all_asks : {counts : List ℕ} {chunks : ℕ} → counts ≡ counts_in n area → chunks ≡ count (has_atom counts) (length counts) → CanCountAll load fixed n area (chunks - 1)
+  pub all_asks : {counts : List ℕ} {each : ℕ} → counts ≡ counts_in n area → each ≡ count (has_atom counts) (length counts) - 1 → CanCountAll load fixed n area each
   all_asks {counts} c e = record {
     loadable = can.loadable;
     ranged = can.ranged;
     worked = can.worked;
     marks = can.marks;
-    others = ap (λ k. k - 1) (e ∙ chunks_are c);
+    others = e ∙ ap (λ k. k - 1) (chunks_are c);
     few = omega (arith, e, count_le (has_atom counts) (length counts), ap length c, part_long (lane_at n 8) (get_or area (n * n) 0) area, can.ranged.few, can.loadable.sizes.sets);
   }
 

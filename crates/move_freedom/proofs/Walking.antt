@@ -1,7 +1,8 @@
 -- What the two walks come to: flags of nodes by which the nodes that an atom may go to are counted. Assumes nothing.
-use Prim.Native.Nat.{ℕ, ◌+◌, ◌<◌}
-use Rattle.std.proofs.Common.{arith, sym, subst, ◌∙◌, true≢false, ap₂}
-use Rattle.std.specs.Prelude.{◌≡◌, refl, Bool, false, cond, ◌&&◌, ◌||◌, List, length, replicate}
+use Prim.Native.Nat.{ℕ, ◌+◌, ◌≤◌, ◌<◌}
+use Rattle.std.proofs.Common.{arith, sym, subst, ◌∙◌, true≢false, ap₂, length-set, get_or-set_same, get_or-set_other}
+use Rattle.std.proofs.Math.Decide.{ℕ_discrete}
+use Rattle.std.specs.Prelude.{◌≡◌, refl, Bool, false, cond, ◌&&◌, ◌||◌, List, length, replicate, set}
 use Rattle.std.proofs.Math.Path.{ap, fun_ext}
 use Rattle.std.proofs.Math.Bool.{true, not}
 use Rattle.std.proofs.Math.Dec.{eqb}
@@ -16,13 +17,15 @@ use Rattle.graphs.specs.SlotLaws.{same-yes, edge-slot, slot-turned}
 use Rattle.graphs.specs.Tab.{tab-length, tab-at}
 use Rattle.graphs.specs.Walk.{via}
 use Rattle.graph_walks.specs.Marks.{marking, marked}
+use Rattle.move_ledger.specs.Graph.{none}
 use Rattle.move_free_walks.specs.Joins.{cut, cut_edge, edge-cut}
 use Rattle.move_free_walks.specs.ByMarks.{turn, forth, back, after, before, around, free_by}
 use Rattle.move_freedom.specs.declared.flags.Flags.{Flags}
 use Rattle.move_freedom.specs.Reach.{CanReach}
-use Rattle.move_freedom.specs.Steps.{goes, leaves, stepped, Flagged}
+use Rattle.move_freedom.specs.Steps.{goes, leaves, stepped, CanFlag, CanStep, Flagged}
 use Rattle.move_freedom.specs.Tally.{both, has_atom, open_count}
 use Rattle.move_freedom.specs.Walks.{CanOpen}
+use Rattle.move_freedom.proofs.Flagging.{goes_on}
 
 -- an edge is a slot
 slot_of : (s t : List ℕ) (m x y : ℕ) → slot_edge s t m x y ≡ true → (k : ℕ) × (k < m) × (get_or s k 0 ≡ x) × (get_or t k 0 ≡ y) × (x ≡ y → ⊥)
@@ -34,7 +37,7 @@ unfolding slot_edge mult
 edge_of s t m k b d = lt-ltb 0 _ (count_pos (slot s t (get_or s k 0) (get_or t k 0)) m k b (same-yes _ _ _ _ d refl refl))
 
 -- the marks of a walk over zeros
-reached-at : (e : ℕ → ℕ → Bool) (n z : ℕ) {marks : List ℕ} → marks ≡ marked e n 1 z (replicate 1025 0) → (x : ℕ) → x < 1025 → get_or marks x 0 ≡ ind (via e (below n) z x)
+pub reached-at : (e : ℕ → ℕ → Bool) (n z : ℕ) {marks : List ℕ} → marks ≡ marked e n 1 z (replicate 1025 0) → (x : ℕ) → x < 1025 → get_or marks x 0 ≡ ind (via e (below n) z x)
 unfolding marking
 reached-at e n z q x b =
     ap (λ (l : List ℕ). get_or l x 0) q ∙ tab-at (λ y. cond (via e (below n) z y) 1 (get_or (replicate 1025 0) y 0)) 1025 x b
@@ -44,7 +47,7 @@ reached-at e n z q x b =
     flag true = refl
     flag false = refl
 
-reached_long : (e : ℕ → ℕ → Bool) (n z : ℕ) {marks : List ℕ} → marks ≡ marked e n 1 z (replicate 1025 0) → length marks ≡ 1025
+pub reached_long : (e : ℕ → ℕ → Bool) (n z : ℕ) {marks : List ℕ} → marks ≡ marked e n 1 z (replicate 1025 0) → length marks ≡ 1025
 unfolding marking
 reached_long e n z q = ap length q ∙ tab-length (λ y. cond (via e (below n) z y) 1 (get_or (replicate 1025 0) y 0)) 1025
 
@@ -56,12 +59,8 @@ down : (t : Bool) {k : ℕ} → k ≡ ind t → eqb k 0 ≡ not t
 down true e = ap (λ k. eqb k 0) e
 down false e = ap (λ k. eqb k 0) e
 
-turned-edges : (s t : List ℕ) (m : ℕ) → slot_edge t s m ≡ turn (slot_edge s t m)
+pub turned-edges : (s t : List ℕ) (m : ℕ) → slot_edge t s m ≡ turn (slot_edge s t m)
 turned-edges s t m = fun_ext (λ x. fun_ext (λ y. slot-turned s t m y x))
-
--- a slot that goes on
-goes_on : (marks : List ℕ) (skip u v : ℕ) → (u ≡ v → ⊥) → (u ≡ skip → ⊥) → (v ≡ skip → ⊥) → (get_or marks u 0 ≡ 0 → ⊥) → goes marks skip u v ≡ true
-goes_on marks skip u v a b c d = rw (ne_eqb u v a, ne_eqb u skip b, ne_eqb v skip c, ne_eqb (get_or marks u 0) 0 d) refl
 
 -- what a slot has that goes on
 module _ (marks : List ℕ) (skip u v : ℕ) (h : goes marks skip u v ≡ true) where
@@ -85,7 +84,7 @@ module _ (marks : List ℕ) (skip u v : ℕ) (h : goes marks skip u v ≡ true) 
 
 module _ (s t : List ℕ) (m z n : ℕ) (ends : Ends s t n m) (marks : List ℕ) (told : (y : ℕ) → y < n → get_or marks y 0 ≡ ind (via (slot_edge s t m) (below n) z y)) where
   -- a step after the marked nodes
-  stepped-after : (x : ℕ) → stepped (goes marks z) s t m x ≡ after (slot_edge s t m) z n x
+  pub stepped-after : (x : ℕ) → stepped (goes marks z) s t m x ≡ after (slot_edge s t m) z n x
   unfolding stepped after forth
   stepped-after x = alike _ _ there here
     where
@@ -114,7 +113,7 @@ module _ (s t : List ℕ) (m z n : ℕ) (ends : Ends s t n m) (marks : List ℕ)
           (eq-eqb (get_or t k.0 0) x k.3))
 
 -- the mirror
-before-turned : (s t : List ℕ) (m z n x : ℕ) → before (slot_edge s t m) z n x ≡ after (slot_edge t s m) z n x
+pub before-turned : (s t : List ℕ) (m z n x : ℕ) → before (slot_edge s t m) z n x ≡ after (slot_edge t s m) z n x
 unfolding before after back forth cut
 before-turned s t m z n x =
     ap (λ p. some_below p n) (fun_ext (λ y. ap (λ b. b && via (turn (slot_edge s t m)) (below n) z y) (swap (slot_edge s t m x y) (not (eqb x z)) (not (eqb y z)))))
@@ -128,7 +127,7 @@ before-turned s t m z n x =
     swap false b c = refl
 
 -- what z leads to
-stepped-out : (s t : List ℕ) (m z x : ℕ) → stepped (leaves z) s t m x ≡ slot_edge s t m z x
+pub stepped-out : (s t : List ℕ) (m z x : ℕ) → stepped (leaves z) s t m x ≡ slot_edge s t m z x
 unfolding stepped
 stepped-out s t m z x = alike _ _ there here
   where
@@ -147,6 +146,33 @@ stepped-out s t m z x = alike _ _ there here
         some_give (λ i. leaves z (get_or s i 0) (get_or t i 0) && eqb (get_or t i 0) x) m k.0 k.1
         (rw (ne_eqb (get_or s k.0 0) (get_or t k.0 0) (λ q. k.4 (sym k.2 ∙ q ∙ k.3)), eq-eqb (get_or s k.0 0) z k.2, eq-eqb (get_or t k.0 0) x k.3) refl)
 
+pub leave_done : {s t : List ℕ} {m : ℕ} (z : ℕ) {out out' : List Bool} → Flagged (leaves z) s t m out out' → (x : ℕ) → x < length out → get_or out' x false ≡ (slot_edge s t m z x || get_or out x false)
+leave_done {s} {t} {m} z {out} v x b = v.each x b ∙ ap (λ u. u || get_or out x false) (stepped-out s t m z x)
+
+-- so it is with a step after the marked nodes, where z alone is marked
+pub stepped-only : (s t : List ℕ) (m z : ℕ) → Ends s t (z + 1) m → z ≤ 1024 → (only : List ℕ) → only ≡ set (replicate 1025 0) z 1 → (x : ℕ) → stepped (goes only none) s t m x ≡ slot_edge s t m z x
+unfolding stepped
+stepped-only s t m z ends few only e x = alike _ _ (over (λ i b h. sym (same i b) ∙ h)) (over (λ i b h. same i b ∙ h)) ∙ stepped-out s t m z x
+  where
+    marks-z : (u : ℕ) → u < z + 1 → Dec (u ≡ z) → not (eqb (get_or only u 0) 0) ≡ eqb u z
+    marks-z u b (yes q) = rw (e, q, get_or-set_same {A = ℕ} (replicate 1025 0) z 1 0 (omega arith), eq-eqb z z refl) refl
+    marks-z u b (no q) = rw (e, get_or-set_other {A = ℕ} (replicate 1025 0) z u 1 0 q, get_or-replicate {A = ℕ} 1025 u 0 0 (omega arith), ne_eqb u z q) refl
+
+    same : (i : ℕ) → i < m → (goes only none (get_or s i 0) (get_or t i 0) && eqb (get_or t i 0) x) ≡ (leaves z (get_or s i 0) (get_or t i 0) && eqb (get_or t i 0) x)
+    same i b =
+        rw (ne_eqb (get_or s i 0) none (let l = ends.source i b in omega arith), ne_eqb (get_or t i 0) none (let l = ends.target i b in omega arith), marks-z (get_or s i 0) (ends.source i b) (ℕ_discrete (get_or s i 0) z)) refl
+
+    over : {p q : ℕ → Bool} → ((i : ℕ) → i < m → p i ≡ true → q i ≡ true) → some_below p m ≡ true → some_below q m ≡ true
+    over {p} {q} f h =
+        let r = some_take p m h in
+        some_give q m r.0 r.1 (f r.0 r.1 r.2)
+
+pub leave_can : {s t : List ℕ} {m z : ℕ} {out : List Bool} {only : List ℕ} → m ≤ length s → m ≤ length t → Ends s t (z + 1) m → z ≤ 1024 → 1025 ≤ length out → only ≡ set (replicate 1025 0) z 1 → CanStep s t m only out
+leave_can {s} {t} {m} {z} sources targets ends few room e = record {
+  flag = record { keys = sources; values = targets; target = λ k b. omega (arith, ends.target k b, few, room) };
+  source = λ k b. omega (arith, ends.source k b, few, ap length e, length-set (replicate {A = ℕ} 1025 0) z 1);
+}
+
 module _ {counts s t : List ℕ} {m : ℕ} (can : CanOpen counts s t m) where
   abbrev z : ℕ
   z = length counts
@@ -159,6 +185,21 @@ module _ {counts s t : List ℕ} {m : ℕ} (can : CanOpen counts s t m) where
 
   pub back_can : CanReach t s m (length counts + 1) (length counts) (replicate 1025 0)
   back_can = record { slots = can.slots; sources = can.targets; targets = can.sources; ends = turned-ends; nodes = omega (arith, can.few); there = omega arith; cells = omega (arith, can.few); fresh = λ x b. get_or-replicate 1025 x 0 0 (omega (arith, can.few)) }
+
+  pub leaves_can : CanFlag s t m (replicate 1025 false)
+  leaves_can = record { keys = can.sources; values = can.targets; target = λ k b. omega (arith, can.ends.target k b, can.few) }
+
+  pub ahead_can : {fo : List ℕ} → fo ≡ marked (slot_edge s t m) (length counts + 1) 1 (length counts) (replicate 1025 0) → CanStep s t m fo (replicate 1025 false)
+  ahead_can p = record {
+    flag = leaves_can;
+    source = λ k b. omega (arith, can.ends.source k b, can.few, reached_long (slot_edge s t m) (z + 1) z p);
+  }
+
+  pub behind_can : {ba : List ℕ} → ba ≡ marked (slot_edge t s m) (length counts + 1) 1 (length counts) (replicate 1025 0) → CanStep t s m ba (replicate 1025 false)
+  behind_can q = record {
+    flag = record { keys = can.targets; values = can.sources; target = λ k b. omega (arith, can.ends.source k b, can.few) };
+    source = λ k b. omega (arith, can.ends.target k b, can.few, reached_long (slot_edge t s m) (z + 1) z q);
+  }
 
   module _ {fo : List ℕ} {f : Flags} (p : fo ≡ marked (slot_edge s t m) (length counts + 1) 1 (length counts) (replicate 1025 0))
       (q : f.back ≡ marked (slot_edge t s m) (length counts + 1) 1 (length counts) (replicate 1025 0))
@@ -179,7 +220,7 @@ module _ {counts s t : List ℕ} {m : ℕ} (can : CanOpen counts s t m) where
         ∙ stepped-after t s m z (z + 1) turned-ends f.back (λ y c. reached-at (slot_edge t s m) (z + 1) z q y (omega (arith, can.few))) x ∙ sym (before-turned s t m z (z + 1) x)
 
     out_at : (x : ℕ) → x < z + 1 → get_or f.out x false ≡ slot_edge s t m z x
-    out_at x b = l.each x (omega (arith, can.few)) ∙ flat (stepped (leaves z) s t m x) x (omega (arith, can.few)) ∙ stepped-out s t m z x
+    out_at x b = leave_done z l x (omega (arith, can.few)) ∙ flat (slot_edge s t m z x) x (omega (arith, can.few))
 
     back_at : (x : ℕ) → x < z + 1 → get_or f.back x 0 ≡ ind (back (slot_edge s t m) z (z + 1) x)
     unfolding back

@@ -1,5 +1,6 @@
 -- How many nodes an atom may go to, by flags. Assumes nothing.
-use Rattle.std.specs.Prelude.{ℕ, ◌+◌, Bool, false, not, ◌&&◌, List, eqb, length, get_or}
+use Rattle.std.specs.Prelude.{ℕ, ◌+◌, ◌≡◌, Bool, false, not, ◌&&◌, List, eqb, length, get_or}
+use Rattle.std.proofs.Common.{ap, ◌∙◌}
 use Rattle.graphs.specs.Count.{ind, count}
 use Rattle.move_freedom.specs.declared.flags.Flags.{Flags}
 
@@ -18,3 +19,8 @@ admits f atoms own k x = not (eqb atoms 0) && (not (eqb x own) && (not (get_or f
 -- the nodes with these atom counts that the atom in node `own` may go to, of one more node those that meet
 unfoldable pub open_count : Flags → List ℕ → ℕ → ℕ
 open_count f counts own = count (λ x. admits f (get_or counts x 0) own (count (both f) (length counts + 1)) x) (length counts)
+
+-- what a test of the parts answers
+pub admits_one : (f : Flags) (atoms own k x : ℕ) {m : ℕ} {r : Bool} → m ≡ ind (both f x)
+    → r ≡ (not (eqb atoms 0) && (not (eqb x own) && (not (get_or f.ahead x false) && (not (get_or f.behind x false) && eqb k m)))) → r ≡ admits f atoms own k x
+admits_one f atoms own k x e q = q ∙ ap (λ (j : ℕ). not (eqb atoms 0) && (not (eqb x own) && (not (get_or f.ahead x false) && (not (get_or f.behind x false) && eqb k j)))) e

@@ -1,4 +1,6 @@
 // The three counts, atom by atom.
+// stays: load, fixed and area come one by one, as in each call on a plan. Clauses name them, and would be longer through a struct: no plainer.
+// stays: the arrays have a fixed length, since memory is fixed and nothing is on the heap.
 ghost use Rattle.std.specs.Prelude.{◌≡◌, ◌&&◌, ◌+◌, ◌-◌, ◌*◌, eqb, length, get_or};
 ghost use Rattle.graphs.specs.Count.{count};
 ghost use Rattle.graphs.specs.Lists.{below};
@@ -16,51 +18,50 @@ use super::Counts;
 use super::aside::set_aside;
 use super::flags::occupied_nodes;
 use graph_neighbours::Slots;
+use move_area::{ACYCLIC, Area};
 use move_load_view::Load;
 
 // The atom counts of the registered sets.
-fn atom_counts(area: &[u32], n: usize) -> &[u32]
-    requires { CanCounts area.now n }
-    ensures { result.now ≡ counts_in n area.now }
+fn atom_counts<'a>(area: &Area<'a>) -> &'a [u32]
+    requires { CanCounts area.now.numbers.now area.now.n }
+    ensures { result.now ≡ counts_in area.now.n area.now.numbers.now }
 {
-    let registered = area[n * n] as usize;
-    let from = n * n + 24 + 8 * n;
-    &area[from..from + registered]
+    area.lane(8, area.numbers[area.n * area.n] as usize)
 }
 
 // Whether there is a cycle without node z. Where the area's graph has none there is none.
-fn rest_cyclic(area: &[u32], n: usize, slots: &Slots, z: usize) -> bool
-    requires { CanAskRest area.now n slots.now.sources.now slots.now.targets.now slots.now.count z }
-    ensures { result ≡ eqb (get_or area.now (n * n + 2) 0) 0 && cyclic (cut (slot_edge slots.now.sources.now slots.now.targets.now slots.now.count) z) (below z) }
+fn rest_cyclic(area: &Area, slots: &Slots, z: usize) -> bool
+    requires { CanAskRest area.now.numbers.now area.now.n slots.now.sources.now slots.now.targets.now slots.now.count z }
+    ensures { result ≡ eqb (get_or area.now.numbers.now (area.now.n * area.now.n + 2) 0) 0 && cyclic (cut (slot_edge slots.now.sources.now slots.now.targets.now slots.now.count) z) (below z) }
 {
-    area[n * n + 2] == 0 && super::rest::has_cycle(slots, z)
+    area.header(ACYCLIC) == 0 && super::rest::has_cycle(slots, z)
 }
 
 // How many sets the atom may go to.
-fn accepted(load: &Load, n: usize, area: &[u32], atom: usize) -> u32
-    requires { CanCount (lent_by load.now) n area.now atom }
-    ensures { result ≡ counted (lent_by load.now) (nodes_in (lent_by load.now) n area.now) atom (length (sets_in n area.now)) (fine (lent_by load.now) (nodes_in (lent_by load.now) n area.now) (sets_in n area.now) atom) }
+fn accepted(load: &Load, area: &Area, atom: usize) -> u32
+    requires { CanCount (lent_by load.now) area.now.n area.now.numbers.now atom }
+    ensures { result ≡ counted (lent_by load.now) (nodes_in (lent_by load.now) area.now.n area.now.numbers.now) atom (length (sets_in area.now.n area.now.numbers.now)) (fine (lent_by load.now) (nodes_in (lent_by load.now) area.now.n area.now.numbers.now) (sets_in area.now.n area.now.numbers.now) atom) }
 {
     let mut sources = [0u32; 8448];
     let mut targets = [0u32; 8448];
-    set_aside(load, n, area, atom, &mut sources, &mut targets);
+    set_aside(load, area, atom, &mut sources, &mut targets);
     let slots = Slots {
         sources: &sources,
         targets: &targets,
         count: load.entries + load.bits,
     };
-    let counts = atom_counts(area, n);
-    if rest_cyclic(area, n, &slots, counts.len()) {
+    let counts = atom_counts(area);
+    if rest_cyclic(area, &slots, counts.len()) {
         return 0;
     }
-    let own = area[n * n + 24 + 24 * n + atom] as usize;
+    let own = area.node_of(atom);
     super::walks::open_nodes(counts, own, &slots)
 }
 
 // The counts of one atom, where there are `each` occupied sets other than its own.
-fn of_atom(load: &Load, n: usize, fixed: &[u32], area: &[u32], atom: usize, each: u64) -> Counts
-    requires { CanCountAtom (lent_by load.now) fixed.now n area.now atom each }
-    ensures { OfAtom (lent_by load.now) fixed.now (place_in (lent_by load.now) n area.now) atom each result }
+fn of_atom(load: &Load, fixed: &[u32], area: &Area, atom: usize, each: u64) -> Counts
+    requires { CanCountAtom (lent_by load.now) fixed.now area.now.n area.now.numbers.now atom each }
+    ensures { OfAtom (lent_by load.now) fixed.now (place_in (lent_by load.now) area.now.n area.now.numbers.now) atom each result }
 {
     let is_fixed = fixed[atom] != 0;
     if is_fixed {
@@ -70,7 +71,7 @@ fn of_atom(load: &Load, n: usize, fixed: &[u32], area: &[u32], atom: usize, each
             fixed: each,
         };
     }
-    let open = u64::from(accepted(load, n, area, atom));
+    let open = u64::from(accepted(load, area, atom));
     Counts {
         accepted: open,
         rejected: each - open,
@@ -79,9 +80,9 @@ fn of_atom(load: &Load, n: usize, fixed: &[u32], area: &[u32], atom: usize, each
 }
 
 // The counts of all atoms, where there are `each` occupied sets other than an atom's own.
-fn of_all(load: &Load, n: usize, fixed: &[u32], area: &[u32], each: u64) -> Counts
-    requires { CanCountAll (lent_by load.now) fixed.now n area.now each }
-    ensures { Counted (lent_by load.now) fixed.now (place_in (lent_by load.now) n area.now) load.now.atoms result }
+fn of_all(load: &Load, fixed: &[u32], area: &Area, each: u64) -> Counts
+    requires { CanCountAll (lent_by load.now) fixed.now area.now.n area.now.numbers.now each }
+    ensures { Counted (lent_by load.now) fixed.now (place_in (lent_by load.now) area.now.n area.now.numbers.now) load.now.atoms result }
 {
     let mut all = Counts {
         accepted: 0,
@@ -89,7 +90,7 @@ fn of_all(load: &Load, n: usize, fixed: &[u32], area: &[u32], each: u64) -> Coun
         fixed: 0,
     };
     for atom in 0..load.atoms {
-        let one = of_atom(load, n, fixed, area, atom, each);
+        let one = of_atom(load, fixed, area, atom, each);
         all.accepted += one.accepted;
         all.rejected += one.rejected;
         all.fixed += one.fixed;
@@ -98,10 +99,10 @@ fn of_all(load: &Load, n: usize, fixed: &[u32], area: &[u32], each: u64) -> Coun
 }
 
 // How free the plan in the area is.
-pub fn how_free(load: &Load, n: usize, fixed: &[u32], area: &[u32]) -> Counts
-    requires { CanFree (lent_by load.now) fixed.now n area.now }
-    ensures { Freed (lent_by load.now) fixed.now (place_in (lent_by load.now) n area.now) result }
+pub fn how_free(load: &Load, fixed: &[u32], area: &Area) -> Counts
+    requires { CanFree (lent_by load.now) fixed.now area.now.n area.now.numbers.now }
+    ensures { Freed (lent_by load.now) fixed.now (place_in (lent_by load.now) area.now.n area.now.numbers.now) result }
 {
-    let chunks = occupied_nodes(atom_counts(area, n)) as u64;
-    of_all(load, n, fixed, area, chunks.saturating_sub(1))
+    let chunks = occupied_nodes(atom_counts(area)) as u64;
+    of_all(load, fixed, area, chunks.saturating_sub(1))
 }

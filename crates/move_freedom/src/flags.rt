@@ -8,6 +8,8 @@ pub const NODES: usize = 1025;
 
 // What the walks of an atom tell of each node: whether it comes a step after one that the atom reaches, whether a step leads from it to one that reaches
 // the atom, whether a step leads to it from the atom, and, unless it is 0, that it reaches the atom.
+// stays: `back` are the marks that a walk leaves, which are numbers, and each of the other three is written by one loop of its own: a list of structs would be
+// no plainer.
 #[derive(Drop)]
 pub struct Flags {
     pub ahead: [bool; NODES],

@@ -13,7 +13,7 @@ mod walks;
 pub use atoms::how_free;
 
 // The three counts.
-#[derive(Clone, Copy)]
+#[derive(Clone, Copy, PartialEq, Eq, Debug)]
 pub struct Counts {
     pub accepted: u64,
     pub rejected: u64,

@@ -1,4 +1,5 @@
 // The graph without the node behind all others.
+// stays: the arrays have a fixed length, since memory is fixed and nothing is on the heap.
 ghost use Rattle.std.specs.Prelude.{◌≡◌};
 ghost use Rattle.graphs.specs.Lists.{below};
 ghost use Rattle.graphs.specs.Slots.{slot_edge};

@@ -1,4 +1,5 @@
 // The two walks of an atom, and what they leave open.
+// stays: the arrays have a fixed length, since memory is fixed and nothing is on the heap.
 ghost use Rattle.std.specs.Prelude.{◌≡◌, not, ◌&&◌, ◌+◌, eqb, length};
 ghost use Rattle.graphs.specs.Count.{count};
 ghost use Rattle.graphs.specs.Slots.{slot_edge};

@@ -77,7 +77,7 @@ module _ (load : Load) (fixed : List ℕ) (N : ℕ) (l : Ledger) (a : ℕ) (s : 
           keeps false true = refl
           keeps false false = rw h refl
 
-  -- 02: "forms stay in their chunk": a fixed atom has its set
+  -- a fixed atom keeps its set
   pub fixed_atom : (b : ℕ) → stays fixed b ≡ true → at (move load fixed N l a s).after.place b ≡ at l.place b
   fixed_atom b h = ap (λ p. at p b) place_after ∙ go (is_accepted (moveLaws_here.x load fixed N l a s)) refl
     where

@@ -57,13 +57,13 @@ module _ {load : Load} {nodes sets order : List ℕ} (o : InOrder load) (p : Pla
   rows-to : (i : ℕ) → i ≤ length order → total (λ k. length (row load (placed nodes sets) (at (placed order sets) k) (placed order sets))) i ≡ in_rows load nodes sets order i
   rows-to i a = total-same _ _ i (λ k h. row-size k (omega arith))
 
-  -- "the number of distinct edges"
+  -- the number of distinct edges
   pub edge-count-nodes : length (edges load (placed nodes sets)) ≡ in_rows load nodes sets order (length order)
   edge-count-nodes =
       ap length (sym listed) ∙ rows-length load (placed nodes sets) (placed order sets) (placed order sets)
       ∙ ap (λ n. total (λ k. length (row load (placed nodes sets) (at (placed order sets) k) (placed order sets))) n) long ∙ rows-to (length order) (omega arith)
 
-  -- "the k-th edge, from 0, by rising source set, then target set"
+  -- the k-th edge, from 0, by rising source set, then target set
   pub edge-at-nodes : (i j : ℕ) → i < length order → j < length order → node_edge load nodes sets (at order i) (at order j) ≡ true
       → kth (edges load (placed nodes sets)) (in_rows load nodes sets order i + in_row load nodes sets order i j)
       ≡ answer.edge (record { from = at sets (at order i); to = at sets (at order j); multiplicity = node_mult load nodes sets (at order i) (at order j) })
@@ -83,6 +83,6 @@ module _ {load : Load} {nodes sets order : List ℕ} (o : InOrder load) (p : Pla
           ≡ answer.edge (record { from = at sets (at order i); to = at sets (at order j); multiplicity = node_mult load nodes sets (at order i) (at order j) })
       same = rw (mult-at i j a b, placed_at order sets i a, placed_at order sets j b) refl
 
-  -- "past the last edge the answer is none"
+  -- past the last edge there is none
   pub edge_past_nodes : (k : ℕ) → in_rows load nodes sets order (length order) ≤ k → kth (edges load (placed nodes sets)) k ≡ answer.none
   edge_past_nodes k h = kth_past (edges load (placed nodes sets)) k (omega (arith, edge-count-nodes))

@@ -2,8 +2,8 @@
 use Rattle.std.specs.Prelude.{ℕ, Bool, true, false, List}
 use Rattle.move_ledger.specs.Graph.{Edge}
 
--- 02: "An accepted move then reports how many distinct edges appeared and vanished between the two graphs", and "how many other chunks the moved
--- atom's chunk reaches in the new graph"
+-- what an accepted move reports: how many distinct edges appeared and vanished between the two graphs, and how many other chunks the moved atom's chunk
+-- reaches in the new one
 pub record Report : Type 0 where
   pub appeared : ℕ
   pub vanished : ℕ
@@ -46,7 +46,7 @@ is_accepted (number n) = false
 is_accepted (edge e) = false
 is_accepted none = false
 
--- the numbers that an answer reports. 02: "Rejected moves report zeros", "a rejected one 0"
+-- the numbers that an answer reports: zeros, but for an accepted move
 abbrev pub reported : Answer → Report
 reported (refused n) = zeros
 reported acyclic = zeros
@@ -58,7 +58,7 @@ reported (number n) = zeros
 reported (edge e) = zeros
 reported none = zeros
 
--- 02: "Where two orders of moves, or the Rust and ours, are compared, these numbers are left out"; "Comparisons leave the reach out, as in (ii)"
+-- an answer without these numbers, which are left out where two orders of moves are compared
 abbrev pub plain : Answer → Answer
 plain (refused n) = refused n
 plain acyclic = acyclic

@@ -99,7 +99,7 @@ pub record Free (load : Load) (N : ℕ) (place seen : List ℕ) (r : ℕ) : Type
   pub empty : r < length seen → occupied load place (at seen r) ≡ false
 
 module _ (load : Load) (N : ℕ) (place seen : List ℕ) (d : Apart seen) (few : length seen ≤ N) (more : load.A < N) where
-  -- "Show that 13 then never occurs"
+  -- so row 13, that there is no place for a new set, never fits
   pub place-free : Free load N place seen (free_place load N place seen)
   unfolding free_place
   place-free = go (ltb (length seen) N) refl

@@ -1,5 +1,4 @@
--- The plain ledger of moves and questions (01, "A move, from its entry", "Where a call turns back", "What a move asks of the graph"; 02, (ii), (iii), (viii), (xi), (xii)).
--- Assumes nothing.
+-- The plain ledger of moves and questions: what each call answers and leaves, as lists and numbers alone. Assumes nothing.
 use Rattle.std.specs.Prelude.{ℕ, zero, suc, Bool, not, cond, ◌&&◌, ◌||◌, List, [], ◌∷◌, ◌++◌, leb, ltb, eqb, length, set}
 use Rattle.graphs.specs.Lists.{has}
 use Rattle.graphs.specs.Walk.{cyclic, only}
@@ -8,12 +7,12 @@ use Rattle.move_ledger.specs.Graph.{Load, Edge, at, members, occupied, mult, edg
 use Rattle.move_ledger.specs.Answer.{Report, Answer, refused, accepted, rejected, is_refused, is_accepted}
 use Rattle.move_ledger.specs.Answer as answer
 
--- "It keeps each atom's set and the registered sets"
+-- each atom's set, and the registered sets
 pub record Ledger : Type 0 where
   pub place : List ℕ
   pub registered : List ℕ
 
--- "at first the entry sets"
+-- at first these are the entry sets
 abbrev pub loaded : List ℕ → Ledger
 loaded sets = record { place = sets; registered = sets }
 
@@ -39,20 +38,19 @@ index x (y ∷ ys) = cond (eqb x y) 0 (suc (index x ys))
 unfoldable pub put : ℕ → ℕ → List ℕ → List ℕ
 put r T seen = cond (ltb r (length seen)) (set seen r T) (seen ++ T ∷ [])
 
--- 02: "the smallest empty one, as a number", of the registered sets
+-- the smallest, as a number, of the registered sets without an atom
 unfoldable pub smallest_empty : Load → List ℕ → List ℕ → ℕ
 smallest_empty load place seen = at (rising (kept (λ X. not (occupied load place X)) seen)) 0
 
--- the place of a new set: the next one, and "when N sets are registered" that of the smallest empty one
+-- the place of a new set: the next one, and once N sets are registered that of the smallest empty one
 unfoldable pub free_place : Load → ℕ → List ℕ → List ℕ → ℕ
 free_place load N place seen = cond (ltb (length seen) N) (length seen) (index (smallest_empty load place seen) seen)
 
--- "The target set is registered if unseen"; 02: "When N sets are registered and another is needed, the smallest empty one .. gives up its place".
--- `place` is the placement before the move
+-- a set is registered where it isn't yet; `place` is the placement before the move
 unfoldable pub register : Load → ℕ → List ℕ → ℕ → List ℕ → List ℕ
 register load N place T seen = cond (has T seen) seen (put (free_place load N place seen) T seen)
 
--- step 1: "the graph is cyclic and the atom's chunk is outside the stored cyclic component"
+-- step 1 rejects: the graph is cyclic, and the atom's chunk is outside its only cyclic component
 abbrev pub step1 : Load → List ℕ → ℕ → Bool
 step1 load place a = cyclic (edge load place) place && not (only (edge load place) place (at place a))
 
@@ -64,17 +62,16 @@ step2 load N l T = record { place = l.place; registered = register load N l.plac
 abbrev pub step3 : Load → ℕ → Ledger → ℕ → ℕ → Ledger
 step3 load N l a T = record { place = set l.place a T; registered = register load N l.place T l.registered }
 
--- 02: "a list of A marks, nonzero for fixed". The marks are lent beside the load: no question about the graph reads them
+-- atom a is fixed: its mark isn't 0. The marks are lent beside the load: no question about the graph reads them
 abbrev pub stays : List ℕ → ℕ → Bool
 stays fixed a = not (eqb (at fixed a) 0)
 
--- "how many distinct edges appeared and vanished between the two graphs", of placement p and then of q, and "how many other chunks the moved
--- atom's chunk reaches in the new graph", T being that chunk
+-- how many distinct edges appeared and vanished from the graph of p to that of q, and how many other chunks the moved atom's chunk, T, then reaches
 abbrev pub report : Load → List ℕ → List ℕ → ℕ → Report
 report load p q T = record { appeared = gained load p q; vanished = gained load q p; reached = reach load q T }
 
--- what a move of atom a to the lent set s is answered, a matter of the load, the marks and the placement. "The first fitting row wins"; 02: "24 when the
--- moved atom is fixed, right after 10"; "Accepted if the result has no cycle"
+-- what a move of atom a to the lent set s is answered, a matter of the load, the marks and the placement: the first row that fits, 24 right after 10;
+-- else it is accepted where step 1 doesn't reject it and the moved graph has no cycle
 unfoldable pub decide : Load → List ℕ → List ℕ → ℕ → List ℕ → Answer
 decide load fixed place a s =
     let moved = set place a (value s) in
@@ -89,31 +86,31 @@ decide load fixed place a s =
 abbrev pub tried : Load → List ℕ → List ℕ → ℕ → List ℕ → Bool
 tried load fixed place a s = not (is_refused (decide load fixed place a s) || step1 load place a)
 
--- a move, and what it leaves: "Accepted if the result has no cycle; else the atom goes back"
+-- a move, and what it leaves: where it is tried its set is registered, and where it is accepted the atom is there; else the atom goes back
 unfoldable pub move : Load → List ℕ → ℕ → Ledger → ℕ → List ℕ → Answered
 move load fixed N l a s =
     let x = decide load fixed l.place a s in
     gives x (cond (tried load fixed l.place a s) (cond (is_accepted x) (step3 load N l a (value s)) (step2 load N l (value s))) l)
 
--- "Public questions also give an atom's set, a set's atom count, one edge's multiplicity (..), the number of distinct edges, and the k-th edge, from 0";
--- 02: whether there is a cycle, by "a second finder of cycles in the textbook's manner"
+-- the public questions: an atom's set, a set's atom count, one edge's multiplicity, the number of distinct edges, that of chunks, the k-th edge from 0,
+-- and whether there is a cycle
 pub data Question : Type 0 where
   atom_set : ℕ → Question
   atom_count : List ℕ → Question
   multiplicity : List ℕ → List ℕ → Question
   edge_count : Question
-  -- 02: "the number of occupied sets"
+  -- the number of occupied sets
   chunk_count : Question
   edge_at : ℕ → Question
   has_cycle : Question
 
--- the k-th edge; "past the last edge the answer is none"
+-- the k-th edge; past the last one the answer is none
 unfoldable pub kth : List Edge → ℕ → Answer
 kth [] k = answer.none
 kth (e ∷ es) zero = answer.edge e
 kth (e ∷ es) (suc k) = kth es k
 
--- "unless the table refuses it, is answered from the load and the atoms' sets"
+-- a question, unless a row refuses it, is answered from the load and the atoms' sets
 unfoldable pub ask : Load → List ℕ → Question → Answer
 ask load place (atom_set a) = cond (leb load.A a) (refused 10) (answer.set (words 4 (at place a)))
 ask load place (atom_count s) = cond (legal load.E s) (answer.number (members load place (value s))) (refused 11)
@@ -123,12 +120,12 @@ ask load place chunk_count = answer.number (length (rising place))
 ask load place (edge_at k) = kth (edges load place) k
 ask load place has_cycle = cond (cyclic (edge load place) place) answer.cyclic answer.acyclic
 
--- "A move list holds moves and public questions, refused ones too"
+-- what a move list holds: moves and public questions, refused ones too
 pub data Call : Type 0 where
   try_move : ℕ → List ℕ → Call
   asks : Question → Call
 
--- "A question changes nothing"
+-- a question changes nothing
 unfoldable pub call : Load → List ℕ → ℕ → Ledger → Call → Answered
 call load fixed N l (try_move a s) = move load fixed N l a s
 call load fixed N l (asks q) = gives (ask load l.place q) l

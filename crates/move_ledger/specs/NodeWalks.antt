@@ -81,7 +81,7 @@ module _ {load : Load} {nodes sets : List ℕ} (o : InOrder load) (p : Placing l
     pub only-outside : (x : ℕ) → length sets ≤ x → only (node_edge load nodes sets) (below n) x ≡ false
     only-outside x b = fails _ (λ h. omega (arith, walk_from (λ x y q. (edge-inside x y q).0) ((only_walk _ (below n) nodes_hold x).0 h).0))
 
--- a set that isn't registered has no atom and no edge: "both 0 where a set is unseen"
+-- a set that isn't registered has no atom and no edge
 module _ {load : Load} {nodes sets : List ℕ} (p : Placing load nodes sets) where
   pub seen : (X i : ℕ) → i < load.A → at (placed nodes sets) i ≡ X → has X sets ≡ true
   seen X i l e =

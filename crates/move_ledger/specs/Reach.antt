@@ -50,7 +50,7 @@ module _ (load : Load) (place : List ℕ) (T : ℕ) (there : has T place ≡ tru
   all_others : sum (other T) (rising place) + 1 ≡ length (rising place)
   all_others = sum_others T (rising-rising place) (has-rising T place ∙ there)
 
-  -- 02: "Show that this is at most occupied sets - 1"
+  -- at most as many as there are other occupied sets
   pub reach_bound : reach load place T + 1 ≤ length (rising place)
   unfolding reach
   reach_bound = omega (arith, all_others, sum_le (λ X. ind (via (edge load place) place T X && not (eqb T X))) (other T) (rising place) (λ X. go (via (edge load place) place T X) (not (eqb T X))))

@@ -10,7 +10,7 @@ use Rattle.move_ledger.specs.Places.{Apart}
 use Rattle.move_ledger.specs.Loading.{entry_sets}
 use Rattle.move_ledger.specs.LoadLaws.{Loadable-sets, row7_small, row8_apart, entry_sets-length, entry_sets-at}
 
--- "registered sets are distinct, in range and at most N, every atom has one"
+-- each atom has a registered set, and the registered sets are distinct, in range and at most N
 pub record Sound (load : Load) (N : ℕ) (l : Ledger) : Type 0 where
   pub atoms : length l.place ≡ load.A
   pub room : length l.registered ≤ N

@@ -35,13 +35,13 @@ one_or_none : (t : Bool) → cond t 1 0 ≡ ind t
 one_or_none true = refl
 one_or_none false = refl
 
--- "the number of occupied sets" is that of the nodes that have an atom
+-- there are as many occupied sets as nodes that have an atom
 pub chunk_count-nodes : {load : Load} {nodes sets : List ℕ} → Placing load nodes sets → (n : ℕ) → length sets ≤ n → length (rising (placed nodes sets)) ≡ busy_nodes load nodes n
 unfolding busy_nodes
 chunk_count-nodes {load} {nodes} {sets} p n few =
     sym (sum_ones (rising (placed nodes sets))) ∙ chunk_sum p (λ X. 1) n few ∙ total-same _ _ n (λ x b. one_or_none (occupied load nodes x)) ∙ sym (count-total (occupied load nodes) n)
 
--- the number "of distinct edges" is that of the cells that aren't 0
+-- there are as many distinct edges as cells that aren't 0
 module _ {load : Load} {nodes sets : List ℕ} (o : InOrder load) (p : Placing load nodes sets) (n : ℕ) (few : length sets ≤ n) where
   abbrev pub m : ℕ
   m = load.D + load.E

@@ -3,7 +3,7 @@ use Rattle.std.proofs.Common.{◌≡◌, ℕ, ◌+◌, ◌*◌, ◌^◌, ◌≤�
 use borrow.Author.Tests.{ltb-true, ltb-false, le-leb, lt-leb, ne_eqb, eqb-true}
 use Rattle.graphs.specs.Bools.{Decides, or_false_left, or_false_right, and_right}
 use Rattle.graphs.specs.Square.{row_in}
-use Rattle.refusals.specs.Rows.{row}
+use Rattle.refusals.specs.Rows.{row, row_some}
 use Rattle.refusals.specs.declared.Refusal.{Refusal}
 use Rattle.entry_set.specs.Sets.{width, value}
 use Rattle.set_order.specs.Order.{Distinct}
@@ -12,7 +12,6 @@ use Rattle.move_ledger.specs.Graph.{Load}
 use Rattle.move_ledger.specs.Loading.{row1, row8, first_row, loading_row, marks_fit, sets_fit, lent_set}
 use Rattle.move_ledger.proofs.LoadLaws.{first_row-none}
 use Rattle.move_load_rows.specs.EntrySets.{CanSets, set_row}
-use Rattle.move_load_rows.proofs.Rows.{row_some}
 
 -- set i has a bit at or above E
 abbrev pub reaches : Load → List ℕ → ℕ → Bool

@@ -1,4 +1,4 @@
--- What the checks of a load test, over the lent lists (01, "Where a call turns back"). Assumes nothing.
+-- What the checks of a load test, over the lent lists: where it is turned back. Assumes nothing.
 use Rattle.std.specs.Prelude.{ℕ, suc, ◌+◌, ◌<◌, ◌≤◌, ◌≡◌, Bool, not, cond, ◌&&◌, ◌||◌, List, leb, ltb, eqb, length}
 use Rattle.graphs.specs.Lists.{some_below}
 use Rattle.move_ledger.specs.Graph.{Load, none, at}
@@ -12,11 +12,11 @@ drops starts i = ltb (at starts (suc i)) (at starts i)
 unfoldable pub falling : List ℕ → ℕ → Bool
 falling starts count = some_below (drops starts) count
 
--- "not from 0, falling, or not ending at" total
+-- the starts don't begin at 0, fall, or don't end at the total
 unfoldable pub bad_starts : List ℕ → ℕ → ℕ → Bool
 bad_starts starts count total = not (eqb (at starts 0) 0) || (falling starts count || not (eqb (at starts count) total))
 
--- "atom number ≥ A, or the atom itself"
+-- x is no atom of a, or the atom itself
 abbrev pub not_other : ℕ → ℕ → ℕ → Bool
 not_other a atom x = leb a x || eqb x atom
 
@@ -28,7 +28,7 @@ bad_span dependencies from end atom a = some_below (λ k. leb from k && not_othe
 abbrev pub span : Load → ℕ → Bool
 span load i = bad_span load.dependencies (at load.starts i) (at load.starts (i + 1)) i load.A
 
--- "neither None nor below A"
+-- x is neither None nor an atom of a
 abbrev pub no_host : ℕ → ℕ → Bool
 no_host a x = not (eqb x none) && leb a x
 

@@ -1,5 +1,5 @@
--- What the checks leave where they find nothing. Of the rows 1 to 6 `first-row-none` of the ledger says it, of the rows 1 to 8
--- `loading-row-none`. Assumes nothing.
+-- What the checks leave where they find nothing. Of the rows 1 to 6 `first_row-none` of the ledger says it, of the rows 1 to 8
+-- `loading_row-none`. Assumes nothing.
 use Rattle.std.specs.Prelude.{◌≡◌, refl, false}
 use Rattle.std.proofs.Common.{sym, ◌∙◌}
 use Rattle.move_ledger.specs.Graph.{Load}

@@ -15,9 +15,12 @@ use sets::lists_fit;
 pub use sets::sets_refusal;
 
 // None, in the list of hosts.
+// stays: the C interface: the lent hosts hold it.
 const NONE: u32 = 4294967295;
 
 // Some start is below the one before it.
+// stays: merge_rows has the like for the merge graph's starts. The two graphs' crates have no crate of rows in common, and one for a test of a line would be no
+// plainer.
 fn falls(load: &Load) -> bool
     requires { length load.now.starts.now ≡ load.now.atoms + 1 }
     ensures { result ≡ falling load.now.starts.now load.now.atoms }
@@ -127,6 +130,7 @@ pub fn refusal(load: &Load, n: usize, fit: bool, size: usize) -> Result<(), Refu
 }
 
 // The rows 1 to 8 of loading.
+// stays: the C interface. n is the number of nodes, and the lengths of the lists that C lends are what is tested.
 pub fn loading_refusal(
     load: &Load,
     n: usize,

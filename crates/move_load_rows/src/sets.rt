@@ -1,4 +1,5 @@
 // Rows 7 and 8 of the table: entry sets in range, no two of them equal.
+// stays: memory is fixed, nothing is on the heap.
 ghost use Rattle.std.specs.Prelude.{◌≡◌, ◌&&◌, ◌*◌, ◌≤◌, length, eqb};
 ghost use Rattle.refusals.specs.Rows.{row_of};
 ghost use Rattle.entry_set.specs.Sets.{width};
@@ -10,6 +11,8 @@ use entry_set::{EntrySet, set_width};
 use equal_sets::are_distinct;
 use move_load_view::Load;
 use refusals::Refusal;
+
+// stays: the two tests ask what `sets_refusal` asks, whose steps they are; a struct that keeps it would be made there alone, and be no plainer.
 
 // Row 7: some set has a bit at or above E.
 fn any_too_high(load: &Load, sets: &[u64]) -> bool
@@ -32,6 +35,7 @@ fn any_alike(load: &Load, sets: &[u64]) -> bool
 {
     let mut lanes = [0u32; 4096];
     let mut order = [0u32; 512];
+    let mut scratch = [0u32; 512];
     !are_distinct(
         sets,
         set_width(load.bits),
@@ -39,6 +43,7 @@ fn any_alike(load: &Load, sets: &[u64]) -> bool
         512,
         &mut lanes,
         &mut order,
+        &mut scratch,
     )
 }
 

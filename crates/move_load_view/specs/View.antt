@@ -1,4 +1,4 @@
--- A lent load as the papers' load, and an atom's part of the dependencies. Assumes nothing.
+-- A lent load as the ledger's record of one, and an atom's part of the dependencies. Assumes nothing.
 use Rattle.std.specs.Prelude.{List, ℕ, ◌+◌, ◌-◌, ◌≤◌, ◌<◌, length}
 use Rattle.layout.specs.Patch.{part}
 use Rattle.move_ledger.specs.Graph.{at, lent}

@@ -4,6 +4,9 @@ ghost use Rattle.move_loading.specs.Steps.{CanWriteFlags, FlagsWritten};
 
 use graph_neighbours::Slots;
 
+// stays: a writer has N and the list itself, as move_fixed says; `n` is the lanes' distance there, not a list's length.
+// stays: memory is fixed, nothing is on the heap: the component's flags stand in an array.
+
 // Whether the slots' graph has a cycle. If it has none, the acyclic flag is set; else its component is written. The slots are grouped in `heads` and
 // `list`.
 pub fn write_flags(

@@ -10,7 +10,10 @@ ghost use Rattle.move_slots.specs.Filled.{CanFillOwn};
 ghost use Rattle.move_loading.specs.Steps.{GraphWritten};
 
 use graph_neighbours::Slots;
+use move_area::Area;
 use move_load_view::Load;
+
+// stays: a writer has N and the list itself, as move_fixed says; `n` is the lanes' distance there, not a list's length.
 
 // The edges of the slots, and how many they are.
 fn write_edges(area: &mut [u32], n: usize, slots: &Slots)
@@ -32,7 +35,8 @@ pub fn write_graph(
     requires { CanFillOwn (lent_by load.now) n area.old counts.old sources.old targets.old × Ranged (lent_by load.now) n area.old }
     ensures { GraphWritten (lent_by load.now) n area.old counts.new sources.new targets.new result area.new }
 {
-    move_slots::fill_own_slots(load, n, area, counts, sources, targets);
+    let standing = Area { n, numbers: area };
+    move_slots::fill_own_slots(load, &standing, counts, sources, targets);
     let count = move_slots::slot_count(load, n);
     layout::copy(area, n * n + 24 + 8 * n, counts, 0, n);
     write_edges(

@@ -12,6 +12,9 @@ ghost use Rattle.move_loading.specs.Steps.{CanLoad};
 use graph_neighbours::Slots;
 use move_load_view::Load;
 
+// stays: a writer has N and the list itself, as move_fixed says; `n` is the lanes' distance there, not a list's length.
+// stays: memory is fixed, nothing is on the heap: the working lists are arrays.
+
 // With lists for the heads of the nodes and for so many slots. `heads` has the atom counts first.
 fn load_in<const HEADS: usize, const SLOTS: usize>(
     load: &Load,

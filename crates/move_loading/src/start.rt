@@ -11,6 +11,9 @@ ghost use Rattle.move_loading.specs.Start.{lent_word, word_fields, start_bodies,
 use entry_set::EntrySet;
 use move_load_view::Load;
 
+// stays: a writer has N and the list itself, as move_fixed says; `n` is the lanes' distance there, not a list's length. Nor is `count` the
+// length of `sets` over `width`: a set of no entry bits has no number there.
+
 // Word j of each of `count` sets, of `width` numbers each, into lane j.
 fn write_words(area: &mut [u32], n: usize, sets: &[u64], width: usize, count: usize, j: usize)
     requires { CanWords area.old n sets.now width count × (j < 8) }

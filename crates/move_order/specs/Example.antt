@@ -4,7 +4,7 @@ use Rattle.graphs.specs.Count.{count}
 use Rattle.graphs.specs.Lists.{any, all, has}
 use Rattle.graphs.specs.Walk.{via, cyclic}
 use Rattle.move_ledger.specs.Graph.{Load, none, owner, lies, members, entry, facade, mult, edge, insert, rising}
-use Rattle.move_ledger.specs.Answer.{Answer, refused, number}
+use Rattle.move_ledger.specs.Answer.{refused, number}
 use Rattle.move_ledger.specs.Ledger.{index}
 use Rattle.move_order.specs.Order.{wanted, ready, first, listing, start_order, names, told}
 

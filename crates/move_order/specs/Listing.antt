@@ -11,7 +11,7 @@ use Rattle.std.proofs.Math.ListN.{length, get_or-append}
 use Rattle.std.proofs.lemmas.List.{get_or_at}
 use borrow.Author.Tests.{eqb-true, eq-eqb, not-true}
 use Rattle.graphs.specs.Bools.{or_cases, or_left, or_right, and_left, and_right}
-use Rattle.graphs.specs.Lists.{any, all, has, all_take, has-at, has-place}
+use Rattle.graphs.specs.Lists.{any, has, all_take, has-at, has-place}
 use Rattle.move_ledger.specs.Graph.{at}
 use Rattle.move_ledger.specs.Listing.{Rising, none, next, has_bound}
 use Rattle.move_ledger.specs.Places.{Apart}

@@ -110,7 +110,7 @@ module _ (e : ℕ → ℕ → Bool) (ks : List ℕ) (f : (x y : ℕ) → e x y �
       (rw (i.2, has_snoc z z listed, eq-eqb z z refl) (ap (λ t. w z && not t) (or-true (has z listed)) ∙ and-false (w z)))
       (rw i.2 (and_both (w z) _ wz nz))
 
-  -- "Each is listed": all that is wanted
+  -- all that is wanted is listed
   pub all_listed : (k : ℕ) (listed : List ℕ) → left listed ≤ k → (x : ℕ) → w x ≡ true → has x (listing e w ks k listed) ≡ true
   unfolding listing
   all_listed zero listed b x h = go (has x listed) refl

@@ -85,3 +85,6 @@ least_more {key} {free} {n} {k} {best} v h is = subst (Least key free n (k + 1))
         here p (λ y c z. omega (arith, ltb-true (key k) (key best) r, v.least b y c z))
     go true p false q false r = stays (λ z. (omega (arith, v.within, eqb-false best n q), ltb-false (key k) (key best) r))
     go false p e q l r = stays (λ z. absurd (true≢false (sym z ∙ p)))
+
+pub least_done : {key : ℕ → ℕ} {free : ℕ → Bool} {n k best : ℕ} → Least key free n k best → k ≡ n → Least key free n n best
+least_done {key} {free} {n} {k} {best} v e = subst (λ j. Least key free n j best) e v

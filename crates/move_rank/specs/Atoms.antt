@@ -1,7 +1,7 @@
 -- The sets of an area's atoms, and the first atom at which two areas differ. Assumes nothing.
-use Rattle.std.specs.Prelude.{ℕ, zero, suc, ◌+◌, ◌*◌, ◌≤◌, ◌<◌, ◌≡◌, refl, false, List, [], ◌∷◌, eqb, length}
+use Rattle.std.specs.Prelude.{ℕ, zero, suc, ◌+◌, ◌*◌, ◌≤◌, ◌<◌, ◌≡◌, refl, true, false, List, [], ◌∷◌, eqb, ltb, length}
 use native.Mathlib.Omega.{arith}
-use Rattle.std.proofs.Common.{sym, ap₂, ◌∙◌}
+use Rattle.std.proofs.Common.{sym, ap₂, ◌∙◌, below_more, ltb-true, ltb-false, eqb-true}
 use Rattle.std.proofs.Math.Path.{ap}
 use Rattle.std.proofs.Math.ListN.{get_or}
 use Rattle.std.proofs.lemmas.Bool.{eqb-false}
@@ -13,8 +13,8 @@ use Rattle.move_area.specs.Area.{sets_in, decode}
 use Rattle.move_area.specs.Bodies.{lane_at, atom_at}
 use Rattle.move_area.specs.Checked.{nodes_in, sets-at}
 use Rattle.move_questions.specs.Answers.{place_in, set_lane, atom_node, set_of, Checked}
-use Rattle.move_rank.specs.Rank.{equal, by, one_by_one}
-use Rattle.move_rank.specs.RankLaws.{by-same, apart_decides, lists-same}
+use Rattle.move_rank.specs.Rank.{before, equal, after, by, one_by_one}
+use Rattle.move_rank.specs.RankLaws.{by-same, by_less, by-more, apart_decides, lists-same}
 
 -- the sets of a atoms can be read
 pub record CanRead (a n : ℕ) (area : List ℕ) : Type 0 where
@@ -71,6 +71,24 @@ module _ {a n m : ℕ} {first second p q : List ℕ} (P : Placed a n first p) (Q
   ranked_apart {i} d =
       sym (first_decides i p q (omega (arith, P.long, d.inside)) (P.long ∙ sym Q.long) (same-below (omega (arith, d.inside)) d.alike) (λ e. d.apart (sym (P.set i d.inside) ∙ e ∙ Q.set i d.inside))
       ∙ ap₂ by (P.set i d.inside) (Q.set i d.inside))
+
+  -- the first atom's are below the second's, or above
+  module _ {i : ℕ} (d : Differ (set_of first n) (set_of second m) a i) {x y : ℕ} (X : x ≡ set_of first n i) (Y : y ≡ set_of second m i) where
+    pub ranked_before : ltb x y ≡ true → before ≡ one_by_one p q
+    ranked_before l = sym (by_less x y (ltb-true x y l)) ∙ ap₂ by X Y ∙ ranked_apart d
+
+    pub ranked_after : ltb x y ≡ false → after ≡ one_by_one p q
+    ranked_after l = sym (by-more x y (omega (arith, ltb-false x y l, apart))) ∙ ap₂ by X Y ∙ ranked_apart d
+      where
+        apart : x ≡ y → ⊥
+        apart e = d.apart (sym X ∙ e ∙ Y)
+
+-- the numbers so far are alike
+pub alike_none : (f g : ℕ → ℕ) → Alike f g 0
+alike_none f g = record { same = λ j h. absurd (omega arith) }
+
+pub alike_more : {f g : ℕ → ℕ} {i x y : ℕ} → Alike f g i → x ≡ f i → y ≡ g i → eqb x y ≡ true → Alike f g (i + 1)
+alike_more {f} {g} {i} {x} {y} v X Y e = record { same = below_more (λ j. f j ≡ g j) i v.same (sym X ∙ eqb-true x y e ∙ Y) }
 
 -- the first place where two lists differ
 pub differ_here : {f g : ℕ → ℕ} {a i x y : ℕ} → Alike f g i → x ≡ f i → y ≡ g i → i < a → eqb x y ≡ false → Differ f g a i

@@ -113,7 +113,7 @@ unfolding one_by_one
 lists-same [] = refl
 lists-same (x ∷ p) = rw (by-same x) (lists-same p)
 
--- "equal exactly when every atom has the same set"
+-- equal exactly where every atom has the same set
 pub rank_equal : (load : Load) (p q : List ℕ) → (rank load p q ≡ equal) ↔ (p ≡ q)
 unfolding rank
 rank_equal load p q = (
@@ -148,6 +148,21 @@ unfolding rank
 rank_trans load p q r =
     then_trans _ _ _ _ _ _ (then_trans _ _ _ _ _ _ (lists_trans p q r))
 
+-- which of the three decides
+module _ (load : Load) (p q : List ℕ) where
+  pub chunks_decide : {x y : ℕ} → x ≡ length (rising p) → y ≡ length (rising q) → (x ≡ y → ⊥) → by x y ≡ rank load p q
+  unfolding rank
+  chunks_decide {x} {y} X Y d = rw (← X, ← Y) (sym (apart_decides x y _ d))
+
+  module _ (e : length (rising p) ≡ length (rising q)) where
+    pub edges-decide : {x y : ℕ} → x ≡ length (edges load p) → y ≡ length (edges load q) → (x ≡ y → ⊥) → by x y ≡ rank load p q
+    unfolding rank
+    edges-decide {x} {y} X Y d = rw (← X, ← Y, e, by-same (length (rising q))) (sym (apart_decides x y (one_by_one p q) d))
+
+    pub sets-decide : length (edges load p) ≡ length (edges load q) → one_by_one p q ≡ rank load p q
+    unfolding rank
+    sets-decide f = rw (e, f, by-same (length (rising q)), by-same (length (edges load q))) refl
+
 -- the three orders one after the other
 then_then : (a b c : Rank) → then (then a b) c ≡ then a (then b c)
 then_then before b c = refl
@@ -172,5 +187,5 @@ module _ (load : Load) (p q : List ℕ) {x y u v : ℕ} (X : x ≡ length (risin
       go Greater d = refl
 
   -- or the sets
-  pub sets-decide : o ≡ Equal → one_by_one p q ≡ rank load p q
-  sets-decide e = sym (ap (λ k. then (of_ranked k) (one_by_one p q)) e) ∙ ranked_then
+  pub totals_equal : o ≡ Equal → one_by_one p q ≡ rank load p q
+  totals_equal e = sym (ap (λ k. then (of_ranked k) (one_by_one p q)) e) ∙ ranked_then

@@ -14,13 +14,13 @@ of_ranked Less = before
 of_ranked Equal = equal
 of_ranked Greater = after
 
--- "before, equal or after" as an answer, by a number each
+-- before, equal and after as an answer, by a number each
 abbrev pub told : Rank → Answer
 told before = number 0
 told equal = number 1
 told after = number 2
 
--- "One load and one N serve both areas; the first passes all checks of a later call (1 to 6, 9), then the second"
+-- one load and one N serve both areas; the rows of a later call (1 to 6 and 9) are tried for the first, then for the second
 unfoldable pub ranking : Load → List ℕ → ℕ → List ℕ → List ℕ → Answer
 ranking load fixed N first second =
     checked load fixed N first (checked load fixed N second (told (rank load (place_in load N first) (place_in load N second))))

@@ -12,8 +12,7 @@ use Rattle.move_ledger.specs.Loading.{refusal, or_else}
 use Rattle.move_area.specs.Area.{consistent}
 use Rattle.move_area.specs.Fixed.{checks_out}
 use Rattle.move_area.specs.Calls.{checked}
-use Rattle.move_load_rows.proofs.Rows.{row_some}
-use Rattle.refusals.specs.Rows.{row}
+use Rattle.refusals.specs.Rows.{row, row_some}
 use Rattle.refusals.specs.declared.Refusal.{Refusal}
 
 -- the first of the rows 1 to 6 and 9 that fits, 0 where none does

@@ -6,10 +6,13 @@ ghost use Rattle.std.specs.Prelude.{◌≡◌, ◌*◌, ◌<◌, length, get_or}
 pub mod check;
 pub mod listed;
 
+use move_area::Area;
+
 // How many sets are registered.
-pub fn registered(area: &[u32], n: usize) -> usize
-    requires { n * n < length area.now }
-    ensures { result ≡ get_or area.now (n * n) 0 }
+// stays: what `Area::registered` says too. By a rule of the project (docs/DECISIONS.md) what is public stays.
+pub fn registered(area: &Area) -> usize
+    requires { area.now.n * area.now.n < length area.now.numbers.now }
+    ensures { result ≡ get_or area.now.numbers.now (area.now.n * area.now.n) 0 }
 {
-    area[n * n] as usize
+    area.registered()
 }

@@ -11,7 +11,7 @@ use Rattle.layout.specs.Patch.{patch, part}
 use Rattle.move_ledger.specs.Graph.{Load, at, members}
 use Rattle.move_slots.specs.Slots.{atoms, sources_by, targets_by}
 use Rattle.move_slots.specs.Facades.{fronts_in}
-use Rattle.move_slots.specs.SlotLaws.{tally_members, InLanes, facades_fronts, slots_written}
+use Rattle.move_slots.specs.SlotLaws.{tallied_members, InLanes, written_fronts, slots_written}
 use Rattle.move_area.specs.Bodies.{atom_at}
 use Rattle.move_area.specs.Area.{sets_in}
 use Rattle.move_area.specs.Checked.{nodes_in, sets-length, sets-at}
@@ -21,7 +21,7 @@ use Rattle.move_slots.specs.Filled.{CanFill, Filled, CanFillOwn}
 module _ {load : Load} {n : ℕ} {nodes area : List ℕ} {registered : ℕ} {counts sources targets : List ℕ} (can : CanFill load n nodes area registered counts sources targets) (rest : List ℕ) {own : List ℕ} {m : ℕ} (m-is : m ≡ n)
     (t : own ≡ tab (atoms (take load.A nodes) (length (take load.A nodes))) m) where
   members_are : (x : ℕ) → x < n → at (own ++ rest) x ≡ members load nodes x
-  members_are = tally_members load nodes n rest can.atoms refl (ap (λ (v : List ℕ). v ++ rest) (t ∙ ap (tab (atoms (take load.A nodes) (length (take load.A nodes)))) m-is))
+  members_are = tallied_members load nodes n rest can.atoms refl (ap (λ (v : List ℕ). v ++ rest) (t ∙ ap (tab (atoms (take load.A nodes) (length (take load.A nodes)))) m-is))
 
   in_lanes : InLanes load nodes (sets_in n area) area (n * n + 24) n (length (take registered (own ++ rest))) (take registered (own ++ rest))
   in_lanes =
@@ -42,16 +42,17 @@ module _ {load : Load} {n : ℕ} {nodes area : List ℕ} {registered : ℕ} {cou
       → Filled load n nodes (sets_in n area) (own ++ rest) sources' targets'
   fill_done more {facade} z f p q = record {
     count_at = members_are;
-    slots = slots_written sources targets (facades_fronts more in_lanes (ap (λ (v : List ℕ). v ++ more) (f ∙ ap (fronts_in area (n * n + 24) n (length (take registered (own ++ rest))) (take registered (own ++ rest))) z))) can.sources_long can.targets_long p q;
+    slots = slots_written sources targets (written_fronts more in_lanes (ap (λ (v : List ℕ). v ++ more) (f ∙ ap (fronts_in area (n * n + 24) n (length (take registered (own ++ rest))) (take registered (own ++ rest))) z))) can.sources_long can.targets_long p q;
   }
 
 -- the area's own nodes are a part of it
-module _ {load : Load} {n : ℕ} {area counts sources targets : List ℕ} (can : CanFillOwn load n area counts sources targets) {to : ℕ} (e : to ≡ atom_at n + load.A) where
-  own_nodes : take (to - atom_at n) (drop (atom_at n) area) ≡ nodes_in load n area
+module _ {load : Load} {n : ℕ} {area counts sources targets : List ℕ} (can : CanFillOwn load n area counts sources targets) where
+  own_nodes : take load.A (drop (atom_at n) area) ≡ nodes_in load n area
   own_nodes =
+      let to : ℕ = atom_at n + load.A in
       let q : to - atom_at n ≡ load.A = omega arith in
-      mid_part (atom_at n) to area (omega arith) (omega (arith, can.loadable.sizes.area)) ∙ ap (λ k. part (atom_at n) k area) q
+      subst (λ (k : ℕ). take k (drop (atom_at n) area) ≡ part (atom_at n) k area) q (mid_part (atom_at n) to area (omega arith) (omega (arith, can.loadable.sizes.area)))
 
-  pub own_done : {counts' sources' targets' : List ℕ} → Filled load n (take (to - atom_at n) (drop (atom_at n) area)) (sets_in n area) counts' sources' targets'
+  pub own_done : {nodes counts' sources' targets' : List ℕ} → nodes ≡ take load.A (drop (atom_at n) area) → Filled load n nodes (sets_in n area) counts' sources' targets'
       → Filled load n (nodes_in load n area) (sets_in n area) counts' sources' targets'
-  own_done {counts'} {sources'} {targets'} f = subst (λ (v : List ℕ). Filled load n v (sets_in n area) counts' sources' targets') own_nodes f
+  own_done {nodes} {counts'} {sources'} {targets'} e f = subst (λ (v : List ℕ). Filled load n v (sets_in n area) counts' sources' targets') (e ∙ own_nodes) f

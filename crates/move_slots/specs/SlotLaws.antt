@@ -20,11 +20,19 @@ use Rattle.move_slots.specs.Facades.{fronting, fronts_in}
 pub patch-first : (v l : List ℕ) (k : ℕ) → k < length v → k < length l → get_or (patch 0 v l) k 0 ≡ get_or v k 0
 patch-first v l k h z = sym (ap (λ (i : ℕ). get_or (patch 0 v l) i 0) (zero-add k)) ∙ patch_in 0 v l k h (omega arith)
 
+-- counts that are written over the front of a list are the nodes' atom counts
+pub tally_members : (load : Load) (nodes : List ℕ) (n : ℕ) (counts : List ℕ) {counts' : List ℕ} → n ≤ length counts
+    → counts' ≡ patch 0 (tab (atoms nodes load.A) n) counts → (x : ℕ) → x < n → at counts' x ≡ members load nodes x
+unfolding members
+tally_members load nodes n counts b q x h =
+    let t = tab-length (atoms nodes load.A) n in
+    rw q (patch-first (tab (atoms nodes load.A) n) counts x (omega arith) (omega arith) ∙ tab-at (atoms nodes load.A) n x h)
+
 -- what `tally` writes into the front of a list are the nodes' atom counts
-pub tally_members : (load : Load) (nodes : List ℕ) (n : ℕ) (rest : List ℕ) {own counts : List ℕ} → load.A ≤ length nodes → own ≡ take load.A nodes
+pub tallied_members : (load : Load) (nodes : List ℕ) (n : ℕ) (rest : List ℕ) {own counts : List ℕ} → load.A ≤ length nodes → own ≡ take load.A nodes
     → counts ≡ tab (atoms own (length own)) n ++ rest → (x : ℕ) → x < n → at counts x ≡ members load nodes x
 unfolding members
-tally_members load nodes n rest {own} {counts} room o q x h =
+tallied_members load nodes n rest {own} {counts} room o q x h =
     let t = tab-length (atoms own (length own)) n in
     let e : length own ≡ load.A = ap length o ∙ length-take-le load.A nodes room in
     ap (λ (l : List ℕ). at l x) q ∙ get_or-append (tab (atoms own (length own)) n) rest 0 x (omega arith) ∙ tab-at (atoms own (length own)) n x h ∙ ap (count (λ i. eqb (at own i) x)) e
@@ -40,27 +48,37 @@ pub record InLanes (load : Load) (nodes sets area : List ℕ) (from stride r : �
   pub set_at : (x : ℕ) → x < length sets → lanes area (from + x) stride ≡ at sets x
   pub count_at : (x : ℕ) → x < length sets → at counts x ≡ members load nodes x
 
--- what `facades` writes into the front of a list are the fronts
-pub facades_fronts : {load : Load} {nodes sets area : List ℕ} {from stride r : ℕ} {counts facade : List ℕ} (rest : List ℕ) → InLanes load nodes sets area from stride r counts
-    → facade ≡ fronts_in area from stride r counts load.E ++ rest → Fronts load nodes sets facade
-unfolding fronts_in front
-facades_fronts {load} {nodes} {sets} {area} {from} {stride} {r} {counts} {facade} rest g q = record { front_at = λ b h. rw q (first b h ∙ found b) }
+-- a list that has at each bit's place the highest node that passes has the fronts
+fronts_of : {load : Load} {nodes sets area : List ℕ} {from stride r : ℕ} {counts facade : List ℕ} → InLanes load nodes sets area from stride r counts
+    → ((b : ℕ) → b < load.E → at facade b ≡ highest (fronting area from stride counts b) r) → Fronts load nodes sets facade
+unfolding front
+fronts_of {load} {nodes} {sets} {area} {from} {stride} {r} {counts} g first = record { front_at = λ b h. first b h ∙ found b }
   where
-    f : ℕ → ℕ
-    f b = highest (fronting area from stride counts b) r
-
-    first : (b : ℕ) → b < load.E → get_or (tab f load.E ++ rest) b 0 ≡ f b
-    first b h =
-        let t = tab-length f load.E in
-        get_or-append (tab f load.E) rest 0 b (omega arith) ∙ tab-at f load.E b h
-
-    found : (b : ℕ) → f b ≡ highest (fronts load nodes sets b) (length sets)
+    found : (b : ℕ) → highest (fronting area from stride counts b) r ≡ highest (fronts load nodes sets b) (length sets)
     found b =
         ap (highest (fronting area from stride counts b)) g.many
         ∙ highest_ext (fronting area from stride counts b) (fronts load nodes sets b) (length sets) (λ x z. rw (g.set_at x z, g.count_at x z) (tested x))
       where
         tested : (x : ℕ) → (eqb (at sets x) (2 ^ b) && ltb 0 (members load nodes x)) ≡ fronts load nodes sets b x
         tested x = refl
+
+-- so has one over whose front they are written
+pub facades_fronts : {load : Load} {nodes sets area : List ℕ} {from stride r : ℕ} {counts facade : List ℕ} (out : List ℕ) → InLanes load nodes sets area from stride r counts
+    → load.E ≤ length out → facade ≡ patch 0 (fronts_in area from stride r counts load.E) out → Fronts load nodes sets facade
+unfolding fronts_in
+facades_fronts {load} {nodes} {sets} {area} {from} {stride} {r} {counts} {facade} out g room q =
+    let f : ℕ → ℕ = λ b. highest (fronting area from stride counts b) r in
+    let t = tab-length f load.E in
+    fronts_of g (λ b h. rw q (patch-first (tab f load.E) out b (omega arith) (omega arith) ∙ tab-at f load.E b h))
+
+-- what `facades` writes into the front of a list are the fronts
+pub written_fronts : {load : Load} {nodes sets area : List ℕ} {from stride r : ℕ} {counts facade : List ℕ} (rest : List ℕ) → InLanes load nodes sets area from stride r counts
+    → facade ≡ fronts_in area from stride r counts load.E ++ rest → Fronts load nodes sets facade
+unfolding fronts_in
+written_fronts {load} {nodes} {sets} {area} {from} {stride} {r} {counts} {facade} rest g q =
+    let f : ℕ → ℕ = λ b. highest (fronting area from stride counts b) r in
+    let t = tab-length f load.E in
+    fronts_of g (λ b h. rw q (get_or-append (tab f load.E) rest 0 b (omega arith) ∙ tab-at f load.E b h))
 
 module _ {load : Load} {nodes sets : List ℕ} where
   module _ {facade : List ℕ} (f : Fronts load nodes sets facade) where

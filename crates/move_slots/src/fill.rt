@@ -6,8 +6,11 @@ ghost use Rattle.move_load_view.specs.View.{lent_by};
 ghost use Rattle.move_slots.specs.Counted.{slot_count};
 ghost use Rattle.move_slots.specs.Filled.{CanFill, Filled, CanFillOwn};
 
+use move_area::Area;
 use move_load_view::Load;
-use set_order::Lanes;
+
+// stays: memory is fixed, nothing is on the heap: the facades stand in an array. Sources and targets, which are written, come one by one: they are arrays of each
+// caller, and a struct of two `&mut` would be made at each call: no plainer.
 
 // How many slots there are: none without a node, as the ends of a slot are nodes.
 pub fn slot_count(load: &Load, n: usize) -> usize
@@ -20,43 +23,41 @@ pub fn slot_count(load: &Load, n: usize) -> usize
 // The atom counts of the nodes, and all slots. `nodes` has the node of each atom: the area's own, or those of a move on trial.
 pub fn fill_slots(
     load: &Load,
-    n: usize,
     nodes: &[u32],
-    area: &[u32],
+    area: &Area,
     registered: usize,
     counts: &mut [u32],
     sources: &mut [u32],
     targets: &mut [u32],
 )
-    requires { CanFill (lent_by load.now) n nodes.now area.now registered counts.old sources.old targets.old }
-    ensures { Filled (lent_by load.now) n nodes.now (sets_in n area.now) counts.new sources.new targets.new }
+    requires { CanFill (lent_by load.now) area.now.n nodes.now area.now.numbers.now registered counts.old sources.old targets.old }
+    ensures { Filled (lent_by load.now) area.now.n nodes.now (sets_in area.now.n area.now.numbers.now) counts.new sources.new targets.new }
 {
     let mut facade = [0u32; 256];
-    super::slots::tally(&mut counts[..n], &nodes[..load.atoms]);
-    let lanes = Lanes {
-        area,
-        at: n * n + 24,
-        n,
-    };
-    super::fronts::facades(&lanes, &counts[..registered], &mut facade[..load.bits]);
+    super::slots::tally(&mut counts[..area.n], &nodes[..load.atoms]);
+    let facades = &mut facade[..load.bits];
+    super::fronts::facades(
+        area.numbers,
+        area.n * area.n + 24,
+        area.n,
+        &counts[..registered],
+        facades,
+    );
     super::slots::write_slots(load, nodes, &facade, sources, targets);
 }
 
 // The same for the area's own placement.
 pub fn fill_own_slots(
     load: &Load,
-    n: usize,
-    area: &[u32],
+    area: &Area,
     counts: &mut [u32],
     sources: &mut [u32],
     targets: &mut [u32],
 )
-    requires { CanFillOwn (lent_by load.now) n area.now counts.old sources.old targets.old }
-    ensures { Filled (lent_by load.now) n (nodes_in (lent_by load.now) n area.now) (sets_in n area.now) counts.new sources.new targets.new }
+    requires { CanFillOwn (lent_by load.now) area.now.n area.now.numbers.now counts.old sources.old targets.old }
+    ensures { Filled (lent_by load.now) area.now.n (nodes_in (lent_by load.now) area.now.n area.now.numbers.now) (sets_in area.now.n area.now.numbers.now) counts.new sources.new targets.new }
 {
-    let header = n * n;
-    let registered = area[header] as usize;
-    let from = header + 24 + 24 * n;
-    let nodes = &area[from..from + load.atoms];
-    fill_slots(load, n, nodes, area, registered, counts, sources, targets);
+    let registered = area.registered();
+    let nodes = area.nodes(load.atoms);
+    fill_slots(load, nodes, area, registered, counts, sources, targets);
 }

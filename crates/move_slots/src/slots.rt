@@ -14,7 +14,8 @@ ghost use Rattle.move_slots.specs.Steps.{CanTally, CanSources, CanTargets, CanFa
 use move_load_view::Load;
 
 // No node, in the list of hosts that a load lends and in the list of facade nodes.
-// stays: the two lists meet in one test for each slot, and a list of options beside the lent one would be read another way and be twice as long.
+// stays: the lent hosts are numbers, by the C interface, and the facade nodes meet them in one test for each slot: a list of options beside the lent one would be
+// read another way and be twice as long, and `Load::host_of` gives what is lent: no plainer.
 pub const NONE: u32 = 4294967295;
 
 // How many atoms each node has; `nodes` has the node of each atom.

@@ -9,6 +9,8 @@ use Rattle.std.proofs.Math.ListN.{length, set}
 use Rattle.graphs.specs.Count.{ind}
 use Rattle.layout.specs.Patch.{patch, part, part_long, patch-same}
 use Rattle.layout.specs.Lent.{mid_part, put-patch}
+use Rattle.entry_set.specs.Joined.{parts}
+use Rattle.entry_set.specs.LaneLaws.{length-set_strided}
 use Rattle.entry_set.specs.Lanes.{set_lanes}
 use Rattle.move_area.specs.Bodies.{lane_at, atom_at}
 use Rattle.move_area.specs.Calls.{last, next}
@@ -29,6 +31,10 @@ pub record CanRegister (n m to : ℕ) (l : List ℕ) : Type 0 where
   pub small : n ≤ 1024
   pub room : atom_at n ≤ length l
 
+-- a set's eight words leave the area as long as it was
+pub written_long : (n at X : ℕ) (l : List ℕ) {l' : List ℕ} → l' ≡ set_lanes l at n X → length l' ≡ length l
+written_long n at X l e = ap length e ∙ length-set_strided l at n (parts 32 8 X)
+
 pub registered_written : (n count r X : ℕ) (l : List ℕ) {l' : List ℕ} → l' ≡ set_lanes l (n * n + 24 + r) n X
     → set (set l' (n * n) count) (n * n + 24 + 9 * n + r) 0 ≡ registered n count r X l
 unfolding registered
@@ -40,7 +46,7 @@ registered_written n count r X l e =
 abbrev pub counter_in : ℕ → List ℕ → ℕ
 counter_in n l = get_or l (n * n + 1) 0
 
--- the counter raised: "mark at 4,294,967,295 clears marks and restarts"
+-- the counter raised: from 4,294,967,295, the last one, all marks are cleared and it starts again
 unfoldable pub raised : ℕ → List ℕ → List ℕ
 raised n l = set (cond (last (counter_in n l)) (patch (lane_at n 9) (replicate n 0) l) l) (n * n + 1) (next (counter_in n l))
 

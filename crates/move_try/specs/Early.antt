@@ -13,6 +13,7 @@ use Rattle.move_ledger.specs.Graph.{Load, at, members, occupied}
 use Rattle.move_ledger.specs.Ledger.{index, smallest_empty, free_place, register, step1}
 use Rattle.move_ledger.specs.Places.{Apart, index-has, put-there, put_same}
 use Rattle.move_ledger.specs.Evict.{Smallest, smallest, some_empty, place-free, register-old, register-new}
+use Rattle.move_ledger.proofs.Evict.{registered}
 use Rattle.move_ledger.specs.Nodes.{placed, node_edge}
 use Rattle.move_ledger.specs.NodeLaws.{members-nodes}
 use Rattle.move_ledger.specs.NodePlaces.{placing_apart}
@@ -135,3 +136,7 @@ module _ {load : Load} {N : ℕ} {s : Nodes} {l₀ l : List ℕ} (v : Stands loa
               let w = (place-free load N place s.sets apart v.few more).within in
               rw (register-new load N place T s.sets (target_unseen e), place_is e)
               (put-there (free_place load N place s.sets) T s.sets w, put_same (free_place load N place s.sets) T s.sets w)
+
+      -- and it is a node
+      pub place-below : x < N
+      place-below = omega (arith, target_node.0, (registered load N place s.sets apart v.few more T).few)

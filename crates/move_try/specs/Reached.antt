@@ -6,7 +6,7 @@ use mathlib.Core.List.{List}
 use Rattle.std.proofs.Math.ListN.{length, get_or}
 use Rattle.std.proofs.lemmas.List.{length-replicate, get_or-replicate}
 use Rattle.std.proofs.Math.Seq.{get_or-set_same}
-use Rattle.graphs.specs.Count.{count, count_ext}
+use Rattle.graphs.specs.Count.{ind, ind_le, count, count-more, count_le, count_ext}
 use Rattle.graphs.specs.Lists.{below}
 use Rattle.graphs.specs.Tab.{tab-at}
 use Rattle.graphs.specs.Walk.{via}
@@ -27,6 +27,10 @@ pub record CanReach (area : List ℕ) (n to : ℕ) (heads list : List ℕ) : Typ
   pub graph : Graph heads list n
   pub room : atom_at n ≤ length area
   pub marks : (get_or area (n * n + 2) 0 ≡ 0 → ⊥) → (x : ℕ) → x < n → eqb (get_or area (lane_at n 9 + x) 0) (counter_in n area) ≡ via (edge heads list n) (below n) to x
+
+-- one more number is looked at
+pub counted : (p : ℕ → Bool) (x : ℕ) {k m : ℕ} → k ≡ count p x → m ≡ ind (p x) → (k + m ≡ count p (x + 1)) × (k + m ≤ x + 1)
+counted p x h e = (omega (arith, count-more p x, h, e), omega (arith, count_le p x, ind_le (p x), h, e))
 
 -- marks of its own: 1 on noughts
 pub own_can : {heads list : List ℕ} {n to : ℕ} → Graph heads list n → n ≤ 1024 → to < n → CanMark heads list n 1 to (replicate 1024 0)

@@ -5,7 +5,7 @@ use Rattle.std.proofs.Common.{ap₂, ◌∙◌, arith, eq-eqb, ne_eqb, length-se
 use mathlib.Core.List.{List}
 use Rattle.std.proofs.Math.ListN.{length}
 use Rattle.std.proofs.lemmas.List.{length-replicate, get_or-replicate}
-use Rattle.graph_slots.specs.Asked.{Slots, SlotLists}
+use Rattle.graph_slots.specs.Asked.{Slots, SlotLists, CanMark}
 use Rattle.graphs.specs.Lists.{below}
 use Rattle.graphs.specs.Tab.{tab-length, tab-at}
 use Rattle.graphs.specs.Walk.{via, cyclic}
@@ -101,6 +101,16 @@ module _ {area : List ℕ} {n counter y : ℕ} {heads list : List ℕ} (can : Ca
 
   lent : mid_of at (at + n - at) area ≡ part at n area
   lent = marks-lent n area can.fresh.room
+
+  pub mark_can : CanMark heads list n counter y (mid_of at (at + n - at) area)
+  mark_can =
+      record {
+        graph = can.graph;
+        nodes = can.nodes;
+        cells = omega (arith, ap length lent, part_long at n area);
+        start = can.node;
+        fresh = λ x h. rw (lent, part_at at n area x h) (can.fresh.below x h);
+      }
 
   pub mark_done : (e : ℕ → ℕ → Bool) {m : List ℕ} → m ≡ marked e n counter y (mid_of at (at + n - at) area) → put_mid at (at + n - at) area m ≡ walk_area e n counter y area
   unfolding walk_area

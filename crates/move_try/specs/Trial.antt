@@ -1,5 +1,5 @@
 -- The moved placement on trial: what is asked for it. Assumes nothing.
-use Rattle.std.specs.Prelude.{◌≡◌, refl, true, List, ℕ, ◌+◌, ◌-◌, ◌*◌, ◌≤◌, ◌<◌, length, get_or, set}
+use Rattle.std.specs.Prelude.{◌≡◌, refl, true, List, ℕ, ◌+◌, ◌-◌, ◌*◌, ◌≤◌, ◌<◌, length, get_or, set, take}
 use borrow.Rule.Slice.PartMut.{mid_of}
 use Rattle.std.proofs.Common.{ap, ◌∙◌, arith, length-set, get_or-set_same, get_or-set_other}
 use Rattle.std.proofs.Math.Decide.{ℕ_discrete}
@@ -28,20 +28,27 @@ module _ {load : Load} {n : ℕ} {area : List ℕ} {atom to : ℕ} {counts sourc
   nodes_long = part_long (atom_at n) load.A area
 
   -- the atoms' nodes are copied, and one of them set
-  module _ {copied : List ℕ} (e : copied ≡ mid_of (atom_at n) (atom_at n + load.A - atom_at n) area) where
-    moved-nodes : set copied atom to ≡ set (nodes_in load n area) atom to
-    moved-nodes =
-        let z : atom_at n + load.A - atom_at n ≡ load.A = omega arith in
-        ap (λ (l : List ℕ). set l atom to) (e ∙ mid_part (atom_at n) (atom_at n + load.A) area (omega arith) (omega (arith, can.loadable.sizes.area)) ∙ ap (λ k. part (atom_at n) k area) z)
+  pub moved-nodes : {copied : List ℕ} → copied ≡ mid_of (atom_at n) (atom_at n + load.A - atom_at n) area → set copied atom to ≡ set (nodes_in load n area) atom to
+  moved-nodes e =
+      let z : atom_at n + load.A - atom_at n ≡ load.A = omega arith in
+      ap (λ (l : List ℕ). set l atom to) (e ∙ mid_part (atom_at n) (atom_at n + load.A) area (omega arith) (omega (arith, can.loadable.sizes.area)) ∙ ap (λ k. part (atom_at n) k area) z)
 
-    pub fill_can : CanFill load n (set copied atom to) area (get_or area (n * n) 0) counts sources targets
+  -- a list of 512 numbers of which the first A are these
+  pub fill_nodes : (moved : List ℕ) → length moved ≡ 512 → part 0 load.A moved ≡ set (nodes_in load n area) atom to → take (load.A - 0) moved ≡ set (nodes_in load n area) atom to
+  fill_nodes moved long e =
+      let z : load.A - 0 ≡ load.A = omega arith in
+      mid_part 0 load.A moved (omega arith) (omega (arith, can.loadable.sizes.atoms)) ∙ ap (λ k. part 0 k moved) z ∙ e
+
+  -- the moved placement's slots may be filled from any list of these nodes
+  module _ {moved : List ℕ} (e : moved ≡ set (nodes_in load n area) atom to) where
+    pub fill_can : CanFill load n moved area (get_or area (n * n) 0) counts sources targets
     fill_can =
         record {
           loadable = can.loadable;
           many = refl;
           few = can.few;
-          atoms = omega (arith, ap length moved-nodes, length-set (nodes_in load n area) atom to, nodes_long);
-          inside = λ i b. rw moved-nodes (go i b (ℕ_discrete i atom));
+          atoms = omega (arith, ap length e, length-set (nodes_in load n area) atom to, nodes_long);
+          inside = λ i b. rw e (go i b (ℕ_discrete i atom));
           counts_long = can.counts_long;
           sources_long = can.sources_long;
           targets_long = can.targets_long;
@@ -51,5 +58,5 @@ module _ {load : Load} {n : ℕ} {area : List ℕ} {atom to : ℕ} {counts sourc
         go i b (yes q) = rw (q, get_or-set_same (nodes_in load n area) atom to 0 (omega (arith, nodes_long, can.there))) can.node
         go i b (no q) = rw (get_or-set_other (nodes_in load n area) atom i to 0 q) (can.nodes i b)
 
-    pub fill_done : {c s t : List ℕ} → Filled load n (set copied atom to) (sets_in n area) c s t → Filled load n (set (nodes_in load n area) atom to) (sets_in n area) c s t
-    fill_done f = rw moved-nodes at f
+    pub fill_done : {c s t : List ℕ} → Filled load n moved (sets_in n area) c s t → Filled load n (set (nodes_in load n area) atom to) (sets_in n area) c s t
+    fill_done f = rw e at f

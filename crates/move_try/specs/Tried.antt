@@ -17,6 +17,7 @@ use Rattle.move_ledger.specs.LoadLaws.{Loadable}
 use Rattle.move_ledger.specs.Nodes.{placed}
 use Rattle.move_ledger.specs.NodePlaces.{placing_apart}
 use Rattle.set_order.specs.Order.{lane_set, First}
+use Rattle.set_order.specs.Steps.{CanFind}
 use Rattle.move_area.specs.Bodies.{lane_at, atom_at, write}
 use Rattle.move_area.specs.BodyLaws.{write_again}
 use Rattle.move_area.specs.Area.{sets_in, decode, encode, consistent}
@@ -25,10 +26,10 @@ use Rattle.move_area.specs.Checked.{nodes_in, nodes_state}
 use Rattle.move_area.specs.NodeBodies.{Nodes, node_bodies}
 use Rattle.move_area.specs.Calls.{after}
 use Rattle.move_try.specs.Stands.{Stands, stands-sized, stands_long, registered-at, counter_at, sets-in, node_at, marks-part, nodes-part, consistent-stands}
-use Rattle.move_try.specs.Areas.{registered, sets_with}
+use Rattle.move_try.specs.Areas.{registered, sets_with, CanRegister}
 use Rattle.move_try.specs.Grown.{write-over}
 use Rattle.move_try.specs.Outcome.{next_place, with_target_sets, with_target, target_area, stands-target, early_rejected}
-use Rattle.move_try.specs.Early.{Place, outside-step1, free-node, target-new, place_is, target_node}
+use Rattle.move_try.specs.Early.{Place, outside-step1, free-node, target-new, place_is, target_node, place-below}
 use Rattle.move_try.specs.Target.{CanTarget}
 use Rattle.move_try.specs.Settle.{CanSettle}
 
@@ -118,6 +119,9 @@ module _ {load : Load} {n : ℕ} {area : List ℕ} {atom T : ℕ} (can : CanTry 
     registered_many : m ≡ length (sets_in n area)
     registered_many = many ∙ registered-at try_stands
 
+    pub try_find : CanFind n m
+    try_find = record { few = omega (arith, registered_many, try_stands.few); numbers = omega (arith, try_stands.small) }
+
     pub try_target : CanTarget n m area
     try_target =
         record {
@@ -137,6 +141,15 @@ module _ {load : Load} {n : ℕ} {area : List ℕ} {atom T : ℕ} (can : CanTry 
 
       pub node : (y < length (with_target_sets load n st T)) × (at (with_target_sets load n st T) y ≡ T)
       node = target_node try_stands T x first more y p
+
+      pub try_register : CanRegister n m y area
+      try_register =
+          record {
+            within = place-below try_stands T x first more y p;
+            few = omega (arith, registered_many, try_stands.few);
+            small = try_stands.small;
+            room = omega (arith, try_room);
+          }
 
       module _ {l₁ : List ℕ} (e₁ : l₁ ≡ cond (eqb x m) (registered n (sets_with m y) y T area) area) where
         -- what `register` writes

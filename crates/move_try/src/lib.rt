@@ -1,4 +1,5 @@
 // A move on a consistent area, after the checks up to row 12: steps 1 to 3.
+// stays: a writer has N and the list itself, as move_fixed says; `n` is the lanes' distance there, not a list's length.
 #![tactic(auto)]
 
 ghost use Rattle.entry_set.specs.Sets.{number};
@@ -7,6 +8,7 @@ ghost use Rattle.move_try.specs.Settle.{answer_of};
 ghost use Rattle.move_try.specs.Tried.{CanTry, Answers};
 
 use entry_set::EntrySet;
+use move_area::Area;
 use move_load_view::Load;
 
 // What an accepted move reports: how many distinct edges the graph has afterwards that it hadn't before, and the other way round, and how many other
@@ -40,7 +42,7 @@ pub fn try_checked(
 {
     let square = n * n;
     let from = area[square + 24 + 24 * n + atom] as usize;
-    if early::outside(area, n, from) {
+    if early::outside(&Area { n, numbers: area }, from) {
         return None;
     }
     let registered = area[square] as usize;

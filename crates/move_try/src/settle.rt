@@ -1,9 +1,12 @@
 // Step 3 on an area whose target set is registered: the move is tried in lists of its own, and stands for good where the graph then has no cycle.
+// stays: a writer has N and the list itself, as move_fixed says; `n` is the lanes' distance there, not a list's length.
+// stays: memory is fixed, nothing is on the heap.
 ghost use Rattle.move_load_view.specs.View.{lent_by};
 ghost use Rattle.move_try.specs.Settle.{answer_of, CanSettle, SettleRoom, Settled};
 
 use super::{Moved, reach, test, trial, writes};
 use graph_neighbours::Slots;
+use move_area::Area;
 use move_load_view::Load;
 
 // Moves the atom to node `to` where the graph then has no cycle, and answers how many edges came and went and how many nodes `to` then reaches; with
@@ -26,10 +29,10 @@ fn settle_in<const NODES: usize, const HEADS: usize, const SLOTS: usize>(
     let mut heads = [0u32; HEADS];
     let mut list = [0u32; SLOTS];
     let mut spare = [0u32; SLOTS];
+    let standing = Area { n, numbers: area };
     trial::trial(
         load,
-        n,
-        area,
+        &standing,
         atom,
         to,
         &mut counts,
@@ -45,8 +48,9 @@ fn settle_in<const NODES: usize, const HEADS: usize, const SLOTS: usize>(
     if test::closes_cycle(area, n, to, &moved, &mut heads, &mut list) {
         return None;
     }
-    let reached = reach::reached(area, n, to, &heads, &list);
-    move_slots::fill_own_slots(load, n, area, &mut heads, &mut list, &mut spare);
+    let marked = Area { n, numbers: area };
+    let reached = reach::reached(&marked, to, &heads, &list);
+    move_slots::fill_own_slots(load, &marked, &mut heads, &mut list, &mut spare);
     let present = Slots {
         sources: &list,
         targets: &spare,

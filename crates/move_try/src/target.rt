@@ -1,4 +1,5 @@
 // Step 2: the target's node.
+// stays: a writer has N and the list itself, as move_fixed says; `n` is the lanes' distance there, not a list's length.
 ghost use Rattle.std.specs.Prelude.{◌≡◌, ◌+◌, ◌*◌, ◌≤◌};
 ghost use Rattle.entry_set.specs.Sets.{number};
 ghost use Rattle.move_try.specs.Areas.{registered, sets_with, CanRegister};
@@ -38,7 +39,7 @@ fn place(sets: &Lanes, m: usize) -> usize
     move_places::smallest_empty(sets, sets.at + 8 * sets.n).unwrap()
 }
 
-// The target's node, of m so far. Where it is unseen, it is registered at its place.
+// The target's node, of m so far. An unseen one is registered at its place.
 pub fn registered_node(area: &mut [u32], n: usize, m: usize, target: EntrySet) -> usize
     requires { CanTarget n m area.old }
     ensures { Targeted n m (number target) area.old result area.new }

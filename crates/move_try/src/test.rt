@@ -1,4 +1,5 @@
 // Step 3's test: whether the graph of the moved placement has a cycle.
+// stays: a writer has N and the list itself, as move_fixed says; `n` is the lanes' distance there, not a list's length.
 ghost use Rattle.std.specs.Prelude.{◌≡◌};
 ghost use Rattle.graphs.specs.Lists.{below};
 ghost use Rattle.graphs.specs.Walk.{via};

@@ -1,4 +1,5 @@
 // What step 3 writes into the area.
+// stays: a writer has N and the list itself, as move_fixed says; `n` is the lanes' distance there, not a list's length.
 ghost use Rattle.std.specs.Prelude.{◌≡◌, ◌+◌, ◌*◌, ◌≤◌, length};
 ghost use Rattle.layout.specs.Patch.{patch, part};
 ghost use Rattle.move_area.specs.Calls.{next};
@@ -9,6 +10,7 @@ ghost use Rattle.move_try.specs.Commit.{CanFollow, CanCommit};
 
 use super::totals::chunks_after;
 use graph_neighbours::Slots;
+use move_area::Area;
 use move_edges::Changes;
 
 // The next walk counter. After the last one all marks are cleared, and it starts again.
@@ -24,12 +26,11 @@ pub fn raise(area: &mut [u32], n: usize) -> u32
     counter
 }
 
-// The edges of the old slots become those of the new ones, and how many come and go.
+// The edges of the old slots become those of as many new ones, and how many come and go.
 fn follow(area: &mut [u32], n: usize, old: &Slots, new: &Slots) -> Changes
-    requires as_many { new.now.count ≡ old.now.count }
-    requires can { CanFollow area.old n old.now.sources.now old.now.targets.now new.now.sources.now new.now.targets.now old.now.count }
+    requires { CanFollow area.old n old.now.sources.now old.now.targets.now new.now.sources.now new.now.targets.now old.now.count }
     ensures changed { Changed n old.now.sources.now old.now.targets.now new.now.sources.now new.now.targets.now old.now.count result.appeared result.vanished }
-    ensures area_after { area.new ≡ patch 0 (matrix new.now.sources.now new.now.targets.now n new.now.count) area.old }
+    ensures area_after { area.new ≡ patch 0 (matrix new.now.sources.now new.now.targets.now n old.now.count) area.old }
 {
     move_edges::update(&mut area[..n * n], n, old, new)
 }
@@ -54,14 +55,13 @@ pub fn commit(
     new: &Slots,
     counts: &[u32],
 ) -> Changes
-    requires as_many { new.now.count ≡ old.now.count }
-    requires can { CanCommit area.old n atom to old.now.sources.now old.now.targets.now new.now.sources.now new.now.targets.now old.now.count counts.now }
+    requires { CanCommit area.old n atom to old.now.sources.now old.now.targets.now new.now.sources.now new.now.targets.now old.now.count counts.now }
     ensures changed { Changed n old.now.sources.now old.now.targets.now new.now.sources.now new.now.targets.now old.now.count result.appeared result.vanished }
-    ensures area_after { area.new ≡ committed n (matrix new.now.sources.now new.now.targets.now n new.now.count) (part 0 n counts.now) atom to (chunks_after n counts.now atom to area.old) (edges_after n result.appeared result.vanished area.old) area.old }
+    ensures area_after { area.new ≡ committed n (matrix new.now.sources.now new.now.targets.now n old.now.count) (part 0 n counts.now) atom to (chunks_after n counts.now atom to area.old) (edges_after n result.appeared result.vanished area.old) area.old }
 {
     let square = n * n;
     let lanes = square + 24;
-    let chunks = chunks_after(area, n, atom, to, counts);
+    let chunks = chunks_after(&Area { n, numbers: area }, atom, to, counts);
     let edges = area[square + 4];
     let changes = follow(area, n, old, new);
     write_totals(area, n, chunks, edges + changes.appeared - changes.vanished);

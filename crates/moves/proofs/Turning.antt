@@ -1,5 +1,5 @@
 -- How the turns of the program's loop are told by what the interpreter and the turns before did. Assumes nothing.
-use Rattle.std.proofs.Common.{◌≡◌, ℕ, ◌+◌, ◌-◌, ◌%◌, ◌^◌, ◌<◌, ◌≤◌, Bool, true, false, cond, Result, Ok, Err, is_ok, List, length, take, drop, sym, refl, ap, ◌∙◌, subst, true≢false, arith, length-drop, length-take-le, le-leb}
+use Rattle.std.proofs.Common.{◌≡◌, ℕ, ◌+◌, ◌-◌, ◌%◌, ◌^◌, ◌<◌, ◌≤◌, Bool, true, false, cond, Result, Ok, Err, is_ok, List, length, take, drop, sym, refl, ap, ◌∙◌, subst, true≢false, arith, length-take-le, le-leb}
 use Rattle.moves_replies.specs.Room.{Put, put_as}
 use Rattle.moves_load_commands.specs.declared.Machine.{Machine}
 use Rattle.moves_commands.specs.Program.{areas, State, finish, fresh}
@@ -48,9 +48,6 @@ took_none = record { inside = omega arith; state = refl }
 module _ {st st' : State (List ℕ)} {input : List ℕ} {at : ℕ} (t : Took st input st' at true) where
   pub still_ready : Ready st → Ready st'
   still_ready r = rw t.state (after-ready (take at input) st r)
-
-  pub part_left : at < length input → 0 < length (take (length input - at) (drop at input))
-  part_left h = rw (length-take-le (length input - at) (drop at input) (simp length-drop (omega arith))) (omega arith)
 
   module _ {st'' : State (List ℕ)} {turn : Result Fed Fed} {out : List ℕ} (a : Answered st' (take (length input - at) (drop at input)) st'' turn out) where
     pub then_took : Took st input st'' (at + (fed_of turn).used) (is_ok turn)

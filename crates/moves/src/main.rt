@@ -6,7 +6,6 @@ ghost use Rattle.std.specs.Prelude.{◌≡◌, ◌<◌, ◌≤◌, length, take}
 ghost use Rattle.std.specs.Result.{result_unwrap_or};
 ghost use Rattle.moves_commands.specs.Program.{finish, fresh};
 ghost use Rattle.moves_commands.specs.Fits.{Ready};
-ghost use Rattle.moves_commands.specs.Feed.{reserve};
 ghost use Rattle.moves_commands.specs.Steps.{held};
 ghost use Rattle.moves.specs.Turns.{Answered, TookAll, TookRead, RanOut, StartsWith};
 
@@ -18,6 +17,9 @@ use std::io::Read as _;
 // A proved loop has to end, and nothing says that the input does: no run uses up so many reads.
 const READS: u64 = 9223372036854775808;
 
+// How many bytes of replies are written at once: room for the longest one.
+const OUT: usize = 65536;
+
 // What the system answered to a read, and whether the program goes on from it: else how many bytes were taken.
 #[derive(Drop)]
 struct Read {
@@ -26,14 +28,15 @@ struct Read {
 }
 
 // Feeds as much as there is room for the replies to, and writes them. Where they can't be written the program stops.
+// stays: `Ready` is asked here and below, as the interpreter's type can't say it (moves_commands)
 fn feed_once(
     rt: HostRuntime,
     interpreter: &mut Interpreter,
     input: &[u8],
-    out: &mut [u8],
+    out: &mut [u8; OUT],
 ) -> Result<Fed, Fed>
     requires ready { Ready (held interpreter.old) }
-    requires input_nonzero { (0 < length input.now) × (reserve ≤ length out.old) }
+    requires input_nonzero { 0 < length input.now }
     ensures { Answered (held interpreter.old) input.now (held interpreter.new) result out.new }
 {
     let fed = interpreter.feed(input, out);
@@ -45,14 +48,14 @@ fn feed_once(
 }
 
 // Feeds a block of the input, all of it where the replies can be written.
+// stays: how many bytes a turn takes only the turn tells, so that a loop over a range or an iterator would be no plainer
 fn feed_block(
     rt: HostRuntime,
     interpreter: &mut Interpreter,
     input: &[u8],
-    out: &mut [u8],
+    out: &mut [u8; OUT],
 ) -> Result<(), usize>
-    requires ready { Ready (held interpreter.old) }
-    requires reserve_in_bounds { reserve ≤ length out.old }
+    requires { Ready (held interpreter.old) }
     ensures { TookAll (held interpreter.old) input.now (held interpreter.new) result }
 {
     let mut at = 0;
@@ -66,8 +69,7 @@ fn feed_block(
 }
 
 // At the end of the input: writes the last reply, and answers how many bytes it has.
-fn end(rt: HostRuntime, machine: Machine, out: &mut [u8]) -> usize
-    requires { 64 ≤ length out.old }
+fn end(rt: HostRuntime, machine: Machine, out: &mut [u8; OUT]) -> usize
     ensures { (result ≡ length (finish machine)) × StartsWith (finish machine) out.new }
 {
     let n = moves_commands::finish(machine, out);
@@ -81,10 +83,9 @@ fn feed_read(
     rt: HostRuntime,
     interpreter: &mut Interpreter,
     input: &[u8],
-    out: &mut [u8],
+    out: &mut [u8; OUT],
 ) -> Result<(), usize>
-    requires ready { Ready (held interpreter.old) }
-    requires reserve_in_bounds { reserve ≤ length out.old }
+    requires { Ready (held interpreter.old) }
     ensures { TookRead (held interpreter.old) input.now (held interpreter.new) result out.new }
 {
     if input.is_empty() {
@@ -100,10 +101,9 @@ fn read_block(
     rt: HostRuntime,
     interpreter: &mut Interpreter,
     input: &mut [u8],
-    out: &mut [u8],
+    out: &mut [u8; OUT],
 ) -> Read
-    requires ready { Ready (held interpreter.old) }
-    requires reserve_in_bounds { reserve ≤ length out.old }
+    requires { Ready (held interpreter.old) }
     ensures took_read { TookRead (held interpreter.old) (take (result_unwrap_or result.got 0) input.new) (held interpreter.new) result.taken out.new }
     ensures in_bounds { result_unwrap_or result.got 0 ≤ length input.new }
 {
@@ -117,9 +117,8 @@ fn read_block(
 }
 
 // Reads until the machine has stopped, and answers how many bytes the reads gave, modulo 2^64.
-fn run(rt: HostRuntime, interpreter: &mut Interpreter, input: &mut [u8], out: &mut [u8]) -> u64
-    requires fresh { held interpreter.old ≡ fresh interpreter.old.area }
-    requires reserve_in_bounds { reserve ≤ length out.old }
+fn run(rt: HostRuntime, interpreter: &mut Interpreter, input: &mut [u8], out: &mut [u8; OUT]) -> u64
+    requires { held interpreter.old ≡ fresh interpreter.old.area }
     ensures { RanOut (fresh interpreter.old.area) (held interpreter.new) result }
 {
     let mut bytes: u64 = 0;
@@ -135,7 +134,8 @@ fn run(rt: HostRuntime, interpreter: &mut Interpreter, input: &mut [u8], out: &m
 
 fn main(rt: HostRuntime) {
     let mut interpreter = Interpreter::new();
+    // stays: memory is fixed, nothing is on the heap
     let mut input = [0u8; 65536];
-    let mut out = [0u8; 65536];
+    let mut out = [0u8; OUT];
     run(rt, &mut interpreter, &mut input, &mut out);
 }

@@ -13,6 +13,9 @@ use moves_replies::Replies;
 use reduced_chunk_graph::Verdict;
 use refusals::Refusal;
 
+// stays: answers are printed by hand: a `Display` promises its bytes only where the writer answers Ok, and here each line is promised: no plainer, as
+// moves_replies says
+// stays: `HasRoom` is asked reply by reply, as in moves_replies: room shrinks with each reply, and a type for each room would be no plainer
 #[tactic(auto, unfolding(moves_replies::specs::Words::reply))]
 pub fn put_verdict(replies: &mut Replies, answer: Result<Verdict, Refusal>)
     requires { HasRoom 64 replies.old }

@@ -1,15 +1,15 @@
 -- What the loop over a block of the input keeps. Assumes nothing.
 use Rattle.std.proofs.Common.{◌≡◌, refl, sym, ap, subst, ◌∙◌, List, [], ◌∷◌, ◌++◌, true, append_assoc, append-nil, ℕ, ◌+◌, ◌-◌, ◌≤◌, ◌<◌, false, length, get_or, drop, arith, le-leb, add-one, zero-add, add-zero}
 use Rattle.std.proofs.Math.Seq.{drop-cons, drop-length}
+use Rattle.moves_load_commands.specs.Lists.{Roomy, within}
 use Rattle.moves_replies.specs.Room.{put-none, put_as}
 use Rattle.moves_replies.specs.declared.Replies.{Replies}
-use Rattle.moves_replies.specs.Wrote.{Wrote, HasRoom, wrote_then}
+use Rattle.moves_replies.specs.Wrote.{Wrote, HasRoom, wrote_none, wrote_then}
 use Rattle.moves_commands.specs.Program.{State, areas, step}
-use Rattle.moves_commands.specs.Fits.{Ready, step_fits, fits, Roomy, within}
+use Rattle.moves_commands.specs.Fits.{Ready, step_fits, fits}
 use Rattle.moves_commands.specs.Feed.{reserve, Fed, ahead, stay, feeding, feed, feeding-full, feeding-end, feeding-more}
 use Rattle.moves_commands.specs.Steps.{Stepped, FedAs, held}
 use Rattle.moves_commands.specs.declared.Interpreter.{Interpreter}
-use Rattle.moves_commands.proofs.Lines.{wrote_none}
 use Rattle.moves_commands.specs.declared.Fed as code
 
 abbrev pub room_of : Replies → ℕ

@@ -1,6 +1,6 @@
 -- The lines of a listing, one after the other. Assumes nothing.
-use Rattle.std.proofs.Common.{◌≡◌, refl, ap, subst, Bool, true, false, cond, ℕ, zero, suc, ◌+◌, ◌*◌, ◌≤◌, ◌<◌, List, [], ◌++◌, eqb, length, length-append, get_or, arith, add-one}
-use Rattle.refusals.specs.Rows.{row}
+use Rattle.std.proofs.Common.{◌≡◌, refl, ap, subst, Bool, true, false, cond, ℕ, zero, suc, ◌+◌, ◌*◌, ◌≤◌, ◌<◌, List, ◌++◌, eqb, length, length-append, get_or, arith, add-one}
+use Rattle.refusals.specs.Rows.{row, row_some}
 use Rattle.refusals.specs.declared.Refusal.{Refusal}
 use Rattle.move_ledger.specs.Graph.{Load, edges}
 use Rattle.move_ledger.specs.Answer.{Answer, refused, number}
@@ -13,16 +13,12 @@ use Rattle.move_questions.specs.Answers.{place_in, Checked, Listable}
 use Rattle.reduced_chunk_graph.specs.Asked.{asked-back, checks, head-inside, totals_inside, edges-told, edge-told}
 use Rattle.move_rows.specs.Listed.{RowTold, listable_known, listable_some}
 use Rattle.moves_replies.specs.Words.{reply}
-use Rattle.moves_replies.specs.Room.{put-none, reply_long}
+use Rattle.moves_replies.specs.Room.{reply_long}
 use Rattle.moves_replies.specs.declared.Replies.{Replies}
-use Rattle.moves_replies.specs.Wrote.{Wrote, HasRoom, wrote_then}
+use Rattle.moves_replies.specs.Wrote.{Wrote, HasRoom, wrote_none, wrote_then}
 use Rattle.moves_commands.specs.Program.{N, unmarked, areas, lines, lines_of, listing}
 use Rattle.moves_commands.specs.Steps.{CanList, CanListAll}
 use Rattle.moves_commands.specs.Few.{edges_few}
-
--- nothing is written
-pub wrote_none : (r : Replies) → HasRoom 0 r → Wrote [] r r
-wrote_none r h = record { put = put-none r.out.now r.at (omega (arith, h)); same = refl }
 
 pub lines_long : (asks : Question → Answer) (n : ℕ) → length (lines asks n) ≤ 64 * n
 unfolding lines
@@ -91,4 +87,4 @@ listing_refused asks row {r} {s} e w = subst (λ a. Wrote (lines_of asks a ++ re
 -- the check's answer: a row that fits turns the listing back
 pub listing-back : {load : Load} {area order degrees : List ℕ} (r : Refusal) → RowTold load (unmarked load) N area degrees order (row r) → {s t : Replies} → Wrote (reply (refused (row r))) s t
     → Wrote (listing (areas.asks load area)) s t
-listing-back {load} {area} r t w = listing_refused (areas.asks load area) (row r) (asked-back load (unmarked load) N area r t.row edge_count) w
+listing-back {load} {area} r t w = listing_refused (areas.asks load area) (row r) (asked-back load (unmarked load) N area t.row (row_some r) edge_count) w

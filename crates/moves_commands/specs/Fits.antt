@@ -11,19 +11,9 @@ use Rattle.move_ledger.specs.Graph.{at, none}
 use Rattle.moves_load_commands.specs.declared.Command.{Command}
 use Rattle.moves_load_commands.specs.declared.Machine.{Machine}
 use Rattle.moves_load_commands.specs.declared.Reading.{Reading}
+use Rattle.moves_load_commands.specs.Lists.{Roomy}
 use Rattle.moves_load_commands.specs.Machine.{belongs, taken, taken_by, inserted, unnamed, add_atom, depend, add_host, read}
 use Rattle.moves_commands.specs.Program.{Graphs, State, Turn, with_machine, load, move, edges, set_command, cycle, execute, run, step}
-
--- the lists of the commands before the load have room for the program's limits
-pub record Roomy (sets sources dependencies hosts : List ℕ) : Type 0 where
-  pub for_sets : 48 ≤ length sets
-  pub for_sources : 128 ≤ length sources
-  pub for_dependencies : 128 ≤ length dependencies
-  pub for_hosts : 16 ≤ length hosts
-
--- 48 atoms and 128 dependencies are named at most
-abbrev pub within : Machine → Bool
-within m = leb m.atoms 48 && leb m.entries 128
 
 -- room for 48 atoms and 128 dependencies, 16 hosts, and no more named
 pub record Fits (s : Reading) (starts : List ℕ) : Type 0 where

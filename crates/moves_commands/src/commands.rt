@@ -22,10 +22,11 @@ use refusals::Refusal;
 pub(crate) const SETS: usize = 96;
 
 // No atom is fixed.
+// stays: memory is fixed, nothing is on the heap
 pub(crate) static UNFIXED: [u32; 48] = [0; 48];
 
 // The load that the program lends: of starts and dependencies the part in use.
-fn lend<'l>(reading: &'l Reading, starts: &'l [u32; 49]) -> Load<'l>
+fn lend<'l>(reading: &'l Reading, starts: &'l [u32; 49]) -> Load<'l, 'l, 'l>
     requires { CanLend reading.now.machine }
     ensures { lent_by result ≡ lent reading.now starts.now }
 {
@@ -92,7 +93,7 @@ impl Interpreter {
             SETS,
             &UNFIXED[..load.atoms],
             &mut self.area,
-            u32::from(command.x),
+            command.x,
             &[u64::from(command.y)],
         );
         put_move(replies, moved);
@@ -119,13 +120,7 @@ impl Interpreter {
     {
         let load = lend(&self.reading, &self.starts);
         let fixed = &UNFIXED[..load.atoms];
-        let set = reduced_chunk_graph::atom_set(
-            &load,
-            SETS,
-            fixed,
-            &self.area,
-            u32::from(command.y),
-        );
+        let set = reduced_chunk_graph::atom_set(&load, SETS, fixed, &self.area, command.y);
         put_set_answer(replies, set);
         self.reading.machine.command = None;
     }
@@ -145,7 +140,7 @@ impl Interpreter {
     }
 
     // A machine that has stopped is a refusal.
-    #[tactic(auto, using(crate::proofs::Lines::wrote_none))]
+    #[tactic(auto, using(moves_replies::specs::Wrote::wrote_none))]
     pub(crate) fn tell_refused(&self, replies: &mut Replies)
         requires { HasRoom 64 replies.old }
         ensures { Wrote (cond self.now.reading.machine.stopped refusal_line []) replies.old replies.new }
@@ -155,6 +150,8 @@ impl Interpreter {
         }
     }
 
+    // A command by its number.
+    // stays: a table of functions would need an index made of the number and a proof of its bound, where the match needs neither: no plainer
     #[tactic(auto, using(std::proofs::lemmas::Bool::Decides::nat_tests), unfolding(crate::specs::Program::execute))]
     pub(crate) fn execute(&mut self, command: Command, replies: &mut Replies)
         requires ready { Ready (held self.old) }

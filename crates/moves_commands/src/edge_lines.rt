@@ -9,6 +9,7 @@ ghost use Rattle.moves_commands.specs.Program.{areas, lines, listing};
 ghost use Rattle.moves_commands.specs.Steps.{CanList, CanListAll, CanListEdges};
 
 use crate::commands::{SETS, UNFIXED};
+use move_area::Area;
 use move_load_view::Load;
 use move_questions::{edge_at, edge_count};
 use move_rows::listed::listed_row;
@@ -17,6 +18,7 @@ use moves_answers::put_listed;
 use moves_replies::Replies;
 
 // An area that was checked, the nodes by rising sets, and each node's number of edges.
+// stays: lists that are lent, which nobody compares or prints: more derives would be no plainer
 #[derive(Clone, Copy)]
 struct Listing<'l> {
     area: &'l [u32],
@@ -31,7 +33,11 @@ impl Listing<'_> {
         requires room { HasRoom 64 replies.old }
         ensures { (load : graph.Load) → CanList load self.now.area.now known self.now.order.now self.now.degrees.now → Wrote (reply (areas.asks load self.now.area.now (edge_at k))) replies.old replies.new }
     {
-        let edge = edge_at(self.area, SETS, known, self.order, self.degrees, k);
+        let area = Area {
+            n: SETS,
+            numbers: self.area,
+        };
+        let edge = edge_at(&area, known, self.order, self.degrees, k);
         put_listed(replies, edge);
     }
 
@@ -52,8 +58,12 @@ impl Listing<'_> {
         requires room { HasRoom 10240 replies.old }
         ensures { (load : graph.Load) → CanListAll load self.now.area.now self.now.order.now self.now.degrees.now → Wrote (listing (areas.asks load self.now.area.now)) replies.old replies.new }
     {
-        let known = registered(self.area, SETS);
-        let n = edge_count(self.area, SETS);
+        let area = Area {
+            n: SETS,
+            numbers: self.area,
+        };
+        let known = registered(&area);
+        let n = edge_count(&area);
         self.put_lines(known, n, replies);
         replies.put_edges(n);
     }
@@ -64,10 +74,15 @@ pub(crate) fn list_edges(load: &Load, area: &[u32], replies: &mut Replies)
     requires room { HasRoom 10240 replies.old }
     ensures { Wrote (listing (areas.asks (lent_by load.now) area.now)) replies.old replies.new }
 {
+    // stays: memory is fixed, nothing is on the heap
     let mut degrees = [0u32; 1024];
     let mut order = [0u32; 1024];
     let fixed = &UNFIXED[..load.atoms];
-    if let Err(refusal) = listed_row(load, SETS, fixed, area, &mut degrees, &mut order) {
+    let standing = Area {
+        n: SETS,
+        numbers: area,
+    };
+    if let Err(refusal) = listed_row(load, fixed, &standing, &mut degrees, &mut order) {
         replies.put_refused(refusal);
         return;
     }

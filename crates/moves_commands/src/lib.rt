@@ -10,7 +10,7 @@ ghost use Rattle.moves_replies.specs.Wrote.{HasRoom};
 ghost use Rattle.moves_commands.specs.Program as def;
 ghost use Rattle.moves_commands.specs.Program.{areas, fresh};
 ghost use Rattle.moves_commands.specs.Feed.{feeding, feed, finished};
-ghost use Rattle.moves_commands.specs.Fits.{Ready, Roomy, within};
+ghost use Rattle.moves_commands.specs.Fits.{Ready};
 ghost use Rattle.moves_commands.specs.Steps.{Stepped, FedAs, held};
 
 use moves_load_commands::{Machine, Reading};
@@ -21,6 +21,11 @@ use refusals::Refusal;
 const RESERVE: usize = 10240;
 
 // What the commands have named, where each atom's dependencies start once they are loaded, and the move graph's work area.
+// stays: memory is fixed, nothing is on the heap: arrays of the program's limits
+// stays: `Ready` is asked in many contracts and is no fact of this type. A rule of the project needs that: `feed` takes an interpreter in any state, and no byte
+// where more is named than there is room for; the type would ask the fact of each caller. A struct of a lent interpreter with the fact was tried, and the proof
+// didn't close: no two parts of what lies behind a field that is a `&mut` can be lent at once, and a function of the interpreter itself asks the fact again
+// stays: `HasRoom` is asked reply by reply: room shrinks with each reply, and a type for each room would be no plainer
 #[derive(Drop)]
 pub struct Interpreter {
     pub reading: Reading,
@@ -29,19 +34,10 @@ pub struct Interpreter {
 }
 
 // How many bytes of a block were used, and how many bytes of replies were written.
-#[derive(Clone, Copy)]
+#[derive(Clone, Copy, PartialEq, Eq, Debug)]
 pub struct Fed {
     pub used: usize,
     pub written: usize,
-}
-
-// Whether no more is named than the lists have room for, whose lengths their types tell.
-#[tactic(auto, using(std::proofs::lemmas::Bool::Decides::nat_tests))]
-fn fits(reading: &Reading) -> bool
-    ensures value { result ≡ within reading.now.machine }
-    ensures lists { Roomy reading.now.sets reading.now.sources reading.now.dependencies reading.now.hosts }
-{
-    reading.machine.atoms <= 48 && reading.machine.entries <= 128
 }
 
 impl Interpreter {
@@ -57,7 +53,7 @@ impl Interpreter {
     }
 
     // A byte of the input.
-    #[tactic(auto, using(crate::proofs::Lines::wrote_none), unfolding(crate::specs::Program::step))]
+    #[tactic(auto, using(moves_replies::specs::Wrote::wrote_none), unfolding(crate::specs::Program::step))]
     fn step(&mut self, b: u8, replies: &mut Replies)
         requires ready { Ready (held self.old) }
         requires room { HasRoom 10240 replies.old }
@@ -99,7 +95,7 @@ impl Interpreter {
         ensures fed_as { FedAs (feed areas (held self.old) input.now (length out.old)) self.new out.old out.new result }
         ensures used_in_bounds { result.used ≤ length input.now }
     {
-        if !fits(&self.reading) {
+        if !self.reading.fits() {
             return Fed {
                 used: 0,
                 written: 0,

@@ -1,2 +1,3 @@
 -- The program's commands byte by byte, and those before the load. Assumes nothing.
 pub mod Machine
+pub mod Lists

@@ -5,19 +5,23 @@ ghost use Rattle.std.specs.Prelude.{◌≡◌, ◌+◌, ◌^◌, ◌≤◌, ◌<
 ghost use Rattle.graphs.specs.Tab.{tab};
 ghost use Rattle.layout.specs.Patch.{patch};
 ghost use Rattle.moves_load_commands.specs.Machine as def;
+ghost use Rattle.moves_load_commands.specs.Lists.{Roomy, within};
 
 // A command whose operands are being read.
-#[derive(Clone, Copy)]
+#[derive(Clone, Copy, PartialEq, Eq, Debug)]
 pub struct Command {
-    pub number: u8,
+    // the byte of the input
+    // stays: a rule of the project, that what is public asks no more: `read` takes any number, and an enum of the eight commands would take no other
+    pub number: u32,
     // operand bytes still to come
     pub wanted: u32,
-    pub x: u16,
-    pub y: u16,
+    pub x: u32,
+    pub y: u32,
 }
 
 // The command that is being read, if there is one, and how much has been named.
-#[derive(Clone, Copy)]
+// stays: `moving` and `stopped` are facts of their own, that tell of no value beside them: an Option or an enum would be no plainer
+#[derive(Clone, Copy, PartialEq, Eq, Debug)]
 pub struct Machine {
     pub moving: bool,
     pub stopped: bool,
@@ -27,18 +31,20 @@ pub struct Machine {
 }
 
 // What the commands before the load have named: the sets of atoms, dependencies by rising atom, each with its atom in `sources`, and the hosts of bits.
+// stays: memory is fixed, nothing is on the heap: the lists are arrays of the program's limits
 #[derive(Drop)]
 pub struct Reading {
     pub machine: Machine,
     pub sets: [u64; 48],
     pub sources: [u32; 128],
     pub dependencies: [u32; 128],
-    // u32::MAX for a bit that has none. stays: a load is lent with this number
+    // u32::MAX for a bit that has none
+    // stays: the C interface: a load is lent to the library with this number, and the program lends this list itself
     pub hosts: [u32; 16],
 }
 
 // Whether a byte is a command of this phase: 10 to 13 before the load, 20 to 23 after it.
-fn belongs(number: u8, moving: bool) -> bool
+fn belongs(number: u32, moving: bool) -> bool
     ensures { result ≡ def.belongs number moving }
 {
     match number {
@@ -48,7 +54,7 @@ fn belongs(number: u8, moving: bool) -> bool
     }
 }
 
-fn operand_bytes(number: u8) -> u32
+fn operand_bytes(number: u32) -> u32
     ensures { result ≡ def.operand_bytes number }
 {
     match number {
@@ -59,15 +65,15 @@ fn operand_bytes(number: u8) -> u32
 }
 
 // Two bytes as a number, low byte first.
-fn both(low: u16, high: u8) -> u16
+fn both(low: u32, high: u8) -> u32
     ensures { result ≡ def.both low high }
 {
-    low % 256 + 256 * u16::from(high)
+    low % 256 + 256 * u32::from(high)
 }
 
 impl Command {
     // A command by its number, none of its operands read yet.
-    fn named(number: u8) -> Self
+    fn named(number: u32) -> Self
         ensures { result ≡ def.named number }
     {
         Command {
@@ -86,7 +92,7 @@ impl Command {
         match self.wanted {
             4 => Command {
                 wanted: 3,
-                x: u16::from(b),
+                x: u32::from(b),
                 ..self
             },
             3 => Command {
@@ -96,7 +102,7 @@ impl Command {
             },
             2 => Command {
                 wanted: 1,
-                y: u16::from(b),
+                y: u32::from(b),
                 ..self
             },
             _ => Command {
@@ -119,8 +125,8 @@ impl Machine {
                 command: Some(command.with_operand(b)),
                 ..self
             },
-            None if belongs(b, self.moving) => Machine {
-                command: Some(Command::named(b)),
+            None if belongs(u32::from(b), self.moving) => Machine {
+                command: Some(Command::named(u32::from(b))),
                 ..self
             },
             None => Machine {
@@ -168,6 +174,15 @@ impl Reading {
         }
     }
 
+    // Whether no more is named than the lists have room for, whose lengths their types tell.
+    #[tactic(auto, using(std::proofs::lemmas::Bool::Decides::nat_tests))]
+    pub fn fits(&self) -> bool
+        ensures value { result ≡ within self.now.machine }
+        ensures lists { Roomy self.now.sets self.now.sources self.now.dependencies self.now.hosts }
+    {
+        self.machine.atoms <= 48 && self.machine.entries <= 128
+    }
+
     // 10: the next atom and its set.
     #[tactic(auto, using(std::proofs::lemmas::Bool::Decides::nat_tests), unfolding(crate::specs::Machine::add_atom))]
     fn add_atom(&mut self, command: Command)
@@ -188,16 +203,16 @@ impl Reading {
     fn depend(&mut self, command: Command)
         ensures { self.new ≡ def.depend command self.old }
     {
-        let a = usize::from(command.x);
-        let b = usize::from(command.y);
+        let a = command.x as usize;
+        let b = command.y as usize;
         let d = self.machine.entries;
         if self.machine.atoms <= a || self.machine.atoms <= b || 128 <= d {
             self.machine.stopped = true;
             return;
         }
         let p = start(&self.sources[..d], a + 1);
-        insert(&mut self.sources, p, d, u32::from(command.x));
-        insert(&mut self.dependencies, p, d, u32::from(command.y));
+        insert(&mut self.sources, p, d, command.x);
+        insert(&mut self.dependencies, p, d, command.y);
         self.machine.entries = d + 1;
         self.machine.command = None;
     }
@@ -207,17 +222,18 @@ impl Reading {
     fn add_host(&mut self, command: Command)
         ensures { self.new ≡ def.add_host command self.old }
     {
-        let e = usize::from(command.x);
-        let a = usize::from(command.y);
+        let e = command.x as usize;
+        let a = command.y as usize;
         if 16 <= e || self.machine.atoms <= a || self.hosts[e] != u32::MAX {
             self.machine.stopped = true;
             return;
         }
-        self.hosts[e] = u32::from(command.y);
+        self.hosts[e] = command.y;
         self.machine.command = None;
     }
 
-    // 10, 11 or 12.
+    // 10, 11 or 12, which `execute` of moves_commands leaves to this place; `belongs` and `operand_bytes` go by the number, too, for its phase and its operands.
+    // stays: a table of functions would need an index made of the number and a proof of its bound, where the match needs neither: no plainer
     #[tactic(auto, using(std::proofs::lemmas::Bool::Decides::nat_tests), unfolding(crate::specs::Machine::read))]
     pub fn read(&mut self, command: Command)
         ensures { self.new ≡ def.read command self.old }

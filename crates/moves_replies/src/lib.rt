@@ -11,12 +11,15 @@ ghost use Rattle.moves_replies.specs.Wrote.{HasRoom, Wrote};
 use refusals::Refusal;
 
 // The list that is written into, and the place behind what is written already.
+// stays: `HasRoom` is asked text by text. Room shrinks with each text that is written, so that it is no fact of the type; a type for each room would be no plainer
 #[derive(Drop)]
 pub struct Replies<'o> {
     pub out: &'o mut [u8],
     pub at: usize,
 }
 
+// stays: numbers, rows, edges and sets are printed by hand, here and in moves_answers. A `Display` states its bytes, yet promises them only where the writer answers Ok;
+// here room is asked beforehand and each text is promised byte for byte. A writer over the lent list, and at each text a proof that it can't fail, would be no plainer
 impl<'o> Replies<'o> {
     // How many bytes still fit.
     pub fn room(&self) -> usize
@@ -41,6 +44,7 @@ impl<'o> Replies<'o> {
         ensures put { Wrote (decimal n) self.old self.new }
         ensures upper_bound { self.new.at ≤ self.old.at + 20 }
     {
+        // stays: memory is fixed, nothing is on the heap
         let mut text = [0u8; 20];
         let k = io::decimal(n, &mut text);
         self.put(&text[..k]);

@@ -1,4 +1,6 @@
 // The calls of the move graph.
+// stays: the C interface: a call takes what its export is lent, the load as a struct, then N, the marks and the area one by one, and asks nothing of it: no fact is
+// there for a struct to keep.
 ghost use Rattle.std.specs.Prelude.{◌≡◌};
 ghost use Rattle.move_ledger.specs.Ledger as ledger;
 ghost use Rattle.move_load_view.specs.View.{lent_by};
@@ -9,10 +11,7 @@ ghost use Rattle.nidskalm_replies.specs.Replies.{move_reply, try_reply, set_repl
 ghost use Rattle.plan_freedom.specs.Told.{told};
 
 use move_load_view::Load;
-use nidskalm_replies::{
-    EdgeReply, FreedomReply, MoveReply, Reply, SetReply, of_edge, of_freedom, of_load, of_move,
-    of_number, of_rank, of_set,
-};
+use nidskalm_replies::{EdgeReply, FreedomReply, MoveReply, Reply, SetReply};
 
 // Loads a graph: 0 where it is acyclic, 1 where it is cyclic.
 pub fn nidskalm_reduced_chunk_graph_new(
@@ -25,7 +24,7 @@ pub fn nidskalm_reduced_chunk_graph_new(
     ensures value { result ≡ move_reply (calls.new (lent_by load.now) fixed.now n sets.now area.old).answer }
     ensures area_after { area.new ≡ (calls.new (lent_by load.now) fixed.now n sets.now area.old).area }
 {
-    of_load(reduced_chunk_graph::new(load, n as usize, fixed, sets, area))
+    Reply::from(reduced_chunk_graph::new(load, n as usize, fixed, sets, area))
 }
 
 // Moves an atom to a set if no cycle arises: how many distinct edges then appear and vanish, and how many other chunks
@@ -41,7 +40,7 @@ pub fn nidskalm_reduced_chunk_graph_try_move(
     ensures value { result ≡ try_reply (calls.try_move (lent_by load.now) fixed.now n area.old atom bits.now).answer }
     ensures area_after { area.new ≡ (calls.try_move (lent_by load.now) fixed.now n area.old atom bits.now).area }
 {
-    of_move(reduced_chunk_graph::try_move(load, n as usize, fixed, area, atom, bits))
+    MoveReply::from(reduced_chunk_graph::try_move(load, n as usize, fixed, area, atom, bits))
 }
 
 // An atom's set.
@@ -54,7 +53,7 @@ pub fn nidskalm_reduced_chunk_graph_atom_set(
 ) -> SetReply
     ensures { result ≡ set_reply (calls.asked (lent_by load.now) fixed.now n area.now (ledger.atom_set atom)) }
 {
-    of_set(reduced_chunk_graph::atom_set(load, n as usize, fixed, area, atom))
+    SetReply::from(reduced_chunk_graph::atom_set(load, n as usize, fixed, area, atom))
 }
 
 // A set's atom count.
@@ -67,7 +66,7 @@ pub fn nidskalm_reduced_chunk_graph_atom_count(
 ) -> Reply
     ensures { result ≡ move_reply (calls.asked (lent_by load.now) fixed.now n area.now (ledger.atom_count bits.now)) }
 {
-    of_number(reduced_chunk_graph::atom_count(load, n as usize, fixed, area, bits))
+    Reply::from(reduced_chunk_graph::atom_count(load, n as usize, fixed, area, bits))
 }
 
 // The multiplicity of the edge from one set to another.
@@ -81,7 +80,7 @@ pub fn nidskalm_reduced_chunk_graph_multiplicity(
 ) -> Reply
     ensures { result ≡ move_reply (calls.asked (lent_by load.now) fixed.now n area.now (ledger.multiplicity from.now to.now)) }
 {
-    of_number(reduced_chunk_graph::multiplicity(load, n as usize, fixed, area, from, to))
+    Reply::from(reduced_chunk_graph::multiplicity(load, n as usize, fixed, area, from, to))
 }
 
 // The number of distinct edges.
@@ -93,7 +92,7 @@ pub fn nidskalm_reduced_chunk_graph_edge_count(
 ) -> Reply
     ensures { result ≡ move_reply (calls.asked (lent_by load.now) fixed.now n area.now ledger.edge_count) }
 {
-    of_number(reduced_chunk_graph::edge_count(load, n as usize, fixed, area))
+    Reply::from(reduced_chunk_graph::edge_count(load, n as usize, fixed, area))
 }
 
 // The number of chunks: sets that have an atom.
@@ -105,7 +104,7 @@ pub fn nidskalm_reduced_chunk_graph_chunk_count(
 ) -> Reply
     ensures { result ≡ move_reply (calls.asked (lent_by load.now) fixed.now n area.now ledger.chunk_count) }
 {
-    of_number(reduced_chunk_graph::chunk_count(load, n as usize, fixed, area))
+    Reply::from(reduced_chunk_graph::chunk_count(load, n as usize, fixed, area))
 }
 
 // The k-th edge, from 0, by rising source set, then target set.
@@ -118,7 +117,7 @@ pub fn nidskalm_reduced_chunk_graph_edge_at(
 ) -> EdgeReply
     ensures { result ≡ edge_reply (calls.asked (lent_by load.now) fixed.now n area.now (ledger.edge_at k)) }
 {
-    of_edge(reduced_chunk_graph::edge_at(load, n as usize, fixed, area, k))
+    EdgeReply::from(reduced_chunk_graph::edge_at(load, n as usize, fixed, area, k))
 }
 
 // Ranks the placements of two areas: 0 where the first comes before the second, 1 where they are equal, 2 where it comes after.
@@ -131,7 +130,7 @@ pub fn nidskalm_reduced_chunk_graph_rank(
 ) -> Reply
     ensures { result ≡ move_reply (ranking (lent_by load.now) fixed.now n first.now second.now) }
 {
-    of_rank(reduced_chunk_graph::rank(load, n as usize, fixed, first, second))
+    Reply::from(reduced_chunk_graph::rank(load, n as usize, fixed, first, second))
 }
 
 // Whether there is a cycle, by the book's search: 0 where there is none, 1 where there is one.
@@ -143,7 +142,7 @@ pub fn nidskalm_reduced_chunk_graph_has_cycle(
 ) -> Reply
     ensures { result ≡ move_reply (calls.asked (lent_by load.now) fixed.now n area.now ledger.has_cycle) }
 {
-    of_load(reduced_chunk_graph::has_cycle(load, n as usize, fixed, area))
+    Reply::from(reduced_chunk_graph::has_cycle(load, n as usize, fixed, area))
 }
 
 // The chunks to fetch for an entry bit, each behind all that its edges lead to, by their lowest atoms: how many there are.
@@ -158,7 +157,7 @@ pub fn nidskalm_reduced_chunk_graph_start_order(
     ensures value { result ≡ move_reply (started (lent_by load.now) fixed.now n area.now bit chunks.old).answer }
     ensures chunks_after { chunks.new ≡ (started (lent_by load.now) fixed.now n area.now bit chunks.old).chunks }
 {
-    of_number(start_order::start_order(load, n as usize, fixed, area, bit, chunks))
+    Reply::from(start_order::start_order(load, n as usize, fixed, area, bit, chunks))
 }
 
 // For every atom and every occupied set other than its own, how many moves would be accepted, rejected, or refused as the atom is fixed.
@@ -170,5 +169,5 @@ pub fn nidskalm_reduced_chunk_graph_freedom(
 ) -> FreedomReply
     ensures { result ≡ freedom_reply (told (lent_by load.now) fixed.now n area.now) }
 {
-    of_freedom(plan_freedom::freedom(load, n as usize, fixed, area))
+    FreedomReply::from(plan_freedom::freedom(load, n as usize, fixed, area))
 }

@@ -6,7 +6,7 @@ ghost use Rattle.merge_target.specs.Lent.{lent_by};
 ghost use Rattle.nidskalm_replies.specs.Replies.{merge_reply};
 
 use merge_target::{Bundle, Candidate};
-use nidskalm_replies::{Reply, of_chunk};
+use nidskalm_replies::Reply;
 
 // The chunk that a candidate may be merged into, or 4,294,967,295.
 pub fn nidskalm_chunk_optimization_graph_merge_target(
@@ -15,7 +15,7 @@ pub fn nidskalm_chunk_optimization_graph_merge_target(
 ) -> Reply
     ensures { result ≡ merge_reply (find bundle.now.chunks bundle.now.modules bundle.now.kinds.now (number candidate.now.set) (lent_by bundle.now candidate.now)) }
 {
-    of_chunk(merge_target::merge_target(bundle, candidate))
+    Reply::from(merge_target::merge_target(bundle, candidate))
 }
 
 // The same by a bank's own classes of the entry kinds.
@@ -26,5 +26,5 @@ pub fn nidskalm_chunk_optimization_graph_merge_target_by_classes(
 ) -> Reply
     ensures { result ≡ merge_reply (find_by classes.now bundle.now.chunks bundle.now.modules bundle.now.kinds.now (number candidate.now.set) (lent_by bundle.now candidate.now)) }
 {
-    of_chunk(merge_target::merge_target_by_classes(bundle, candidate, classes))
+    Reply::from(merge_target::merge_target_by_classes(bundle, candidate, classes))
 }

@@ -1,4 +1,5 @@
 // The calls of the merge graph.
+// stays: the C interface: its names, its numbers and its lists, one by one. The sizes and a loading are made of them here.
 ghost use Rattle.std.specs.Prelude.{◌≡◌};
 ghost use Rattle.merge_state.specs.Table.{init_module_assignment, add_module_to_chunk, register_chunk_graph_index, to_temp_idx, calc_chunk_dependencies, would_create_circular_dependency, is_reachable, merge_chunk_dependencies, pass};
 ghost use Rattle.merge_area.specs.Calls.{step, lists_after};

@@ -1,4 +1,5 @@
 // The calls of the move graph.
+// stays: the C interface: its names, its numbers and its lists, one by one. The load is made of them here.
 ghost use Rattle.std.specs.Prelude.{◌≡◌};
 ghost use Rattle.move_ledger.specs.Graph.{lent};
 ghost use Rattle.move_ledger.specs.Ledger as ledger;
@@ -20,7 +21,7 @@ fn lent<'l>(
     starts: &'l [u32],
     dependencies: &'l [u32],
     hosts: &'l [u32],
-) -> Load<'l>
+) -> Load<'l, 'l, 'l>
     ensures { lent_by result ≡ lent a d e starts.now dependencies.now hosts.now }
 {
     Load {

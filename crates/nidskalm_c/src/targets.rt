@@ -1,4 +1,5 @@
 // The choice of a merge target.
+// stays: the C interface: its names, its numbers and its lists, one by one. The bundle and the candidate are made of them here.
 ghost use Rattle.std.specs.Prelude.{◌≡◌, [], ◌∷◌};
 ghost use Rattle.entry_set.specs.Sets.{value};
 ghost use Rattle.merge_choice.specs.Find.{find, find_by};

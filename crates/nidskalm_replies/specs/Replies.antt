@@ -42,7 +42,7 @@ no_move q = record { refusal = q; accepted = 0; appeared = 0; vanished = 0; reac
 abbrev pub moving : ℕ → ℕ → ℕ → ℕ → MoveReply
 moving told come gone reach = record { refusal = 0; accepted = told; appeared = come; vanished = gone; reached = reach }
 
--- `try_move`. 02: "Rejected moves report zeros", "a rejected one 0"
+-- `try_move`: a rejected move reports noughts
 unfoldable pub try_reply : moved.Answer → MoveReply
 try_reply (moved.refused q) = no_move q
 try_reply moved.rejected = moving 0 0 0 0

@@ -1,7 +1,7 @@
 // The replies of the C interface, and what each is of the answers of both graphs and of the choice of a merge target.
 #![tactic(auto)]
 
-ghost use Rattle.std.specs.Prelude.{◌≡◌};
+ghost use Rattle.std.specs.Prelude.{◌≡◌, Ok, Err};
 ghost use Rattle.reduced_chunk_graph.specs.Answers.{of_load, of_move, of_set, of_number, of_rank, of_edge};
 ghost use Rattle.chunk_optimizer.specs.Answers.{done_told, temp_told, said_told};
 ghost use Rattle.merge_target.specs.Answers.{target_told};
@@ -77,110 +77,120 @@ pub struct FreedomReply {
     pub fixed: u64,
 }
 
-// A row refuses the call.
-fn refused(refusal: Refusal) -> Reply
-    ensures { result ≡ refusing (row refusal) }
-{
-    Reply {
-        refusal: u64::from(refusal.row()),
-        value: 0,
-    }
-}
+// Each answer of the calls is a type of its own, and has its conversion to C's reply.
 
-// The call isn't refused.
-fn answered(value: u64) -> Reply
-    ensures { result ≡ answering value }
-{
-    Reply { refusal: 0, value }
-}
-
-#[tactic(auto, unfolding(crate::specs::Replies::move_reply))]
-pub fn of_load(answer: Result<Verdict, Refusal>) -> Reply
-    ensures { result ≡ move_reply (of_load answer) }
+// The reply of one number: what a function makes of the value, where the call isn't refused.
+fn told<T: Drop, F: Fn(T) -> u64>(answer: Result<T, Refusal>, value: F) -> Reply
+    requires { F.IsAlwaysCallable value }
+    ensures number { (x : _) → answer ≡ Ok x → (k : _) × F.post value x k × (result ≡ answering k) }
+    ensures refused { (r : _) → answer ≡ Err r → result ≡ refusing (row r) }
 {
     match answer {
-        Ok(Verdict::Acyclic) => answered(0),
-        Ok(Verdict::Cyclic) => answered(1),
-        Err(refusal) => refused(refusal),
-    }
-}
-
-#[tactic(auto, unfolding(crate::specs::Replies::try_reply))]
-pub fn of_move(answer: Result<Option<Moved>, Refusal>) -> MoveReply
-    ensures { result ≡ try_reply (of_move answer) }
-{
-    match answer {
-        Ok(Some(moved)) => MoveReply {
+        Ok(x) => Reply {
             refusal: 0,
-            accepted: 1,
-            appeared: u64::from(moved.appeared),
-            vanished: u64::from(moved.vanished),
-            reached: u64::from(moved.reached),
+            value: value(x),
         },
-        Ok(None) => MoveReply::default(),
-        Err(refusal) => MoveReply {
+        Err(refusal) => Reply {
             refusal: u64::from(refusal.row()),
-            ..MoveReply::default()
+            value: 0,
         },
     }
 }
 
-#[tactic(auto, unfolding(crate::specs::Replies::freedom_reply))]
-pub fn of_freedom(answer: Result<Counts, Refusal>) -> FreedomReply
-    ensures { result ≡ freedom_reply (of_freedom answer) }
-{
-    match answer {
-        Ok(counts) => FreedomReply {
-            refusal: 0,
-            accepted: counts.accepted,
-            rejected: counts.rejected,
-            fixed: counts.fixed,
-        },
-        Err(refusal) => FreedomReply {
-            refusal: u64::from(refusal.row()),
-            ..FreedomReply::default()
-        },
+impl From<Result<Verdict, Refusal>> for Reply {
+    ghost from_gives = { λ answer reply. reply ≡ move_reply (of_load answer) };
+
+    #[tactic(auto, unfolding(crate::specs::Replies::move_reply))]
+    fn from(answer: Result<Verdict, Refusal>) -> Reply {
+        told(answer, |verdict| match verdict {
+            Verdict::Acyclic => 0,
+            Verdict::Cyclic => 1,
+        })
     }
 }
 
-#[tactic(auto, unfolding(crate::specs::Replies::move_reply))]
-pub fn of_number(answer: Result<u64, Refusal>) -> Reply
-    ensures { result ≡ move_reply (of_number answer) }
-{
-    match answer {
-        Ok(number) => answered(number),
-        Err(refusal) => refused(refusal),
+impl From<Result<Option<Moved>, Refusal>> for MoveReply {
+    ghost from_gives = { λ answer reply. reply ≡ try_reply (of_move answer) };
+
+    #[tactic(auto, unfolding(crate::specs::Replies::try_reply))]
+    fn from(answer: Result<Option<Moved>, Refusal>) -> MoveReply {
+        match answer {
+            Ok(Some(moved)) => MoveReply {
+                refusal: 0,
+                accepted: 1,
+                appeared: u64::from(moved.appeared),
+                vanished: u64::from(moved.vanished),
+                reached: u64::from(moved.reached),
+            },
+            Ok(None) => MoveReply::default(),
+            Err(refusal) => MoveReply {
+                refusal: u64::from(refusal.row()),
+                ..MoveReply::default()
+            },
+        }
     }
 }
 
-#[tactic(auto, unfolding(crate::specs::Replies::move_reply))]
-pub fn of_rank(answer: Result<Ordering, Refusal>) -> Reply
-    ensures { result ≡ move_reply (of_rank answer) }
-{
-    match answer {
-        Ok(Ordering::Less) => answered(0),
-        Ok(Ordering::Equal) => answered(1),
-        Ok(Ordering::Greater) => answered(2),
-        Err(refusal) => refused(refusal),
+impl From<Result<Counts, Refusal>> for FreedomReply {
+    ghost from_gives = { λ answer reply. reply ≡ freedom_reply (of_freedom answer) };
+
+    #[tactic(auto, unfolding(crate::specs::Replies::freedom_reply))]
+    fn from(answer: Result<Counts, Refusal>) -> FreedomReply {
+        match answer {
+            Ok(counts) => FreedomReply {
+                refusal: 0,
+                accepted: counts.accepted,
+                rejected: counts.rejected,
+                fixed: counts.fixed,
+            },
+            Err(refusal) => FreedomReply {
+                refusal: u64::from(refusal.row()),
+                ..FreedomReply::default()
+            },
+        }
     }
 }
 
-#[tactic(auto, unfolding(crate::specs::Replies::set_reply))]
-pub fn of_set(answer: Result<EntrySet, Refusal>) -> SetReply
-    ensures { result ≡ set_reply (of_set answer) }
-{
-    match answer {
-        Ok(set) => SetReply {
-            refusal: 0,
-            set0: set.0,
-            set1: set.1,
-            set2: set.2,
-            set3: set.3,
-        },
-        Err(refusal) => SetReply {
-            refusal: u64::from(refusal.row()),
-            ..SetReply::default()
-        },
+impl From<Result<u64, Refusal>> for Reply {
+    ghost from_gives = { λ answer reply. reply ≡ move_reply (of_number answer) };
+
+    #[tactic(auto, unfolding(crate::specs::Replies::move_reply))]
+    fn from(answer: Result<u64, Refusal>) -> Reply {
+        told(answer, |number| number)
+    }
+}
+
+impl From<Result<Ordering, Refusal>> for Reply {
+    ghost from_gives = { λ answer reply. reply ≡ move_reply (of_rank answer) };
+
+    #[tactic(auto, unfolding(crate::specs::Replies::move_reply))]
+    fn from(answer: Result<Ordering, Refusal>) -> Reply {
+        told(answer, |order| match order {
+            Ordering::Less => 0,
+            Ordering::Equal => 1,
+            Ordering::Greater => 2,
+        })
+    }
+}
+
+impl From<Result<EntrySet, Refusal>> for SetReply {
+    ghost from_gives = { λ answer reply. reply ≡ set_reply (of_set answer) };
+
+    #[tactic(auto, unfolding(crate::specs::Replies::set_reply))]
+    fn from(answer: Result<EntrySet, Refusal>) -> SetReply {
+        match answer {
+            Ok(set) => SetReply {
+                refusal: 0,
+                set0: set.0,
+                set1: set.1,
+                set2: set.2,
+                set3: set.3,
+            },
+            Err(refusal) => SetReply {
+                refusal: u64::from(refusal.row()),
+                ..SetReply::default()
+            },
+        }
     }
 }
 
@@ -205,58 +215,57 @@ fn found(edge: Edge) -> EdgeReply
     }
 }
 
-#[tactic(auto, unfolding(crate::specs::Replies::edge_reply))]
-pub fn of_edge(answer: Result<Option<Edge>, Refusal>) -> EdgeReply
-    ensures { result ≡ edge_reply (of_edge answer) }
-{
-    match answer {
-        Ok(Some(edge)) => found(edge),
-        Ok(None) => EdgeReply::default(),
-        Err(refusal) => EdgeReply {
-            refusal: u64::from(refusal.row()),
-            ..EdgeReply::default()
-        },
+impl From<Result<Option<Edge>, Refusal>> for EdgeReply {
+    ghost from_gives = { λ answer reply. reply ≡ edge_reply (of_edge answer) };
+
+    #[tactic(auto, unfolding(crate::specs::Replies::edge_reply))]
+    fn from(answer: Result<Option<Edge>, Refusal>) -> EdgeReply {
+        match answer {
+            Ok(Some(edge)) => found(edge),
+            Ok(None) => EdgeReply::default(),
+            Err(refusal) => EdgeReply {
+                refusal: u64::from(refusal.row()),
+                ..EdgeReply::default()
+            },
+        }
     }
 }
 
-#[tactic(auto, unfolding(crate::specs::Replies::merge_reply))]
-pub fn of_done(answer: Result<(), Refusal>) -> Reply
-    ensures { result ≡ merge_reply (done_told answer) }
-{
-    match answer {
-        Ok(()) => answered(0),
-        Err(refusal) => refused(refusal),
+impl From<Result<(), Refusal>> for Reply {
+    ghost from_gives = { λ answer reply. reply ≡ merge_reply (done_told answer) };
+
+    #[tactic(auto, unfolding(crate::specs::Replies::merge_reply))]
+    fn from(answer: Result<(), Refusal>) -> Reply {
+        told(answer, |()| 0)
     }
 }
 
 // A chunk's number, or 4,294,967,295: the chunk of a key, and the target of a merge.
-#[tactic(auto, unfolding(crate::specs::Replies::merge_reply))]
-pub fn of_chunk(answer: Result<Option<ChunkIdx>, Refusal>) -> Reply
-    ensures key { result ≡ merge_reply (temp_told answer) }
-    ensures target { result ≡ merge_reply (target_told answer) }
-{
-    match answer {
-        Ok(Some(chunk)) => answered(u64::from(chunk.0)),
-        Ok(None) => answered(u64::from(NONE)),
-        Err(refusal) => refused(refusal),
+impl From<Result<Option<ChunkIdx>, Refusal>> for Reply {
+    ghost from_gives = { λ answer reply. (reply ≡ merge_reply (temp_told answer)) × (reply ≡ merge_reply (target_told answer)) };
+
+    #[tactic(auto, unfolding(crate::specs::Replies::merge_reply))]
+    fn from(answer: Result<Option<ChunkIdx>, Refusal>) -> Reply {
+        told(answer, |chunk| match chunk {
+            Some(chunk) => u64::from(chunk.0),
+            None => u64::from(NONE),
+        })
     }
 }
 
-#[tactic(auto, unfolding(crate::specs::Replies::merge_reply))]
-pub fn of_said(answer: Result<bool, Refusal>) -> Reply
-    ensures { result ≡ merge_reply (said_told answer) }
-{
-    match answer {
-        Ok(yes) => answered(u64::from(yes)),
-        Err(refusal) => refused(refusal),
+impl From<Result<bool, Refusal>> for Reply {
+    ghost from_gives = { λ answer reply. reply ≡ merge_reply (said_told answer) };
+
+    #[tactic(auto, unfolding(crate::specs::Replies::merge_reply))]
+    fn from(answer: Result<bool, Refusal>) -> Reply {
+        told(answer, u64::from)
     }
 }
 
-pub fn of_pass(answer: Result<u32, Refusal>) -> Reply
-    ensures { result ≡ pass_reply answer }
-{
-    match answer {
-        Ok(count) => answered(u64::from(count)),
-        Err(refusal) => refused(refusal),
+impl From<Result<u32, Refusal>> for Reply {
+    ghost from_gives = { λ answer reply. reply ≡ pass_reply answer };
+
+    fn from(answer: Result<u32, Refusal>) -> Reply {
+        told(answer, u64::from)
     }
 }

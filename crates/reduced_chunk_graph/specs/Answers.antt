@@ -26,7 +26,7 @@ abbrev pub of_move : Result (Option Moved) Refusal → Answer
 of_move (Ok report) = answer_of report
 of_move (Err r) = refused (row r)
 
--- the answer of `atom_set`: "four numbers of 64 bits"
+-- the answer of `atom_set`: four numbers of 64 bits
 abbrev pub of_set : Result EntrySet Refusal → Answer
 of_set (Ok s) = answer.set (numbers s)
 of_set (Err r) = refused (row r)

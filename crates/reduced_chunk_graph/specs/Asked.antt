@@ -27,7 +27,7 @@ use Rattle.move_area.specs.Calls.{asked}
 use Rattle.move_area.specs.Checked.{nodes_in, sets-at, consistent_ranged, consistent_worked}
 use Rattle.move_questions.specs.Answers.{place_in, set_of, CanReadSet, Checked}
 use Rattle.move_verdict.specs.Verdict.{CanSearch}
-use Rattle.move_rows.specs.Later.{later, turned_by, goes_on, later-legal, later-consistent}
+use Rattle.move_rows.specs.Later.{later, turned-back, goes_on, later-legal, later-consistent}
 use Rattle.refusals.specs.Rows.{row}
 use Rattle.refusals.specs.declared.Refusal.{Refusal}
 
@@ -41,10 +41,10 @@ pub handed_on : {T : Type 0} {result : Result T Refusal} (of : Result T Refusal 
 handed_on {result = result} of r f e = let p = err_from_is_err_and result e in ap of p.1 ∙ f p.0 ∙ ap (λ x. refused (row x)) p.2
 
 module _ (load : Load) (fixed : List ℕ) (N : ℕ) (area : List ℕ) where
-  -- one of the rows 1 to 6 and 9 turns a question back
-  pub asked-back : (r : Refusal) → row r ≡ later load fixed N area → (x : Question) → refused (row r) ≡ asked load fixed N area x
+  -- q is the first of the rows 1 to 6 and 9 that fits: it turns a question back
+  pub asked-back : {q : ℕ} → q ≡ later load fixed N area → (q ≡ 0 → ⊥) → (x : Question) → refused q ≡ asked load fixed N area x
   unfolding asked
-  asked-back r first x = sym (turned_by load fixed N area r first _)
+  asked-back first h x = ap refused first ∙ sym (turned-back load fixed N area (λ z. h (first ∙ z)) _)
 
   -- or none fits
   module _ (none : 0 ≡ later load fixed N area) where
@@ -112,9 +112,9 @@ module _ (load : Load) (fixed : List ℕ) (N : ℕ) (area : List ℕ) where
       unfolding ask one
       one_told e = ap one (sym e) ∙ asked_on (atom_count s)
 
-      pub count_eleven : (r : Refusal) → SetTold load.E s (Err r) → refused (row r) ≡ asked load fixed N area (atom_count s)
+      pub count_eleven : legal load.E s ≡ false → refused 11 ≡ asked load fixed N area (atom_count s)
       unfolding one
-      count_eleven r e = ap refused e.1 ∙ one_told e.0
+      count_eleven e = one_told e
 
       pub count-told : {set : EntrySet} → SetTold load.E s (Ok set) → {known count k : ℕ} → known ≡ get_or area (N * N) 0
           → ((load' : Load) → Checked load' N area known → count ≡ members load' (place_in load' N area) (number set)) → k ≡ count
@@ -131,15 +131,15 @@ module _ (load : Load) (fixed : List ℕ) (N : ℕ) (area : List ℕ) where
       unfolding ask both
       both_told {x} {y} e f = ap (λ u. both u y) (sym e) ∙ ap (both (legal load.E s)) (sym f) ∙ asked_on (multiplicity s t)
 
-      pub from_eleven : (r : Refusal) → SetTold load.E s (Err r) → refused (row r) ≡ asked load fixed N area (multiplicity s t)
+      pub from_eleven : legal load.E s ≡ false → refused 11 ≡ asked load fixed N area (multiplicity s t)
       unfolding both
-      from_eleven r e = ap refused e.1 ∙ both_told e.0 refl
+      from_eleven e = both_told e refl
+
+      pub to_eleven : legal load.E s ≡ true → legal load.E t ≡ false → refused 11 ≡ asked load fixed N area (multiplicity s t)
+      unfolding both
+      to_eleven e f = both_told e f
 
       module _ {from : EntrySet} (source : SetTold load.E s (Ok from)) where
-        pub to_eleven : (r : Refusal) → SetTold load.E t (Err r) → refused (row r) ≡ asked load fixed N area (multiplicity s t)
-        unfolding both
-        to_eleven r e = ap refused e.1 ∙ both_told source.0 e.0
-
         pub multiplicity_told : {to : EntrySet} → SetTold load.E t (Ok to) → {known count k : ℕ} → known ≡ get_or area (N * N) 0
             → ((load' : Load) → Checked load' N area known → count ≡ mult load' (place_in load' N area) (number from) (number to)) → k ≡ count
             → answer.number k ≡ asked load fixed N area (multiplicity s t)

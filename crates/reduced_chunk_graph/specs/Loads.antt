@@ -13,18 +13,19 @@ use Rattle.move_area.specs.Calls.{first}
 use Rattle.move_fixed.specs.Flags.{atoms, CanKeep, flag-atoms}
 
 module _ (load : Load) (fixed : List ℕ) (n : ℕ) (sets area : List ℕ) where
-  -- no row fits, and l holds the first state
+  -- no row fits
   module _ (none : 0 ≡ loading_row load fixed n sets (length area)) where
-    marks : length fixed ≡ load.A
-    marks = refusal-marks load fixed n (length area) (loading_row-later load fixed n sets (length area) (sym none))
+    pub marks_are : length fixed ≡ load.A
+    marks_are = refusal-marks load fixed n (length area) (loading_row-later load fixed n sets (length area) (sym none))
 
+    -- l holds the first state
     pub can_flag : {l : List ℕ} → l ≡ encode load n (first load n sets) area → CanKeep n fixed l
     unfolding encode
     can_flag {l} e =
         let z = (loading_row-none load fixed n sets (length area) (sym none)).loadable.sizes in
         let long : length l ≡ length area = ap length e ∙ write_long n (bodies load n (first load n sets)) area in
-        record { room = omega (arith, z.area, marks) }
+        record { room = omega (arith, z.area, marks_are) }
 
-    -- with the flags it is what `new` leaves
-    pub flagged_area : {l l' : List ℕ} → l ≡ encode load n (first load n sets) area → l' ≡ flag (atoms (length fixed)) fixed n l → l' ≡ flag load fixed n (encode load n (first load n sets) area)
-    flagged_area {l} e f = f ∙ flag-atoms load fixed n l marks ∙ ap (flag load fixed n) e
+  -- with the flags it is what `new` leaves
+  pub flagged_area : {l l' : List ℕ} {a : ℕ} → a ≡ load.A → l ≡ encode load n (first load n sets) area → l' ≡ flag (atoms a) fixed n l → l' ≡ flag load fixed n (encode load n (first load n sets) area)
+  flagged_area {l} z e f = f ∙ flag-atoms load fixed n l z ∙ ap (flag load fixed n) e

@@ -1,13 +1,12 @@
 -- The rows 10, 24, 11 and 12 of a move, and what comes after them. Assumes nothing.
-use Rattle.std.specs.Prelude.{ℕ, ◌+◌, ◌*◌, ◌≤◌, ◌<◌, ◌≡◌, Bool, true, false, not, List, Ok, Err, eqb, length, get_or}
+use Rattle.std.specs.Prelude.{ℕ, ◌+◌, ◌*◌, ◌≤◌, ◌<◌, ◌≡◌, Bool, true, false, not, List, eqb, length, get_or}
 use native.Mathlib.Omega.{arith}
 use Rattle.std.proofs.Math.Path.{refl, sym, ap}
 use Rattle.std.proofs.Common.{◌∙◌}
 use Rattle.std.proofs.Math.Bool.{cond}
 use borrow.Author.Tests.{le-leb, lt-leb, eqb-true, eqb-false, eq-eqb, ne_eqb}
 use Rattle.layout.specs.Patch.{part_at}
-use Rattle.entry_set.specs.Sets.{value, legal, number}
-use Rattle.entry_set.specs.declared.EntrySet.{EntrySet}
+use Rattle.entry_set.specs.Sets.{value, legal}
 use Rattle.entry_set.specs.SetLaws.{legal-below}
 use Rattle.entry_set.specs.Lanes.{lanes}
 use Rattle.move_ledger.specs.Graph.{Load, at}
@@ -21,12 +20,9 @@ use Rattle.move_area.specs.Held.{consistent-whole}
 use Rattle.move_area.specs.Checked.{nodes_in, Ranged, consistent_ranged, ranged_placing, sets-at}
 use Rattle.move_area.specs.Calls.{after}
 use Rattle.move_area.specs.Calls as calls
-use Rattle.move_rows.specs.Later.{later, turned_by, goes_on, later-legal, later-consistent}
+use Rattle.move_rows.specs.Later.{later, turned-back, goes_on, later-legal, later-consistent}
 use Rattle.move_questions.specs.Answers.{set_of, CanReadSet}
-use Rattle.refusals.specs.Rows.{row}
-use Rattle.refusals.specs.declared.Refusal.{Refusal}
 use Rattle.move_try.specs.Tried.{CanTry, Answers}
-use Rattle.reduced_chunk_graph.specs.Asked.{SetTold}
 use Rattle.reduced_chunk_graph.specs.Moves.{CanGoOn, GoesOn}
 
 -- a refused move leaves the state
@@ -45,9 +41,9 @@ module _ {load : Load} {fixed : List ℕ} {n : ℕ} {area : List ℕ} (can : Can
   goes_fixed h f = record { answer = rw (lt-leb load.A atom h, ne_eqb (at fixed atom) 0 f) refl; area_after = refl }
 
   module _ (h : atom < load.A) (free : at fixed atom ≡ 0) where
-    pub goes_eleven : (r : Refusal) → SetTold load.E bits (Err r) → GoesOn load fixed n area atom bits (refused (row r)) area
+    pub goes_eleven : legal load.E bits ≡ false → GoesOn load fixed n area atom bits (refused 11) area
     unfolding move decide
-    goes_eleven r t = record { answer = ap refused t.1 ∙ rw (lt-leb load.A atom h, free, t.0) refl; area_after = refl }
+    goes_eleven q = record { answer = rw (lt-leb load.A atom h, free, q) refl; area_after = refl }
 
     pub goes_twelve : legal load.E bits ≡ true → eqb (value bits) (at (decode load n area).ledger.place atom) ≡ true → GoesOn load fixed n area atom bits (refused 12) area
     unfolding move decide
@@ -83,29 +79,29 @@ module _ {load : Load} {fixed : List ℕ} {n : ℕ} {area : List ℕ} (can : Can
       ∙ ap (at (sets_in n area)) (sym (part_at (atom_at n) load.A area atom h))
       ∙ sym (placed_at (nodes_in load n area) (sets_in n area) atom (omega (arith, p.atoms)))
 
-  -- row 12 and what the move asks, with the target by value
-  module _ (here : atom < load.A) (free : at fixed atom ≡ 0) {target : EntrySet} (lent : SetTold load.E bits (Ok target)) where
-    pub twelve_fits : eqb (set_of area n atom) (value bits) ≡ true → GoesOn load fixed n area atom bits (refused 12) area
-    twelve_fits h = goes_twelve here free lent.0 (eq-eqb _ _ (sym (eqb-true _ _ h) ∙ go_set here))
+  -- row 12 and what the move asks, with the present set and the target by value
+  module _ (here : atom < load.A) (free : at fixed atom ≡ 0) (ok : legal load.E bits ≡ true) {present target : ℕ} (there : present ≡ set_of area n atom) (is : target ≡ value bits) where
+    pub twelve_fits : eqb present target ≡ true → GoesOn load fixed n area atom bits (refused 12) area
+    twelve_fits h = goes_twelve here free ok (eq-eqb _ _ (sym is ∙ sym (eqb-true _ _ h) ∙ there ∙ go_set here))
 
-    pub can_try : eqb (set_of area n atom) (value bits) ≡ false → CanTry load n area atom (number target)
+    pub can_try : eqb present target ≡ false → CanTry load n area atom target
     can_try h =
         record {
           loadable = can.loadable;
           sane = can.sane;
           there = here;
-          range = rw lent.1.value (legal-below load.E bits lent.0);
-          other = ne_eqb _ _ (λ e. eqb-false _ _ h (go_set here ∙ sym e ∙ lent.1.value));
+          range = rw is (legal-below load.E bits ok);
+          other = ne_eqb _ _ (λ e. eqb-false _ _ h (there ∙ go_set here ∙ sym e));
         }
 
-    pub tried-goes : {r : Answer} {l : List ℕ} → Answers load n area atom (number target) r l → GoesOn load fixed n area atom bits r l
-    tried-goes {r} {l} a = goes-tried (number target) r l free (sym lent.1.value) lent.0 a
+    pub tried-goes : {r : Answer} {l : List ℕ} → Answers load n area atom target r l → GoesOn load fixed n area atom bits r l
+    tried-goes {r} {l} a = goes-tried target r l free (sym is) ok a
 
 -- the whole call
 module _ (load : Load) (fixed : List ℕ) (n : ℕ) (area : List ℕ) (atom : ℕ) (bits : List ℕ) where
-  pub call_refused : (r : Refusal) → row r ≡ later load fixed n area → (refused (row r) ≡ (calls.try_move load fixed n area atom bits).answer) × (area ≡ (calls.try_move load fixed n area atom bits).area)
+  pub call_refused : {q : ℕ} → q ≡ later load fixed n area → (q ≡ 0 → ⊥) → (refused q ≡ (calls.try_move load fixed n area atom bits).answer) × (area ≡ (calls.try_move load fixed n area atom bits).area)
   unfolding calls.try_move
-  call_refused r e = rw (turned_by load fixed n area r e (move load fixed n (decode load n area).ledger atom bits).answer) (refl, refl)
+  call_refused e h = rw (turned-back load fixed n area (λ z. h (e ∙ z)) (move load fixed n (decode load n area).ledger atom bits).answer) (ap refused e, refl)
 
   module _ (none : 0 ≡ later load fixed n area) where
     pub call_on : CanGoOn load fixed n area

@@ -1,4 +1,6 @@
 // Whether the graph has a cycle, by the book's search: two routines that call each other (crate graph_book_walk).
+// stays: the C interface. The calls take what C lends, load, n, fixed and area, one by one, and ask nothing of it: no fact is there for a struct to keep. n is the
+// number of nodes, not a list's length.
 ghost use Rattle.std.specs.Prelude.{◌≡◌};
 ghost use Rattle.move_ledger.specs.Ledger as ledger;
 ghost use Rattle.move_area.specs.Calls.{asked};
@@ -6,6 +8,7 @@ ghost use Rattle.move_load_view.specs.View.{lent_by};
 ghost use Rattle.reduced_chunk_graph.specs.Answers.{of_load};
 
 use super::Verdict;
+use move_area::Area;
 use move_load_view::Load;
 use refusals::Refusal;
 
@@ -13,8 +16,9 @@ use refusals::Refusal;
 pub fn has_cycle(load: &Load, n: usize, fixed: &[u32], area: &[u32]) -> Result<Verdict, Refusal>
     ensures { of_load result ≡ asked (lent_by load.now) fixed.now n area.now ledger.has_cycle }
 {
-    move_rows::check::later_row(load, n, fixed, area)?;
-    if move_verdict::has_cycle(load, n, area) {
+    let area = Area { n, numbers: area };
+    move_rows::check::later_row(load, fixed, &area)?;
+    if move_verdict::has_cycle(load, &area) {
         return Ok(Verdict::Cyclic);
     }
     Ok(Verdict::Acyclic)

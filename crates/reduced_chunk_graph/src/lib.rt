@@ -15,6 +15,7 @@ pub use questions::{atom_count, atom_set, chunk_count, edge_at, edge_count, mult
 pub use ranking::rank;
 
 // What `new` and `has_cycle` tell of the graph.
+// stays: no From<bool>: each of the two says by an `if` what its truth value means, which a conversion would hide: no plainer.
 #[derive(Clone, Copy, PartialEq, Eq, Debug)]
 pub enum Verdict {
     Acyclic,

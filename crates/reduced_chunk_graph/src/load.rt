@@ -1,4 +1,6 @@
 // Loading a move graph.
+// stays: the C interface. The calls take what C lends, load, n, fixed and area, one by one, and ask nothing of it: no fact is there for a struct to keep. n is the
+// number of nodes, not a list's length.
 ghost use Rattle.std.specs.Prelude.{◌≡◌};
 ghost use Rattle.move_area.specs.Calls as calls;
 ghost use Rattle.move_load_view.specs.View.{lent_by};

@@ -1,4 +1,6 @@
 // Trial moves: `try_move`.
+// stays: the C interface. The calls take what C lends, load, n, fixed and area, one by one, and ask nothing of it: no fact is there for a struct to keep. n is the
+// number of nodes, not a list's length.
 ghost use Rattle.std.specs.Prelude.{◌≡◌};
 ghost use Rattle.move_area.specs.Calls as calls;
 ghost use Rattle.move_load_view.specs.View.{lent_by};
@@ -6,6 +8,7 @@ ghost use Rattle.reduced_chunk_graph.specs.Answers.{of_move};
 ghost use Rattle.reduced_chunk_graph.specs.Moves.{CanGoOn, GoesOn};
 
 use super::sets::lent_set;
+use move_area::Area;
 use move_load_view::Load;
 use move_try::Moved;
 use refusals::Refusal;
@@ -29,7 +32,8 @@ fn go_on(
         return Err(Refusal::AtomFixed);
     }
     let target = lent_set(bits, load.bits)?;
-    if move_questions::atom_set(area, n, atom) == target {
+    let read = Area { n, numbers: area };
+    if move_questions::atom_set(&read, atom) == target {
         return Err(Refusal::SetUnchanged);
     }
     Ok(move_try::try_checked(load, n, area, atom, target))
@@ -48,6 +52,7 @@ pub fn try_move(
     ensures result_value { of_move result ≡ (calls.try_move (lent_by load.now) fixed.now n area.old atom bits.now).answer }
     ensures area_after { area.new ≡ (calls.try_move (lent_by load.now) fixed.now n area.old atom bits.now).area }
 {
-    move_rows::check::later_row(load, n, fixed, area)?;
+    let standing = Area { n, numbers: area };
+    move_rows::check::later_row(load, fixed, &standing)?;
     go_on(load, n, fixed, area, atom as usize, bits)
 }

@@ -1,4 +1,7 @@
 // The public questions: an atom's set, a set's atom count, one edge's multiplicity, the number of edges and of chunks, and the k-th edge.
+// stays: the C interface. The calls take what C lends, load, n, fixed and area, one by one, and ask nothing of it: no fact is there for a struct to keep. n is the
+// number of nodes, not a list's length.
+// stays: memory is fixed, nothing is on the heap.
 ghost use Rattle.std.specs.Prelude.{◌≡◌};
 ghost use Rattle.move_ledger.specs.Ledger as ledger;
 ghost use Rattle.move_load_view.specs.View.{lent_by};
@@ -7,6 +10,7 @@ ghost use Rattle.reduced_chunk_graph.specs.Answers.{of_set, of_number, of_edge};
 
 use super::sets::lent_set;
 use entry_set::EntrySet;
+use move_area::Area;
 use move_load_view::Load;
 use move_questions::Edge;
 use move_rows::check::later_row;
@@ -24,12 +28,13 @@ pub fn atom_set(
 ) -> Result<EntrySet, Refusal>
     ensures { of_set result ≡ asked (lent_by load.now) fixed.now n area.now (ledger.atom_set atom) }
 {
-    later_row(load, n, fixed, area)?;
+    let area = Area { n, numbers: area };
+    later_row(load, fixed, &area)?;
     let i = atom as usize;
     if load.atoms <= i {
         return Err(Refusal::NoSuchAtom);
     }
-    Ok(move_questions::atom_set(area, n, i))
+    Ok(move_questions::atom_set(&area, i))
 }
 
 // A set's atom count.
@@ -42,9 +47,10 @@ pub fn atom_count(
 ) -> Result<u64, Refusal>
     ensures { of_number result ≡ asked (lent_by load.now) fixed.now n area.now (ledger.atom_count bits.now) }
 {
-    later_row(load, n, fixed, area)?;
+    let area = Area { n, numbers: area };
+    later_row(load, fixed, &area)?;
     let set = lent_set(bits, load.bits)?;
-    let count = move_questions::atom_count(area, n, registered(area, n), set);
+    let count = move_questions::atom_count(&area, registered(&area), set);
     Ok(u64::from(count))
 }
 
@@ -59,10 +65,11 @@ pub fn multiplicity(
 ) -> Result<u64, Refusal>
     ensures { of_number result ≡ asked (lent_by load.now) fixed.now n area.now (ledger.multiplicity from.now to.now) }
 {
-    later_row(load, n, fixed, area)?;
+    let area = Area { n, numbers: area };
+    later_row(load, fixed, &area)?;
     let source = lent_set(from, load.bits)?;
     let target = lent_set(to, load.bits)?;
-    let count = move_questions::multiplicity(area, n, registered(area, n), source, target);
+    let count = move_questions::multiplicity(&area, registered(&area), source, target);
     Ok(u64::from(count))
 }
 
@@ -70,16 +77,18 @@ pub fn multiplicity(
 pub fn edge_count(load: &Load, n: usize, fixed: &[u32], area: &[u32]) -> Result<u64, Refusal>
     ensures { of_number result ≡ asked (lent_by load.now) fixed.now n area.now ledger.edge_count }
 {
-    later_row(load, n, fixed, area)?;
-    Ok(move_questions::edge_count(area, n))
+    let area = Area { n, numbers: area };
+    later_row(load, fixed, &area)?;
+    Ok(move_questions::edge_count(&area))
 }
 
 // The number of chunks: sets that have an atom.
 pub fn chunk_count(load: &Load, n: usize, fixed: &[u32], area: &[u32]) -> Result<u64, Refusal>
     ensures { of_number result ≡ asked (lent_by load.now) fixed.now n area.now ledger.chunk_count }
 {
-    later_row(load, n, fixed, area)?;
-    Ok(move_questions::chunk_count(area, n))
+    let area = Area { n, numbers: area };
+    later_row(load, fixed, &area)?;
+    Ok(move_questions::chunk_count(&area))
 }
 
 // The k-th edge, from 0, by rising source set, then target set.
@@ -94,6 +103,7 @@ pub fn edge_at(
 {
     let mut degrees = [0u32; 1024];
     let mut order = [0u32; 1024];
-    listed_row(load, n, fixed, area, &mut degrees, &mut order)?;
-    Ok(move_questions::edge_at(area, n, registered(area, n), &order, &degrees, k))
+    let area = Area { n, numbers: area };
+    listed_row(load, fixed, &area, &mut degrees, &mut order)?;
+    Ok(move_questions::edge_at(&area, registered(&area), &order, &degrees, k))
 }

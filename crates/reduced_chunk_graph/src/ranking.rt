@@ -1,9 +1,12 @@
 // Which of two plans is better: two areas of one load and one N, both lent for reading.
+// stays: the C interface. The calls take what C lends, load, n, fixed and area, one by one, and ask nothing of it: no fact is there for a struct to keep. n is the
+// number of nodes, not a list's length.
 ghost use Rattle.std.specs.Prelude.{◌≡◌};
 ghost use Rattle.move_load_view.specs.View.{lent_by};
 ghost use Rattle.move_rank.specs.Ranking.{ranking};
 ghost use Rattle.reduced_chunk_graph.specs.Answers.{of_rank};
 
+use move_area::Area;
 use move_load_view::Load;
 use move_rows::check::later_row;
 use refusals::Refusal;
@@ -19,7 +22,7 @@ pub fn rank(
 ) -> Result<Ordering, Refusal>
     ensures { of_rank result ≡ ranking (lent_by load.now) fixed.now n first.now second.now }
 {
-    later_row(load, n, fixed, first)?;
-    later_row(load, n, fixed, second)?;
+    later_row(load, fixed, &Area { n, numbers: first })?;
+    later_row(load, fixed, &Area { n, numbers: second })?;
     Ok(move_rank::rank(first, second, n, load.atoms))
 }

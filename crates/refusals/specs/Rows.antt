@@ -1,5 +1,6 @@
 -- The number of each row of the table of refusals, and of a call that is refused by one. Assumes nothing.
-use Rattle.std.specs.Prelude.{ℕ, Result, Ok, Err}
+use Rattle.std.specs.Prelude.{ℕ, ◌≡◌, Result, Ok, Err}
+use Rattle.std.proofs.Common.{arith}
 use Rattle.refusals.specs.declared.Refusal.{Refusal}
 use Rattle.refusals.specs.declared.Refusal.TheVariants as refusal
 
@@ -36,3 +37,7 @@ row refusal.MergedAway = 28
 abbrev pub row_of : {T : Type 0} → Result T Refusal → ℕ
 row_of (Ok x) = 0
 row_of (Err r) = row r
+
+-- no row has number 0
+pub row_some : (r : Refusal) → row r ≡ 0 → ⊥
+row_some r h = grind arith

@@ -42,6 +42,7 @@ pub enum Refusal {
 
 impl Refusal {
     // The row's number.
+    // stays: the cases have C's numbers, so the conversion is one cast; a `From` for u32 would hold the same cast with the same promise: no plainer.
     pub fn row(self) -> u32
         ensures { result ≡ row self }
     {

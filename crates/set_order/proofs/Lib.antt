@@ -1,4 +1,5 @@
 -- The laws that the proofs of `set_order` cite. Assumes nothing.
 pub mod Comparing
+pub mod Merging
 pub mod Sorting
 pub mod Telling

@@ -22,9 +22,9 @@ patch_snoc v l k x e b =
     ∙ patch-over 0 (v ++ x ∷ []) v l (omega (arith, snoc_length v x))
 
 module _ {s : Setting} {g : Nodes} {a : ℕ} {order low marks₀ degrees₀ chunks₀ : List ℕ} (can : CanList s g a order low marks₀ degrees₀ chunks₀) where
-  module _ {k : ℕ} {marks degrees chunks : List ℕ} (run : Run s g.n g.registered a low chunks₀ k marks degrees chunks) where
+  module _ {k : ℕ} {marks degrees chunks : List ℕ} (run : Run s g.area.n g.registered a low chunks₀ k marks degrees chunks) where
     module _ {i : ℕ} (f : Sought order marks degrees i) (less : k < a) (m : length marks ≡ length marks₀) (d : length degrees ≡ length degrees₀) (l : length chunks ≡ length chunks₀) where
-      pub run_more : {marks' degrees' chunks' : List ℕ} → Taken g (running_here.z can run f less m d l) k low marks degrees chunks marks' degrees' chunks' → Run s g.n g.registered a low chunks₀ (k + 1) marks' degrees' chunks'
+      pub run_more : {marks' degrees' chunks' : List ℕ} → Taken g (running_here.z can run f less m d l) k low marks degrees chunks marks' degrees' chunks' → Run s g.area.n g.registered a low chunks₀ (k + 1) marks' degrees' chunks'
       run_more t = record {
         listed = run.listed ++ (running_here.z can run f less m d l) ∷ [];
         turn =

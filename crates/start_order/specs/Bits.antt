@@ -1,6 +1,6 @@
 -- A set's entry bit stands in one of its words. Assumes nothing.
-use Rattle.std.specs.Prelude.{ℕ, zero, suc, ◌+◌, ◌-◌, ◌*◌, ◌^◌, ◌/◌, ◌%◌, ◌<◌, ◌≡◌, Bool, not, ◌&&◌, List, eqb, get_or}
-use Rattle.std.proofs.Common.{arith, div-one, sym, ap, ◌∙◌, shr-shr}
+use Rattle.std.specs.Prelude.{ℕ, zero, suc, ◌+◌, ◌-◌, ◌*◌, ◌^◌, ◌/◌, ◌%◌, ◌≤◌, ◌<◌, ◌≡◌, Bool, not, ◌&&◌, List, eqb, length, get_or}
+use Rattle.std.proofs.Common.{arith, div-one, mul-le-mul_right, sym, ap, ◌∙◌, shr-shr}
 use Rattle.std.proofs.Math.Pow.{field, mod-mod-pow}
 use Rattle.entry_set.specs.Joined.{parts}
 use Rattle.entry_set.specs.Lanes.{lanes}
@@ -43,3 +43,7 @@ holds_word area n b x small h =
     let e : lane_at n 0 + x + b / 32 * n ≡ word_at n b x = omega arith in
     sym (ap (λ (y : ℕ). eqb y 1) (bit_word (lanes area (lane_at n 0 + x) n) b h
     ∙ ap (λ (y : ℕ). y / 2 ^ (b % 32) % 2) (lanes_word area (lane_at n 0 + x) n small (b / 32) (omega arith) ∙ ap (λ (i : ℕ). get_or area i 0) e)))
+
+-- it is one of the area's numbers
+pub word_room : (area : List ℕ) (n b x : ℕ) → n * n + 24 + 24 * n ≤ length area → b < 256 → x < n → word_at n b x < length area
+word_room area n b x room bit node = omega (arith, room, node, mul-le-mul_right {m = b / 32} {n = 7} n (omega (arith, bit)))

@@ -80,8 +80,16 @@ module _ {load : Load} {n : ℕ} {area : List ℕ} {r : ℕ} {order degrees : Li
   pub row_long : length (take r order) ≡ r
   row_long = length-take-le r order h.order_long
 
-  pub row : Row (setting load n area b) r (take r order)
+  pub row : Row (setting load n area b) r order
   row = record {
+    node = order_inside h.ordered;
+    place = order_place h.ordered;
+    rise = λ i j l c.
+        omega (arith, h.ordered.rise i j l c, set_at h.checked (at order i) (order_inside h.ordered i (omega arith)), set_at h.checked (at order j) (order_inside h.ordered j c));
+  }
+
+  pub row_front : Row (setting load n area b) r (take r order)
+  row_front = record {
     node = λ i c. rw (front i c) (order_inside h.ordered i c);
     place = λ x c. let p = order_place h.ordered x c in (p.0, p.1, front p.0 p.1 ∙ p.2);
     rise = λ i j l c.

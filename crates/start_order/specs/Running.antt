@@ -16,7 +16,7 @@ pub record Run (s : Setting) (n r a : ℕ) (low chunks₀ : List ℕ) (k : ℕ) 
   pub named : chunks ≡ patch 0 (map (at low) listed) chunks₀
 
 module _ {s : Setting} {g : Nodes} {a : ℕ} {order low marks₀ degrees₀ chunks₀ : List ℕ} (can : CanList s g a order low marks₀ degrees₀ chunks₀) where
-  pub run_none : Run s g.n g.registered a low chunks₀ 0 marks₀ degrees₀ chunks₀
+  pub run_none : Run s g.area.n g.registered a low chunks₀ 0 marks₀ degrees₀ chunks₀
   run_none = record { listed = []; turn = can.first; named = sym (patch-none 0 chunks₀) }
 
   pub run_seek : {marks degrees : List ℕ} → length marks ≡ length marks₀ → length degrees ≡ length degrees₀ → CanSeek order marks degrees
@@ -25,7 +25,7 @@ module _ {s : Setting} {g : Nodes} {a : ℕ} {order low marks₀ degrees₀ chun
     counted = All-from_get_or (λ x. x < length degrees) order 0 (λ i b. omega (arith, can.row.node i (omega (arith, can.orders)), can.degrees_long));
   }
 
-  module _ {k : ℕ} {marks degrees chunks : List ℕ} (run : Run s g.n g.registered a low chunks₀ k marks degrees chunks) where
+  module _ {k : ℕ} {marks degrees chunks : List ℕ} (run : Run s g.area.n g.registered a low chunks₀ k marks degrees chunks) where
     told : whole s a ≡ map s.set run.listed → Told s g.registered a low chunks₀ chunks k
     told e = record { listed = run.listed; all = e; inside = run.turn.inside; wanted = run.turn.wanted; many = sym run.turn.many; named = run.named }
 
@@ -50,7 +50,7 @@ module _ {s : Setting} {g : Nodes} {a : ℕ} {order low marks₀ degrees₀ chun
       zr = can.row.node i here
 
       -- of a node's edges that are left one leads to z, or none
-      left : (y : ℕ) → y < g.registered → ind (leads g.area.now g.n z y) ≤ at degrees y
+      left : (y : ℕ) → y < g.registered → ind (leads g.area.numbers.now g.area.n z y) ≤ at degrees y
       left y b =
           omega (
             arith,

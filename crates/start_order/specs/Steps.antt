@@ -24,9 +24,9 @@ leads area n z y = not (eqb (get_or area (y * n + z) 0) 0)
 
 -- each node that has an edge to z has one edge less
 pub record CanPass (g : Nodes) (z : ℕ) (degrees : List ℕ) : Type 0 where
-  pub target : z < g.n
+  pub target : z < g.area.n
   pub long : g.registered ≤ length degrees
-  pub some : (y : ℕ) → y < g.registered → ind (leads g.area.now g.n z y) ≤ at degrees y
+  pub some : (y : ℕ) → y < g.registered → ind (leads g.area.numbers.now g.area.n z y) ≤ at degrees y
 
 -- and this was so of the first r nodes
 pub record Passed (area : List ℕ) (n r z : ℕ) (degrees degrees' : List ℕ) : Type 0 where
@@ -43,19 +43,19 @@ pub record CanTake (g : Nodes) (z k : ℕ) (low marks degrees chunks : List ℕ)
 pub record Taken (g : Nodes) (z k : ℕ) (low marks degrees chunks marks' degrees' chunks' : List ℕ) : Type 0 where
   pub named : chunks' ≡ set chunks k (at low z)
   pub marked : marks' ≡ set marks z 2
-  pub passed : (y : ℕ) → y < g.registered → at degrees' y + ind (leads g.area.now g.n z y) ≡ at degrees y
+  pub passed : (y : ℕ) → y < g.registered → at degrees' y + ind (leads g.area.numbers.now g.area.n z y) ≡ at degrees y
 
 -- all that the turns work with
 pub record CanList (s : Setting) (g : Nodes) (a : ℕ) (order low marks degrees chunks : List ℕ) : Type 0 where
   pub fits : Fits s g.registered
   pub row : Row s g.registered order
-  pub cell : (x y : ℕ) → x < g.n → y < g.n → not (eqb (get_or g.area.now (x * g.n + y) 0) 0) ≡ s.edge x y
+  pub cell : (x y : ℕ) → x < g.area.n → y < g.area.n → not (eqb (get_or g.area.numbers.now (x * g.area.n + y) 0) 0) ≡ s.edge x y
   pub orders : length order ≡ g.registered
   pub lows : g.registered ≤ length low
   pub marks_long : g.registered ≤ length marks
   pub degrees_long : g.registered ≤ length degrees
   pub room : a ≤ length chunks
-  pub first : Turn s g.n g.registered a 0 [] marks degrees
+  pub first : Turn s g.area.n g.registered a 0 [] marks degrees
 
 -- the nodes of all chunks to fetch were listed, each by its number
 pub record Told (s : Setting) (r a : ℕ) (low chunks chunks' : List ℕ) (k : ℕ) : Type 0 where

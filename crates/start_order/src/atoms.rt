@@ -5,10 +5,10 @@ use crate::nodes::Nodes;
 
 // Atoms are gone through from the last of a to the first, so that the lowest of each node stays.
 pub(crate) fn lowest(nodes: &Nodes, a: usize, low: &mut [u32])
-    requires { CanLower nodes.now.area.now a nodes.now.n low.old }
-    ensures { Lowest (atom_node nodes.now.area.now nodes.now.n) 0 a low.new }
+    requires { CanLower nodes.now.area.numbers.now a nodes.now.area.n low.old }
+    ensures { Lowest (atom_node nodes.now.area.numbers.now nodes.now.area.n) 0 a low.new }
 {
     for i in (0..a).rev() {
-        low[nodes.node_of(i)] = i as u32;
+        low[nodes.area.node_of(i)] = i as u32;
     }
 }

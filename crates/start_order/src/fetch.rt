@@ -1,4 +1,5 @@
 // The chunks to fetch on a checked area: which are wanted, their lowest atoms, then turn by turn.
+// stays: memory is fixed, nothing is on the heap.
 ghost use Rattle.move_load_view.specs.View.{lent_by};
 ghost use Rattle.start_order.specs.Calls.{CanFetch, Fetched};
 
@@ -15,7 +16,7 @@ pub(crate) fn fetch(
     chunks: &mut [u32],
 ) -> usize
     requires { CanFetch (lent_by load.now) nodes.now bit order.now degrees.old chunks.old }
-    ensures { Fetched (lent_by load.now) nodes.now.n nodes.now.area.now bit chunks.old chunks.new result }
+    ensures { Fetched (lent_by load.now) nodes.now.area.n nodes.now.area.numbers.now bit chunks.old chunks.new result }
 {
     let mut marks = [0u32; 1024];
     let mut low = [0u32; 1024];

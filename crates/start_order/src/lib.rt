@@ -1,4 +1,6 @@
 // The start order for a desk: the chunks to fetch for one entry bit, each behind all that it depends on.
+// stays: the C interface. `start_order` takes what C lends, load, n, fixed and area, one by one, and asks nothing of it: no fact is there for a struct to keep.
+// stays: memory is fixed, nothing is on the heap.
 #![tactic(auto)]
 
 mod atoms;
@@ -13,6 +15,7 @@ ghost use Rattle.move_order.specs.Order.{started};
 ghost use Rattle.reduced_chunk_graph.specs.Answers.{of_number};
 ghost use Rattle.start_order.specs.Calls.{CanGoOn, GoesOn};
 
+use move_area::{ACYCLIC, Area};
 use move_load_view::Load;
 use move_rows::listed::listed_row;
 use nodes::Nodes;
@@ -21,29 +24,27 @@ use refusals::Refusal;
 // Rows 26 and 27, then the chunks: `order` has the nodes by rising sets, `degrees` each node's number of edges.
 fn go_on(
     load: &Load,
-    n: usize,
-    area: &[u32],
+    area: &Area,
     bit: u64,
     order: &[u32],
     degrees: &mut [u32],
     chunks: &mut [u32],
 ) -> Result<u64, Refusal>
-    requires { CanGoOn (lent_by load.now) n area.now order.now degrees.old }
-    ensures { GoesOn (lent_by load.now) n area.now bit chunks.old (of_number result) chunks.new }
+    requires { CanGoOn (lent_by load.now) area.now.n area.now.numbers.now order.now degrees.old }
+    ensures { GoesOn (lent_by load.now) area.now.n area.now.numbers.now bit chunks.old (of_number result) chunks.new }
 {
     if load.bits as u64 <= bit {
         return Err(Refusal::NoStart);
     }
-    if area[n * n + 2] == 0 {
+    if area.header(ACYCLIC) == 0 {
         return Err(Refusal::NoStart);
     }
     if chunks.len() < load.atoms {
         return Err(Refusal::OrderTooShort);
     }
     let nodes = Nodes {
-        area,
-        n,
-        registered: move_rows::registered(area, n),
+        area: *area,
+        registered: move_rows::registered(area),
     };
     let count = fetch::fetch(load, &nodes, bit as usize, order, degrees, chunks);
     Ok(count as u64)
@@ -63,6 +64,7 @@ pub fn start_order(
 {
     let mut degrees = [0u32; 1024];
     let mut order = [0u32; 1024];
-    listed_row(load, n, fixed, area, &mut degrees, &mut order)?;
-    go_on(load, n, area, bit, &order, &mut degrees, chunks)
+    let area = Area { n, numbers: area };
+    listed_row(load, fixed, &area, &mut degrees, &mut order)?;
+    go_on(load, &area, bit, &order, &mut degrees, chunks)
 }

@@ -1,15 +1,17 @@
 // The nodes of a checked area: the registered sets.
 ghost use Rattle.std.specs.Prelude.{◌≡◌, ℕ, ◌+◌, ◌*◌, ◌/◌, ◌%◌, ◌^◌, ◌<◌, ◌≤◌, eqb, length, get_or};
 
-// The area with its N, and how many of its sets are registered.
+use move_area::Area;
+
+// The area, and how many of its sets are registered.
+// stays: it lends a slice and is neither compared nor printed, so no more is derived.
 #[derive(Clone, Copy)]
 pub struct Nodes<'g> {
-    pub area: &'g [u32],
-    pub n: usize,
+    pub area: Area<'g>,
     pub registered: usize,
-    ghost room: { n * n + 24 + 24 * n ≤ length area.now },
-    ghost small: { n ≤ 1024 },
-    ghost few: { registered ≤ n },
+    ghost room: { area.n * area.n + 24 + 24 * area.n ≤ length area.numbers.now },
+    ghost small: { area.n ≤ 1024 },
+    ghost few: { registered ≤ area.n },
 }
 
 // Whether the bit at `shift` of the number at `at` is set.
@@ -23,33 +25,24 @@ fn has_bit(area: &[u32], at: usize, shift: usize) -> bool
 
 impl Nodes<'_> {
     ghost use Rattle.start_order.specs.Bits.{picks};
-    ghost use Rattle.start_order.specs.Lowest.{atom_node};
     ghost use Rattle.start_order.specs.Steps.{leads};
-
-    // The node of an atom.
-    pub(crate) fn node_of(&self, atom: usize) -> usize
-        requires { self.now.n * self.now.n + 24 + 24 * self.now.n + atom < length self.now.area.now }
-        ensures { result ≡ atom_node self.now.area.now self.now.n atom }
-    {
-        let nodes = self.n * self.n + 24 + 24 * self.n;
-        self.area[nodes + atom] as usize
-    }
 
     // Whether node x has an atom and its set holds the bit.
     pub(crate) fn is_root(&self, bit: usize, x: usize) -> bool
-        requires { (bit < 256) × (x < self.now.n) }
-        ensures { result ≡ picks self.now.area.now self.now.n bit x }
+        requires { (bit < 256) × (x < self.now.area.n) }
+        ensures { result ≡ picks self.now.area.numbers.now self.now.area.n bit x }
     {
-        let lanes = self.n * self.n + 24;
-        self.area[lanes + 8 * self.n + x] != 0
-            && has_bit(self.area, lanes + bit / 32 * self.n + x, bit % 32)
+        let n = self.area.n;
+        let lanes = n * n + 24;
+        self.area.numbers[lanes + 8 * n + x] != 0
+            && has_bit(self.area.numbers, lanes + bit / 32 * n + x, bit % 32)
     }
 
     // Whether there is an edge from node x to node y.
     pub(crate) fn has_edge(&self, x: usize, y: usize) -> bool
-        requires { (x < self.now.n) × (y < self.now.n) }
-        ensures { result ≡ leads self.now.area.now self.now.n y x }
+        requires { (x < self.now.area.n) × (y < self.now.area.n) }
+        ensures { result ≡ leads self.now.area.numbers.now self.now.area.n y x }
     {
-        self.area[x * self.n + y] != 0
+        self.area.multiplicity(x, y) != 0
     }
 }

@@ -7,6 +7,9 @@ ghost use Rattle.start_order.specs.Steps.{CanSeek, Sought, CanPass, Passed, CanT
 use crate::nodes::Nodes;
 use crate::wanted::WANTED;
 
+// stays: order, marks and degrees come one by one: each is written by other steps than the others, and a struct of three `&mut` would be made and taken apart at
+// each call: no plainer.
+
 // The mark of a wanted node that is listed.
 // stays: the walk to the wanted nodes leaves its marks as numbers, and the turns go on in its list; a list of an enum beside it would be no plainer.
 const LISTED: u32 = 2;
@@ -32,7 +35,7 @@ fn seek(order: &[u32], marks: &[u32], degrees: &[u32]) -> Option<usize>
 // Each node with an edge to z has one edge less to go.
 fn pass(nodes: &Nodes, z: usize, degrees: &mut [u32])
     requires { CanPass nodes.now z degrees.old }
-    ensures { Passed nodes.now.area.now nodes.now.n nodes.now.registered z degrees.old degrees.new }
+    ensures { Passed nodes.now.area.numbers.now nodes.now.area.n nodes.now.registered z degrees.old degrees.new }
 {
     for y in 0..nodes.registered {
         degrees[y] -= u32::from(nodes.has_edge(y, z));
@@ -40,6 +43,7 @@ fn pass(nodes: &Nodes, z: usize, degrees: &mut [u32])
 }
 
 // Lists node z at place k by its lowest atom.
+// stays: k is a place of `chunks`, not a list's length.
 fn take(
     nodes: &Nodes,
     z: usize,

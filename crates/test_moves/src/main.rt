@@ -5,6 +5,8 @@
 use moves_commands::Interpreter;
 use program_input::read_full;
 
+// stays: memory is fixed, nothing is on the heap: the arrays of this file
+
 fn run_case(rt: HostRuntime, input: &[u8]) {
     let mut interpreter = Interpreter::new();
     let mut out = [0u8; 65536];
@@ -15,6 +17,7 @@ fn run_case(rt: HostRuntime, input: &[u8]) {
     let _ = rt.write_all(&last[..k]);
 }
 
+// stays: how long a case is only its first two bytes tell, so that a loop over a range or an iterator would be no plainer
 fn run_cases(rt: HostRuntime, input: &[u8]) {
     let mut rest = input;
     let mut case: u64 = 0;

@@ -15,9 +15,6 @@ returns-in_err-init_row c = let p = err_from_is_err_and c.from_residual.result c
 pub invariant_of-standing : goal.invariant_of-standing
 invariant_of-standing c = record { headed = (may_init _ _ _ _ _ c.in_ok-init_row.ensures refl).3 }
 
-pub find_chunk-chunk-requires : goal.find_chunk-chunk-requires
-find_chunk-chunk-requires c = (may_init _ _ _ _ _ c.in_ok-init_row.ensures refl).2
-
 pub from_list-set-requires : goal.from_list-set-requires
 from_list-set-requires c = (may_init _ _ _ _ _ c.in_ok-init_row.ensures refl).2
 
@@ -25,8 +22,8 @@ pub bounds-effects-m : goal.bounds-effects-m
 bounds-effects-m c = (may_init _ _ _ _ _ c.in_ok-init_row.ensures refl).1
 
 pub assign-requires : goal.assign-requires
-assign-requires c = rw (c.find_chunk-chunk.ensures, number_named) ((may_init _ _ _ _ _ c.in_ok-init_row.ensures refl).0, proper-named _)
+assign-requires c = rw (c.find_chunk-chunk.ensures, number_named, c.from_list-set.ensures.value) ((may_init _ _ _ _ _ c.in_ok-init_row.ensures refl).0, proper-named _)
 
 pub returns : goal.returns
 unfolding acted write
-returns c = acted_called _ _ _ c.in_ok-init_row.ensures refl refl (rw (c.from_list-set.ensures.value, c.find_chunk-chunk.ensures, number_named) at c.assign.ensures)
+returns c = acted_called _ _ _ c.in_ok-init_row.ensures refl refl (rw (c.find_chunk-chunk.ensures, number_named, c.from_list-set.ensures.value) at c.assign.ensures)

@@ -14,7 +14,7 @@ pub returns-then-sizes-key : goal.returns-then-sizes-key
 returns-then-sizes-key c = key_past (stands _ _ c.in_ok-standing_row.ensures.row refl) _ _ c.if-sizes-key.true refl refl
 
 pub returns-then-made-chunk : goal.returns-then-made-chunk
-returns-then-made-chunk c = not_made (stands _ _ c.in_ok-standing_row.ensures.row refl) _ _ (omega (arith, c.header-made.ensures, c.if-made-chunk.true)) refl refl
+returns-then-made-chunk c = not_made (stands _ _ c.in_ok-standing_row.ensures.row refl) _ _ (omega (arith, rw (c.in_ok-standing_row.ensures.area.0, c.in_ok-standing_row.ensures.area.1) at c.header-made.ensures, c.if-made-chunk.true)) refl refl
 
 pub returns : goal.returns
-returns c = registers (stands _ _ c.in_ok-standing_row.ensures.row refl) _ _ (omega arith) (omega (arith, c.header-made.ensures, c.if-made-chunk.false)) refl c.register.ensures
+returns c = registers (stands _ _ c.in_ok-standing_row.ensures.row refl) _ _ (omega arith) (omega (arith, rw (c.in_ok-standing_row.ensures.area.0, c.in_ok-standing_row.ensures.area.1) at c.header-made.ensures, c.if-made-chunk.false)) refl c.register.ensures

@@ -1,10 +1,10 @@
 -- Refused by a row, or done. Assumes nothing.
-use Rattle.std.proofs.Common.{refl}
+use Rattle.std.proofs.Common.{refl, rules}
 use Rattle.std.proofs.lemmas.Result.{err_from_is_err_and}
 use Rattle.merge_area.specs.Writes.{write}
 use Rattle.merge_laws.specs.May.{temp_stands, temp_past}
 use Rattle.merge_laws.specs.Rows.{acted_called}
-use Rattle.chunk_optimizer.proofs.Refused.{refused_by, key_told}
+use Rattle.chunk_optimizer.proofs.Refused.{refused_by, key_called}
 use Rattle.chunk_optimizer.proofs.to_temp_idx.Goals as goal
 
 pub returns-in_err-standing_row : goal.returns-in_err-standing_row
@@ -15,7 +15,7 @@ unfolding write
 returns-then-sizes-k c = acted_called _ _ _ (temp_stands _ _ _ c.in_ok-standing_row.ensures.row) refl (temp_past c.args.sizes c.args.area.now c.args.key.0 c.if-sizes-k.true) refl
 
 pub returns : goal.returns
-unfolding write
 returns c =
-    let s = c.args in
-    rw (c.named.ensures, c.key_place.ensures) (acted_called _ _ _ (temp_stands _ _ _ c.in_ok-standing_row.ensures.row) refl (key_told s.sizes s.area.now s.key.0 c.if-sizes-k.false) refl)
+    let n = rw (c.key.ensures, c.places-places.ensures, c.in_ok-standing_row.ensures.area.0) at c.named.ensures in
+    let e = key_called _ _ _ c.named.result c.in_ok-standing_row.ensures.row c.if-sizes-k.false n in
+    search rules

@@ -8,10 +8,10 @@ pub loop-sp-init : goal.loop-sp-init
 loop-sp-init g c = done_none c.requires.offers c.requires.ready
 
 pub scan-sp-requires : goal.scan-sp-requires
-scan-sp-requires g c = record { edges = c.requires.edges; ready = top_ready c.requires.offers c.loop-sp.invariant (omega arith); node = top_node c.requires.offers c.loop-sp.invariant (omega arith) }
+scan-sp-requires g c = record { ready = top_ready c.requires.offers c.loop-sp.invariant (omega arith); node = top_node c.requires.offers c.loop-sp.invariant (omega arith) }
 
 pub loop-sp-smaller : goal.loop-sp-smaller
-loop-sp-smaller g c = scan_less (g.E.Edges.nodes c.args.edges.now) c.args.mark c.loop-sp.marks c.loop-sp.sp _ (omega arith) c.scan-sp.ensures.less
+loop-sp-smaller g c = scan_less ((g.E.Edges.reads c.args.edges.now).nodes) c.args.mark c.loop-sp.marks c.loop-sp.sp _ (omega arith) c.scan-sp.ensures.less
 
 pub loop-sp-preserved : goal.loop-sp-preserved
 loop-sp-preserved g c = done_more c.requires.offers c.loop-sp.invariant (omega arith) c.scan-sp.ensures

@@ -13,7 +13,7 @@ pub returns-then-eq : goal.returns-then-eq
 returns-then-eq c =
     let known : Known c.args.set = search rules in
     let same = equal_by_number (holds-known c.set_of.ensures) known c.eq.ensures in
-    c.named.ensures ∙ ap named (ap (λ j. get_or c.args.numbers.now j 0) c.set_chunk_place.ensures ∙ found_at _ (named_set c.args.sizes c.args.numbers.now) _ _ c.loop-i.invariant (omega arith) (sym c.set_of.ensures.value ∙ eqb-true _ _ (sym same ∙ c.if-eq.true)))
+    c.named.ensures ∙ ap named (ap (λ j. get_or c.args.numbers.now j 0) c.set_chunk.ensures ∙ found_at _ (named_set c.args.sizes c.args.numbers.now) _ _ c.loop-i.invariant (omega arith) (sym c.set_of.ensures.value ∙ eqb-true _ _ (sym same ∙ c.if-eq.true)))
 
 pub loop-i-preserved : goal.loop-i-preserved
 loop-i-preserved c =

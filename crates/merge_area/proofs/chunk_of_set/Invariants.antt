@@ -6,4 +6,4 @@ use Rattle.merge_area.specs.Layout.{set_place}
 use Rattle.merge_area.proofs.chunk_of_set.Given as goal
 
 abbrev pub invariant-loop-i : goal.invariant-loop-i
-invariant-loop-i l = (k : ℕ) → k < l.i → lanes l.numbers (set_place l.sizes k) 1 ≡ number l.set → ⊥
+invariant-loop-i l = (k : ℕ) → k < l.i → lanes l.numbers (set_place l.fn.sizes k) 1 ≡ number l.set → ⊥

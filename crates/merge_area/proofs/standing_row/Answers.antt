@@ -6,7 +6,7 @@ use Rattle.merge_area.specs.Within.{within, longs, headed}
 use Rattle.merge_area.proofs.standing_row.Goals as goal
 
 pub is_inconsistent-requires : goal.is_inconsistent-requires
-is_inconsistent-requires c = (within _ (sym c.over_limits.ensures ∙ c.if-over_limits.false), longs _ _ (sym c.too_short.ensures ∙ c.if-too_short.false))
+is_inconsistent-requires c = longs _ _ (sym c.too_short.ensures ∙ c.if-too_short.false)
 
 pub invariant_of-result : goal.invariant_of-result
 unfolding inconsistent

@@ -4,4 +4,4 @@ use Rattle.merge_area.specs.Writes.{linked}
 use Rattle.merge_dependencies.proofs.add_links.Given as goal
 
 abbrev pub invariant-loop-m : goal.invariant-loop-m
-invariant-loop-m l = (l.area ≡ linked l.sizes l.dependencies l.x 0 l.initial.area l.m-index)
+invariant-loop-m l = (l.area ≡ linked l.fn.sizes l.dependencies l.x 0 l.initial.area l.m-index)

@@ -4,4 +4,4 @@ use Rattle.merge_area.specs.Writes.{calc_area}
 use Rattle.merge_dependencies.proofs.calculate.Given as goal
 
 abbrev pub invariant-loop-i : goal.invariant-loop-i
-invariant-loop-i l = (l.area ≡ calc_area l.sizes l.starts l.dependencies l.initial.area l.i)
+invariant-loop-i l = (l.area ≡ calc_area l.fn.sizes l.starts l.dependencies l.initial.area l.i)

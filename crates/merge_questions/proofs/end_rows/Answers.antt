@@ -5,6 +5,6 @@ use Rattle.merge_questions.proofs.end_rows.Goals as goal
 
 pub find_ends-requires : goal.find_ends-requires
 find_ends-requires c =
-    let k = c.requires.0.headed in
+    let k = c.requires.stood.0.headed in
     let e : length (take {A = ℕ} c.header-count.result c.args.ends.now) ≡ c.header-count.result = simp length-take (omega (arith, k.fits, k.within.chunks, c.header-count.ensures)) in
-    rw e (follows _ _ c.requires.0 c.requires.1 c.header-count.ensures)
+    rw e (follows _ _ c.requires.stood.0 c.requires.stood.1 c.header-count.ensures)

@@ -6,28 +6,28 @@ use Rattle.merge_choice.specs.Rows.{legal}
 use Rattle.merge_target.proofs.Choosing.{sound, roled, choice_is}
 use Rattle.merge_target.proofs.choose.Goals as goal
 
-pub table-table-requires-clause-small : goal.table-table-requires-clause-small
-table-table-requires-clause-small c = let P : ℕ → Type 0 = λ kind. kind < 9 in All-from_get_or P c.args.bundle.now.kinds.now 0 (legal _ _ _ _ c.requires.lists).kind
+pub table-table-requires : goal.table-table-requires
+table-table-requires c = let P : ℕ → Type 0 = λ kind. kind < 9 in All-from_get_or P c.args.bundle.now.kinds.now 0 (legal _ _ _ _ c.requires).kind
 
 pub slice_bounds-table-end : goal.slice_bounds-table-end
 slice_bounds-table-end c = let w = bits_le c.args.bundle.now.chunks in omega (arith, c.bits.ensures)
 
-pub slice_bounds-chosen-end : goal.slice_bounds-chosen-end
-slice_bounds-chosen-end c = let w = bits_le c.args.bundle.now.chunks in omega (arith, c.bits.ensures, length-take c.bits.result c.table-table.result)
+pub slice_bounds-roles-end : goal.slice_bounds-roles-end
+slice_bounds-roles-end c = let w = bits_le c.args.bundle.now.chunks in omega (arith, c.bits.ensures, length-take c.bits.result c.table-table.result)
 
-pub chosen-requires-clause-sound : goal.chosen-requires-clause-sound
-chosen-requires-clause-sound c = sound c.args.bundle.now c.args.candidate.now (legal _ _ _ _ c.requires.lists)
+pub invariant_of-checked-clause-sound : goal.invariant_of-checked-clause-sound
+invariant_of-checked-clause-sound c = sound c.args.bundle.now c.args.candidate.now (legal _ _ _ _ c.requires)
 
-pub chosen-requires-clause-own : goal.chosen-requires-clause-own
-chosen-requires-clause-own c = let P : ℕ → Type 0 = λ m. m < c.args.bundle.now.modules in All-from_get_or P c.args.candidate.now.modules.now 0 (legal _ _ _ _ c.requires.lists).own
+pub invariant_of-checked-clause-own : goal.invariant_of-checked-clause-own
+invariant_of-checked-clause-own c = let P : ℕ → Type 0 = λ m. m < c.args.bundle.now.modules in All-from_get_or P c.args.candidate.now.modules.now 0 (legal _ _ _ _ c.requires).own
 
-pub chosen-requires-clause-roled : goal.chosen-requires-clause-roled
-chosen-requires-clause-roled c =
+pub invariant_of-checked-clause-roled : goal.invariant_of-checked-clause-roled
+invariant_of-checked-clause-roled c =
     let s = c.args in
     let w = bits_le s.bundle.now.chunks in
-    roled s.bundle.now s.candidate.now (legal _ _ _ _ c.requires.lists) s.classes.now _ _ _ c.table-table.ensures c.bits.ensures (omega (arith, c.bits.ensures))
+    roled s.bundle.now s.candidate.now (legal _ _ _ _ c.requires) s.classes.now _ _ _ c.table-table.ensures c.bits.ensures (omega (arith, c.bits.ensures))
 
 pub returns-clause-value : goal.returns-clause-value
 returns-clause-value c =
     let s = c.args in
-    c.chosen.ensures.value ∙ choice_is s.classes.now s.bundle.now.kinds.now _ _ _ _ _ c.table-table.ensures (legal _ _ _ _ c.requires.lists).count c.bits.ensures
+    c.chosen.ensures.value ∙ choice_is s.classes.now s.bundle.now.kinds.now _ _ _ _ _ c.table-table.ensures (legal _ _ _ _ c.requires).count c.bits.ensures

@@ -1,7 +1,8 @@
 -- `move_edges::fill` meets its contract. Assumes nothing.
 use Rattle.std.proofs.Common.{arith, rules, ap, sym, ◌∙◌}
 use Rattle.graphs.specs.Count.{ind}
-use Rattle.move_edges.proofs.Following.{told, byte_le, grown_none, fill_can, fill_more, fill_done, fill_none, fill_tally}
+use Rattle.move_edges.proofs.Following.{grown_none, fill_can, fill_more, fill_done}
+use Rattle.move_edges.proofs.Counting.{told, byte_le, fill_none, fill_tally}
 use Rattle.move_edges.proofs.fill.Goals as goal
 
 pub loop-k-init : goal.loop-k-init

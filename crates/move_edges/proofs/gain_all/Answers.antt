@@ -1,7 +1,8 @@
 -- `move_edges::gain_all` meets its contract. Assumes nothing.
 use Rattle.std.proofs.Common.{arith, ap, ◌∙◌}
 use Rattle.graphs.specs.Count.{ind}
-use Rattle.move_edges.proofs.Following.{told, byte_le, grown_none, gain_can, gain_more, gain_tally}
+use Rattle.move_edges.proofs.Following.{grown_none, gain_can, gain_more}
+use Rattle.move_edges.proofs.Counting.{told, byte_le, gain_tally}
 use Rattle.move_edges.proofs.gain_all.Goals as goal
 
 pub loop-k-init : goal.loop-k-init

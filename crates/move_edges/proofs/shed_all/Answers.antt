@@ -1,7 +1,8 @@
 -- `move_edges::shed_all` meets its contract. Assumes nothing.
 use Rattle.std.proofs.Common.{arith, ap, ◌∙◌}
 use Rattle.graphs.specs.Count.{ind}
-use Rattle.move_edges.proofs.Following.{told, byte_le, fallen_none, shed_can, shed_more, shed_tally}
+use Rattle.move_edges.proofs.Following.{fallen_none, shed_can, shed_more}
+use Rattle.move_edges.proofs.Counting.{told, byte_le, shed_tally}
 use Rattle.move_edges.proofs.shed_all.Goals as goal
 
 pub loop-k-init : goal.loop-k-init

@@ -7,7 +7,7 @@ pub loop-atom-init : goal.loop-atom-init
 loop-atom-init c = told_none
 
 pub returns-then-area-from : goal.returns-then-area-from
-returns-then-area-from c = keeps_no c.args.fixed.now c.args.n c.args.area.now c.loop-atom.atom c.loop-atom-test.true (λ e. c.if-area-from.true (e ∙ sym c.from.ensures))
+returns-then-area-from c = keeps_no c.args.fixed.now c.args.area.now.n c.args.area.now.numbers.now c.loop-atom.atom c.loop-atom-test.true (λ e. c.if-area-from.true (e ∙ sym c.from.ensures))
 
 pub loop-atom-preserved : goal.loop-atom-preserved
 loop-atom-preserved c = told_more c.loop-atom.invariant (c.if-area-from.false ∙ c.from.ensures)

@@ -4,4 +4,4 @@ use Rattle.move_questions.proofs.Asking.{chunk_total}
 use Rattle.move_questions.proofs.chunk_count.Goals as goal
 
 pub returns : goal.returns
-returns c = λ load registered l. c.from.ensures ∙ chunk_total l
+returns c = λ load registered l. c.from.ensures ∙ c.header.ensures ∙ chunk_total l

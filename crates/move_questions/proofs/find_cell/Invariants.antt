@@ -5,4 +5,4 @@ use Rattle.move_questions.specs.Steps.{cells_before}
 use Rattle.move_questions.proofs.find_cell.Given as goal
 
 abbrev pub invariant-loop-j : goal.invariant-loop-j
-invariant-loop-j l = cells_before l.area l.n l.x l.order l.j + l.left ≡ l.rest
+invariant-loop-j l = cells_before l.area.numbers.now l.area.n l.x l.order l.j + l.left ≡ l.rest

@@ -5,4 +5,4 @@ use Rattle.moves.proofs.Turning.{finished-put}
 use Rattle.moves.proofs.end.Goals as goal
 
 pub returns : goal.returns
-returns c = let p = finished-put _ c.requires c.finish-n.ensures in (omega (arith, p.end), put_starts p)
+returns c = let p = finished-put _ (omega arith) c.finish-n.ensures in (omega (arith, p.end), put_starts p)

@@ -7,7 +7,7 @@ pub loop-at-init : goal.loop-at-init
 loop-at-init c = took_none
 
 pub feed_once-requires-clause-ready : goal.feed_once-requires-clause-ready
-feed_once-requires-clause-ready c = still_ready c.loop-at.invariant c.requires.ready
+feed_once-requires-clause-ready c = still_ready c.loop-at.invariant c.requires
 
 pub returns-in-Err : goal.returns-in-Err
 returns-in-Err c = stops c.loop-at.invariant (rw c.in-Err.is at c.feed_once.ensures)

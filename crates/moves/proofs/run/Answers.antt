@@ -5,10 +5,10 @@ use Rattle.moves.proofs.Turning.{reading-ready, reading-out, reading-ends, readi
 use Rattle.moves.proofs.run.Goals as goal
 
 pub loop-init : goal.loop-init
-loop-init c = rw c.requires.fresh begun
+loop-init c = rw c.requires begun
 
-pub read_block-block-requires-clause-ready : goal.read_block-block-requires-clause-ready
-read_block-block-requires-clause-ready c = reading-ready c.loop.invariant (fresh-ready c.args.interpreter.now.area)
+pub read_block-block-requires : goal.read_block-block-requires
+read_block-block-requires c = reading-ready c.loop.invariant (fresh-ready c.args.interpreter.now.area)
 
 pub returns-then-interpreter : goal.returns-then-interpreter
 returns-then-interpreter c =

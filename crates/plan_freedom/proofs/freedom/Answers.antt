@@ -1,7 +1,7 @@
 -- A row turns the call back, or the counts are the definition's. Assumes nothing.
 use Rattle.std.proofs.Common.{sym}
 use Rattle.std.proofs.lemmas.Result.{err_from_is_err_and}
-use Rattle.move_load_rows.proofs.Rows.{row_some}
+use Rattle.refusals.specs.Rows.{row_some}
 use Rattle.plan_freedom.specs.Laws.{told_refused, can_free, told-counts}
 use Rattle.plan_freedom.proofs.freedom.Goals as goal
 

@@ -5,7 +5,7 @@ use Rattle.chain_commands.proofs.Chaining.{turn-place, chain-put}
 use Rattle.chain_commands.proofs.commands.put_chain.Goals as goal
 
 pub put_dependencies-requires : goal.put_dependencies-requires
-put_dependencies-requires c = let s = c.put_sets.ensures in (omega arith, omega arith, omega (arith, s.put.long, turn-place chain_atom 3 _ (λ j. refl) s))
+put_dependencies-requires c = let s = c.put_sets.ensures in (omega arith, omega (arith, s.put.long, turn-place chain_atom 3 _ (λ j. refl) s))
 
 pub put_move-requires : goal.put_move-requires
 put_move-requires c =

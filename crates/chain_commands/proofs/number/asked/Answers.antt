@@ -9,7 +9,7 @@ use Rattle.chain_commands.proofs.number.asked.Goals.{After-filter}
 found : (c : After-filter) → c.filter.result ≡ def.asked c.args.input.now
 found c =
     let f : c.filter.result ≡ up_to 512 c.value.result = search (rules, tests) in
-    asked_right c.args.input.now c.before_newline-text.ensures c.in-Some.ensures.value (omega arith) (rw c.value.ensures at f)
+    asked_right c.args.input.now c.before_newline-text.ensures.value c.in-Some.ensures.value (omega arith) (rw c.value.ensures at f)
 
 pub returns-in-Some-clause-value : goal.returns-in-Some-clause-value
 returns-in-Some-clause-value c = found (goal.at.returns-in-Some-clause-value c).After-filter
@@ -18,7 +18,7 @@ pub returns-in-Some-clause-upper_bound : goal.returns-in-Some-clause-upper_bound
 returns-in-Some-clause-upper_bound c = asked_bounds c.args.input.now (found (goal.at.returns-in-Some-clause-upper_bound c).After-filter)
 
 pub returns-in_default-clause-value : goal.returns-in_default-clause-value
-returns-in_default-clause-value c = asked_low c.args.input.now c.before_newline-text.ensures c.in-Some.ensures.value (omega arith)
+returns-in_default-clause-value c = asked_low c.args.input.now c.before_newline-text.ensures.value c.in-Some.ensures.value (omega arith)
 
 pub returns-in_default-2-clause-value : goal.returns-in_default-2-clause-value
-returns-in_default-2-clause-value c = asked-empty c.args.input.now c.before_newline-text.ensures (rw c.in_default.is at c.first.ensures.value)
+returns-in_default-2-clause-value c = asked-empty c.args.input.now c.before_newline-text.ensures.value (rw c.in_default.is at c.first.ensures.value)

@@ -8,10 +8,10 @@ pub loop-i-init : goal.loop-i-init
 loop-i-init c = some_zero _
 
 pub returns-then-not-in_range : goal.returns-then-not-in_range
-returns-then-not-in_range c = some_found _ _ _ (omega arith) (sym (range_eq _ _ _ c.set_of.ensures c.in_range.ensures) ∙ ap not c.if-not-in_range.true)
+returns-then-not-in_range c = some_found _ _ _ (omega arith) (sym (range_eq _ _ _ (rw c.places-places.ensures at c.set_of.ensures) c.in_range.ensures) ∙ ap not c.if-not-in_range.true)
 
 pub loop-i-preserved : goal.loop-i-preserved
-loop-i-preserved c = none_more _ _ c.loop-i.invariant (sym (range_eq _ _ _ c.set_of.ensures c.in_range.ensures) ∙ ap not c.if-not-in_range.false)
+loop-i-preserved c = none_more _ _ c.loop-i.invariant (sym (range_eq _ _ _ (rw c.places-places.ensures at c.set_of.ensures) c.in_range.ensures) ∙ ap not c.if-not-in_range.false)
 
 pub returns : goal.returns
 returns c = none_left _ _ _ c.loop-i.invariant (omega arith)

@@ -6,4 +6,4 @@ use Rattle.merge_area.specs.Read.{into_in}
 use Rattle.merge_area.proofs.merges.some_left.Given as goal
 
 abbrev pub invariant-loop-end : goal.invariant-loop-end
-invariant-loop-end l = some_below (λ y. not (eqb (into_in l.sizes l.area (get_or l.ends y 0)) None)) l.end-index ≡ false
+invariant-loop-end l = some_below (λ y. not (eqb (into_in l.fn.sizes l.area (get_or l.ends y 0)) None)) l.end-index ≡ false

@@ -9,7 +9,7 @@ pub loop-x-init : goal.loop-x-init
 loop-x-init c = stepped-none _ _ _ (omega arith)
 
 pub loop-x-preserved : goal.loop-x-preserved
-loop-x-preserved c = stepped-more _ _ _ _ c.loop-x.invariant c.requires.range c.loop-x-test.true (ap (λ i. cell c.args.area.now i) c.into_place.ensures ∙ sym (into-at _ _ _ c.requires.on (omega arith))) c.step_of.ensures
+loop-x-preserved c = stepped-more _ _ _ _ c.loop-x.invariant c.requires.range c.loop-x-test.true (ap (λ i. cell c.args.area.now i) c.into.ensures ∙ sym (into-at _ _ _ c.requires.on (omega arith))) c.step_of.ensures
 
 pub returns : goal.returns
 returns c = stepped-done _ _ c.loop-x.invariant (omega arith)

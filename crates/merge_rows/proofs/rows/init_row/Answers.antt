@@ -13,8 +13,8 @@ returns-in_err-area c = let p = err_from_is_err_and c.from_residual.result c.fro
 pub is_legal-requires : goal.is_legal-requires
 is_legal-requires c = (stood _ _ _ _ c.in_ok-area.ensures.row refl).headed.within.bits
 
-pub lacks_chunk-lacks-requires : goal.lacks_chunk-lacks-requires
-lacks_chunk-lacks-requires c = legal-short _ c.args.bits.now (stood _ _ _ _ c.in_ok-area.ensures.row refl).headed.within.bits c.is_legal.ensures (ap not c.if-not-is_legal.false)
+pub from_list-requires : goal.from_list-requires
+from_list-requires c = legal-short _ c.args.bits.now (stood _ _ _ _ c.in_ok-area.ensures.row refl).headed.within.bits c.is_legal.ensures (ap not c.if-not-is_legal.false)
 
 pub returns-then-sizes-m : goal.returns-then-sizes-m
 unfolding over_lists bad_lists later first_fitting

@@ -12,7 +12,7 @@ loop-b-init c = named_none (zeros 256)
 pub role_of-requires : goal.role_of-requires
 role_of-requires c =
     let w = bits_le (length c.args.kinds.now) in
-    record { few = omega arith; inside = omega arith; kind = c.requires.small c.loop-b.b 0 (omega arith); eight = c.requires.eight }
+    record { few = omega arith; inside = omega arith; kind = c.requires c.loop-b.b 0 (omega arith); eight = omega arith }
 
 pub bounds-roles-b : goal.bounds-roles-b
 bounds-roles-b c = let w = bits_le (length c.args.kinds.now) in omega arith

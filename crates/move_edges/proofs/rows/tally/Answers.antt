@@ -1,6 +1,6 @@
 -- `move_edges::rows::tally` meets its contract. Assumes nothing.
 use Rattle.std.proofs.Common.{arith, ◌∙◌}
-use Rattle.move_edges.proofs.Following.{told}
+use Rattle.move_edges.proofs.Counting.{told}
 use Rattle.move_edges.proofs.Checking.{some_none, some_can, some_more}
 use Rattle.move_edges.proofs.rows.tally.Goals as goal
 

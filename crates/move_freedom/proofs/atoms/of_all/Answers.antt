@@ -1,5 +1,5 @@
 -- One more atom. Assumes nothing.
-use Rattle.std.proofs.Common.{arith}
+use Rattle.std.proofs.Common.{refl, arith}
 use Rattle.move_freedom.proofs.AtomCounts.{counted_zero, counted_next}
 use Rattle.move_freedom.proofs.atoms.of_all.Goals as goal
 
@@ -7,4 +7,4 @@ pub loop-atom-init : goal.loop-atom-init
 loop-atom-init c = record { counted = counted_zero _ _ _; few = omega arith }
 
 pub loop-atom-preserved : goal.loop-atom-preserved
-loop-atom-preserved c = record { counted = counted_next c.loop-atom.invariant.counted c.of_atom-one.ensures; few = omega (arith, c.of_atom-one.ensures.sum, c.requires.few) }
+loop-atom-preserved c = record { counted = counted_next c.loop-atom.invariant.counted c.of_atom-one.ensures refl refl refl refl; few = omega (arith, c.of_atom-one.ensures.sum, c.requires.few) }

@@ -1,10 +1,7 @@
 -- The lists are those of the slots' graph. Assumes nothing.
 use Rattle.std.proofs.Common.{refl}
-use Rattle.move_freedom.proofs.Reached.{reach_group, reach_can, reach-done}
+use Rattle.move_freedom.proofs.Reached.{reach_can, reach-done}
 use Rattle.move_freedom.proofs.reach.reach.Goals as goal
-
-pub group-requires : goal.group-requires
-group-requires c = reach_group c.requires refl refl
 
 pub reach-requires : goal.reach-requires
 reach-requires c = reach_can c.requires refl refl c.group.ensures refl

@@ -1,7 +1,6 @@
 -- `move_slots::fill::fill_own_slots` meets its contract. Assumes nothing.
-use Rattle.std.proofs.Common.{refl}
 use Rattle.move_slots.proofs.Filling.{own_done}
 use Rattle.move_slots.proofs.fill.fill_own_slots.Goals as goal
 
 pub returns : goal.returns
-returns c = own_done c.requires refl c.fill_slots.ensures
+returns c = own_done c.requires c.nodes-nodes.ensures c.fill_slots.ensures

@@ -5,10 +5,10 @@ use Rattle.move_slots.proofs.Fronting.{front-other, front-found}
 use Rattle.move_slots.proofs.fronts.front.Goals as goal
 
 pub returns-then-bit-out : goal.returns-then-bit-out
-returns-then-bit-out c = front-found (c.in-Some.ensures.bit ∙ ap single_bit c.set_of.ensures) _ c.requires.bits (omega arith) (omega arith)
+returns-then-bit-out c = front-found (c.in-Some.ensures.bit ∙ ap single_bit c.read_lanes.ensures.value) _ c.requires.bits (omega arith) (omega arith)
 
 pub returns-else-bit-out : goal.returns-else-bit-out
-returns-else-bit-out c = front-other (c.in-Some.ensures.bit ∙ ap single_bit c.set_of.ensures) _ c.requires.bits (omega arith)
+returns-else-bit-out c = front-other (c.in-Some.ensures.bit ∙ ap single_bit c.read_lanes.ensures.value) _ c.requires.bits (omega arith)
 
 pub returns-in_default : goal.returns-in_default
-returns-in_default c = front-other (c.in_default.ensures.bit ∙ ap single_bit c.set_of.ensures) _ c.requires.bits c.requires.bits
+returns-in_default c = front-other (c.in_default.ensures.bit ∙ ap single_bit c.read_lanes.ensures.value) _ c.requires.bits c.requires.bits

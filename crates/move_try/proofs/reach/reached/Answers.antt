@@ -10,6 +10,6 @@ use Rattle.move_try.proofs.reach.reached.Goals as goal
 pub returns : goal.returns
 returns c =
     let s = c.args in
-    let mark = counter_in s.n s.area.now in
-    c.count_marked.ensures ∙ ap (λ (l : List ℕ). count (λ x. eqb (get_or l x 0) mark) (length l)) (marks-lent s.n s.area.now c.requires.room)
-    ∙ count-part (λ x. eqb x mark) s.area.now (lane_at s.n 9) s.n ∙ count_ext _ _ s.n (c.requires.marks c.if-area-square-eq0.false)
+    let mark = counter_in s.area.now.n s.area.now.numbers.now in
+    c.count_marked.ensures ∙ ap (λ (l : List ℕ). count (λ x. eqb (get_or l x 0) mark) (length l)) (marks-lent s.area.now.n s.area.now.numbers.now c.requires.room)
+    ∙ count-part (λ x. eqb x mark) s.area.now.numbers.now (lane_at s.area.now.n 9) s.area.now.n ∙ count_ext _ _ s.area.now.n (c.requires.marks c.if-area-square-eq0.false)

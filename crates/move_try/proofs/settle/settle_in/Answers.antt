@@ -25,8 +25,8 @@ fill_own_slots-requires g c =
     let t = c.closes_cycle in
     settle_fill r.can c.trial.ensures (t.ensures.value, t.ensures.area_after) (omega (arith, heads_room r.room, t.auto.heads)) (omega (arith, slots_room r.room, t.auto.list)) (slots_room r.room)
 
-pub commit-changes-requires-clause-can : goal.commit-changes-requires-clause-can
-commit-changes-requires-clause-can g c =
+pub commit-changes-requires : goal.commit-changes-requires
+commit-changes-requires g c =
     let r = c.requires in
     let t = c.closes_cycle in
     let f = c.fill_own_slots in

@@ -7,15 +7,15 @@ use Rattle.move_try.specs.Commit.{edges_can, commit_done}
 use Rattle.move_try.proofs.writes.commit.Goals as goal
 
 pub overflow_add-edges-2 : goal.overflow_add-edges-2
-overflow_add-edges-2 c = omega (arith, (edges_can c.requires.can.rows c.requires.can.edges c.follow-changes.ensures.changed).1)
+overflow_add-edges-2 c = omega (arith, (edges_can c.requires.rows c.requires.edges c.follow-changes.ensures.changed).1)
 
 pub overflow_sub-edges : goal.overflow_sub-edges
-overflow_sub-edges c = (edges_can c.requires.can.rows c.requires.can.edges c.follow-changes.ensures.changed).0
+overflow_sub-edges c = (edges_can c.requires.rows c.requires.edges c.follow-changes.ensures.changed).0
 
 pub returns-clause-area_after : goal.returns-clause-area_after
 returns-clause-area_after c =
     let s = c.args in
-    let now = matrix s.new.now.sources.now s.new.now.targets.now s.n s.new.now.count in
+    let now = matrix s.new.now.sources.now s.new.now.targets.now s.n s.old.now.count in
     let counts = part 0 s.n s.counts.now in
     let changes = c.follow-changes.result in
     let found = edges_after s.n changes.appeared changes.vanished s.area.now in

@@ -1,5 +1,5 @@
 -- Both lists take their number at the atom's end. Assumes nothing.
-use Rattle.std.proofs.Common.{refl, ◌≡◌, ◌+◌, ap, ◌∙◌, arith}
+use Rattle.std.proofs.Common.{refl, ◌≡◌, ◌+◌, ◌∙◌, arith}
 use Rattle.std.proofs.lemmas.Bool.{lt-leb}
 use Rattle.moves_load_commands.specs.Machine as def
 use Rattle.moves_load_commands.proofs.Lists.{start_take}
@@ -9,8 +9,5 @@ pub returns : goal.returns
 unfolding def.depend
 returns c =
     let m = c.args.self.now.machine in
-    let a = c.from-a.ensures in
-    let b = c.from-b.ensures in
-    let p : c.start-p.result ≡ def.start c.args.self.now.sources m.entries (c.args.command.x + 1) =
-    c.start-p.ensures.value ∙ start_take _ _ _ (omega arith) ∙ ap (λ i. def.start c.args.self.now.sources m.entries (i + 1)) c.from-a.ensures in
-    rw (lt-leb m.atoms c.args.command.x (omega arith), lt-leb m.atoms c.args.command.y (omega arith), lt-leb 128 m.entries (omega arith), c.insert.ensures, c.insert-2.ensures, p, c.from.ensures, c.from-2.ensures) refl
+    let p : c.start-p.result ≡ def.start c.args.self.now.sources m.entries (c.args.command.x + 1) = c.start-p.ensures.value ∙ start_take _ _ _ (omega arith) in
+    rw (lt-leb m.atoms c.args.command.x (omega arith), lt-leb m.atoms c.args.command.y (omega arith), lt-leb 128 m.entries (omega arith), c.insert.ensures, c.insert-2.ensures, p) refl

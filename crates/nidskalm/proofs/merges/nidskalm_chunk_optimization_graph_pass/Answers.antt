@@ -4,4 +4,4 @@ use Rattle.nidskalm.specs.ReplyLaws.{pass_replied}
 use Rattle.nidskalm.proofs.merges.nidskalm_chunk_optimization_graph_pass.Goals as goal
 
 pub returns-clause-value : goal.returns-clause-value
-returns-clause-value c = pass_replied c.pass.result _ refl c.pass.ensures c.of_pass.ensures
+returns-clause-value c = pass_replied c.pass.result _ refl c.pass.ensures c.from.ensures

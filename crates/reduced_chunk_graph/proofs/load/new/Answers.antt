@@ -3,12 +3,12 @@ use Rattle.std.proofs.Common.{sym, ◌∙◌, refl}
 use mathlib.Core.Bool.{true, false}
 use lib.ListN.{length}
 use Rattle.move_ledger.proofs.LoadLaws.{loading_row-none}
-use Rattle.move_load_rows.proofs.Rows.{row_some}
+use Rattle.refusals.specs.Rows.{row_some}
 use Rattle.move_load_view.specs.View.{lent_by}
 use Rattle.move_loading.specs.New.{new_refused, new-answer, new_area}
 use Rattle.reduced_chunk_graph.specs.Answers.{of_load}
 use Rattle.reduced_chunk_graph.specs.Asked.{handed_on}
-use Rattle.reduced_chunk_graph.specs.Loads.{can_flag, flagged_area}
+use Rattle.reduced_chunk_graph.specs.Loads.{marks_are, can_flag, flagged_area}
 use Rattle.reduced_chunk_graph.proofs.load.new.Goals as goal
 
 pub returns-in_err-loading_refusal : goal.returns-in_err-loading_refusal
@@ -35,7 +35,7 @@ returns-then-cyclic c =
     record {
       result_value = new-answer (lent_by f.load.now) f.fixed.now f.n f.sets.now f.area.now none {c = true} is;
       area_after = new_area (lent_by f.load.now) f.fixed.now f.n f.sets.now f.area.now none {c = true} is
-          (flagged_area (lent_by f.load.now) f.fixed.now f.n f.sets.now f.area.now c.in_ok-loading_refusal.ensures c.load-cyclic.ensures.area_after c.keep.ensures);
+          (flagged_area (lent_by f.load.now) f.fixed.now f.n f.sets.now f.area.now (marks_are (lent_by f.load.now) f.fixed.now f.n f.sets.now f.area.now c.in_ok-loading_refusal.ensures) c.load-cyclic.ensures.area_after c.keep.ensures);
     }
 
 pub returns : goal.returns
@@ -46,5 +46,5 @@ returns c =
     record {
       result_value = new-answer (lent_by f.load.now) f.fixed.now f.n f.sets.now f.area.now none {c = false} is;
       area_after = new_area (lent_by f.load.now) f.fixed.now f.n f.sets.now f.area.now none {c = false} is
-          (flagged_area (lent_by f.load.now) f.fixed.now f.n f.sets.now f.area.now c.in_ok-loading_refusal.ensures c.load-cyclic.ensures.area_after c.keep.ensures);
+          (flagged_area (lent_by f.load.now) f.fixed.now f.n f.sets.now f.area.now (marks_are (lent_by f.load.now) f.fixed.now f.n f.sets.now f.area.now c.in_ok-loading_refusal.ensures) c.load-cyclic.ensures.area_after c.keep.ensures);
     }

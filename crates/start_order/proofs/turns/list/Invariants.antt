@@ -7,4 +7,4 @@ use Rattle.start_order.proofs.turns.list.Given as goal
 abbrev pub invariant-loop-k : goal.invariant-loop-k
 invariant-loop-k l =
     (s : Setting) → CanList s l.nodes l.a l.order l.low l.initial.marks l.initial.degrees l.initial.chunks
-    → Run s l.nodes.n l.nodes.registered l.a l.low l.initial.chunks l.k l.marks l.degrees l.chunks
+    → Run s l.nodes.area.n l.nodes.registered l.a l.low l.initial.chunks l.k l.marks l.degrees l.chunks

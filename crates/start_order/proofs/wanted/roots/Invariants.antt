@@ -4,4 +4,4 @@ use Rattle.start_order.specs.Bits.{picks}
 use Rattle.start_order.proofs.wanted.roots.Given as goal
 
 abbrev pub invariant-loop-x : goal.invariant-loop-x
-invariant-loop-x l = Roots (picks l.nodes.area.now l.nodes.n l.bit) l.nodes.n l.x l.marks l.stack l.height
+invariant-loop-x l = Roots (picks l.nodes.area.numbers.now l.nodes.area.n l.bit) l.nodes.area.n l.x l.marks l.stack l.height

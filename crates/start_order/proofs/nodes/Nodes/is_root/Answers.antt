@@ -9,7 +9,7 @@ use Rattle.start_order.proofs.nodes.Nodes.is_root.Goals as goal
 
 pub returns-then-self-lanes-ne0 : goal.returns-then-self-lanes-ne0
 returns-then-self-lanes-ne0 c =
-    let area = c.args.self.now.area.now in
-    let n = c.args.self.now.n in
+    let area = c.args.self.now.area.numbers.now in
+    let n = c.args.self.now.area.n in
     c.has_bit.ensures.value ∙ holds_word area n c.args.bit c.args.x c.has_bit.ensures.words c.requires.0
     ∙ sym (ap (λ t. not t && holds c.args.bit (lanes area (lane_at n 0 + c.args.x) n)) (ne_eqb _ _ c.if-self-lanes-ne0.true))
