@@ -1,6 +1,6 @@
 #!/usr/bin/env bash
-# The archive of tools/pack.sh, as a server without `rt` gets it: its checksums hold and find a changed file, and the example is built from
-# it alone.
+# The archive of tools/pack.sh, as a server without `rt` gets it: its checksums hold and find a changed file, the library needs no more from
+# outside than the header says, and the example is built from it alone.
 set -euo pipefail
 cd "$(dirname "$0")/.."
 expected="$PWD/tests/expected/plan.txt"
@@ -23,6 +23,8 @@ for file in lib/libnidskalm.a include/nidskalm.h include/nidskalm_refusal.c lib/
     grep -q " ./$file\$" "$root/SHA256SUMS" || fail "$file has no checksum"
 done
 (cd "$root" && sha256sum --quiet -c SHA256SUMS) || fail "the checksums in the archive"
+needed="$(nm -u "$root/lib/libnidskalm.a" | awk '$1 == "U" { print $2 }' | sort -u | paste -sd' ')"
+[ "$needed" = "memcpy memset" ] || fail "the library needs $needed from outside; the header says memcpy and memset alone"
 echo >> "$root/NOTICE"
 if (cd "$root" && sha256sum --status -c SHA256SUMS); then fail "a changed file was not found"; fi
 
@@ -41,4 +43,4 @@ cd "$work"
 # shellcheck disable=SC2086 # flags are words
 cc -std=c99 -Wall -Wextra -Wpedantic -Werror "$root/examples/plan.c" "$root/include/nidskalm_refusal.c" $flags -o plan
 ./plan | diff - "$expected" || fail "the example of the archive prints something else than tests/expected/plan.txt"
-echo "pack: checksums hold and find a changed file; the example is built from the archive alone, $how, and prints what it should"
+echo "pack: checksums hold and find a changed file; the library needs $needed alone; the example is built from the archive alone, $how, and prints what it should"

@@ -19,8 +19,8 @@ use Rattle.graph_colours.specs.declared.State.{State}
 use Rattle.graph_colours.specs.declared.State.TheVariants.{White, Gray, Black}
 use Rattle.graph_colours.specs.States.{code}
 use Rattle.graph_colours.specs.Colours.{colour_of, view, held, Next, opens, passes, closes}
-use Rattle.graph_depth_first.specs.declared.DepthFirst.{DepthFirst}
 use Rattle.graph_depth_first.specs.declared.Progress.{Progress}
+use Rattle.graph_depth_first.specs.Lists.{Lists}
 use Rattle.graph_depth_first.specs.Search.{Falls}
 use Rattle.graph_depth_first.specs.Steps.{at, state_at, CanDiscover, Discovered, CanFinish, Finished, CanVisit, Visited, Ready, Kept, Stepped}
 use Rattle.graph_depth_first.proofs.Whites.{room_for}
@@ -44,7 +44,7 @@ turned_kept n l j q b no-white = record {
   ];
 }
 
-module _ {graph : Neighbours} {n N : ℕ} {s : DepthFirst N} {p : Progress} (r : Ready graph n s p) where
+module _ {graph : Neighbours} {n : ℕ} {s : Lists} {p : Progress} (r : Ready graph n s p) where
   abbrev e : ℕ → ℕ → Bool
   e = edge graph.starts.now (followed graph) n
 
@@ -63,30 +63,29 @@ module _ {graph : Neighbours} {n N : ℕ} {s : DepthFirst N} {p : Progress} (r :
     push_fits = room_for n r.number p.height p.finished j r.state.count jn new
 
     pub discover_can : CanDiscover s p j
-    discover_can = record { cell = omega (arith, r.nodes); white = white; room = omega (arith, r.nodes, push_fits) }
+    discover_can = record { cell = omega (arith, r.colours); white = white; room = omega (arith, r.places, push_fits) }
 
     module _ (after : (k : ℕ) → k + 1 ≡ p.height → e (at s.stack k) j ≡ true) (from : (held (at s.stack) p.height ≡ []) ⊎ ((x : ℕ) × Next d f (view s.states s.cursors s.stack p.height) x j)) where
-      abbrev s₁ : DepthFirst N
+      abbrev s₁ : Lists
       s₁ = record { states = set s.states j Gray; cursors = s.cursors; stack = set s.stack p.height j; order = s.order; met = s.met }
 
       abbrev p₁ : Progress
       p₁ = record { height = p.height + 1; finished = p.finished }
 
       sj : at s₁.stack p.height ≡ j
-      sj = get_or-set_same s.stack p.height j 0 (omega (arith, r.places, r.nodes, push_fits))
+      sj = get_or-set_same s.stack p.height j 0 (omega (arith, r.places, push_fits))
 
       so : (k : ℕ) → k < n → (k ≡ p.height → ⊥) → at s₁.stack k ≡ at s.stack k
       so k b h = get_or-set_other s.stack p.height k j 0 h
 
       agree₁ : (x : ℕ) → x < n → state_at s₁.states x ≡ colour_of (put r.number j 1 x)
-      agree₁ = agree_put s.states r.number r.states (omega (arith, r.colours, r.nodes)) j 1 Gray jn refl
+      agree₁ = agree_put s.states r.number r.states (omega (arith, r.colours)) j 1 Gray jn refl
 
       push_ready : Ready graph n s₁ p₁
       push_ready = record {
         number = put r.number j 1;
         low = put r.low j p.finished;
         graph_in = r.graph_in;
-        nodes = r.nodes;
         colours = rw length-set r.colours;
         passed = r.passed;
         places = rw length-set r.places;
@@ -100,21 +99,21 @@ module _ {graph : Neighbours} {n N : ℕ} {s : DepthFirst N} {p : Progress} (r :
 
       push_new : Stepped graph n s p s₁ p₁
       push_new = record {
-        kept = turned_kept n s.states j Gray (omega (arith, r.colours, r.nodes)) (apart (λ q. omega arith));
+        kept = turned_kept n s.states j Gray (omega (arith, r.colours)) (apart (λ q. omega arith));
         ready = push_ready;
-        moved = opens j (view_opens n d f s.states s.cursors s.stack p.height (omega (arith, r.colours, r.nodes)) j jn (omega (arith, r.places, r.nodes, push_fits)) white from);
+        moved = opens j (view_opens n d f s.states s.cursors s.stack p.height (omega (arith, r.colours)) j jn (omega (arith, r.places, push_fits)) white from);
         less = omega (arith, size_states s₁.states (put r.number j 1) agree₁ d (at s.cursors) (p.height + 1), size_states s.states r.number r.states d (at s.cursors) p.height, moves.push_size r.state (listed r.graph_in) (put r.number j 1) (at s₁.stack) (put r.low j p.finished) j jn new after (put_same r.number j 1) (λ x b. put_other r.number j 1 x) sj so (put_same r.low j p.finished) (λ x b. put_other r.low j p.finished x));
       }
 
-      module _ {s' : DepthFirst N} {p' : Progress} (w : Discovered s p j s' p') where
+      module _ {s' : Lists} {p' : Progress} (w : Discovered s p j s' p') where
         pub push_step : Stepped graph n s p s' p'
         push_step = rw (w.turned, w.after) push_new
 
         pub push_known : state_at s'.states j ≡ White → ⊥
-        push_known = rw w.turned (apart (λ q. omega (arith, ap code (get_or-set_same s.states j Gray White (omega (arith, r.colours, r.nodes))))))
+        push_known = rw w.turned (apart (λ q. omega (arith, ap code (get_or-set_same s.states j Gray White (omega (arith, r.colours))))))
 
     -- it is a root
-    module _ (empty : p.height ≡ 0) {s' : DepthFirst N} {p' : Progress} (w : Discovered s p j s' p') where
+    module _ (empty : p.height ≡ 0) {s' : Lists} {p' : Progress} (w : Discovered s p j s' p') where
       pub root_step : Stepped graph n s p s' p'
       root_step = push_step (λ k h. absurd (omega arith)) (inl (ap (held (at s.stack)) empty ∙ held_none (at s.stack))) w
 
@@ -158,29 +157,28 @@ module _ {graph : Neighbours} {n N : ℕ} {s : DepthFirst N} {p : Progress} (r :
     -- t finishes
     module _ (all : j ≡ d t) where
       pub finish_can : CanFinish s p t
-      finish_can = record { cell = omega (arith, top_node, r.nodes); gray = top_gray; some = some; room = omega (arith, top_full, r.nodes) }
+      finish_can = record { cell = omega (arith, top_node, r.colours); gray = top_gray; some = some; room = omega (arith, top_full, r.orders) }
 
-      abbrev s₂ : DepthFirst N
+      abbrev s₂ : Lists
       s₂ = record { states = set s.states t Black; cursors = s.cursors; stack = s.stack; order = set s.order p.finished t; met = s.met }
 
       abbrev p₂ : Progress
       p₂ = record { height = p.height - 1; finished = p.finished + 1 }
 
       of : at s₂.order p.finished ≡ t
-      of = get_or-set_same s.order p.finished t 0 (omega (arith, top_full, r.orders, r.nodes))
+      of = get_or-set_same s.order p.finished t 0 (omega (arith, top_full, r.orders))
 
       oo : (i : ℕ) → i < n → (i ≡ p.finished → ⊥) → at s₂.order i ≡ at s.order i
       oo i b h = get_or-set_other s.order p.finished i t 0 h
 
       agree₂ : (x : ℕ) → x < n → state_at s₂.states x ≡ colour_of (put r.number t (p.finished + 2) x)
-      agree₂ = agree_put s.states r.number r.states (omega (arith, r.colours, r.nodes)) t (p.finished + 2) Black top_node (sym (black_number (p.finished + 2) (omega arith)))
+      agree₂ = agree_put s.states r.number r.states (omega (arith, r.colours)) t (p.finished + 2) Black top_node (sym (black_number (p.finished + 2) (omega arith)))
 
       pop_ready : Ready graph n s₂ p₂
       pop_ready = record {
         number = put r.number t (p.finished + 2);
         low = r.low;
         graph_in = r.graph_in;
-        nodes = r.nodes;
         colours = rw length-set r.colours;
         passed = r.passed;
         places = r.places;
@@ -194,13 +192,13 @@ module _ {graph : Neighbours} {n N : ℕ} {s : DepthFirst N} {p : Progress} (r :
 
       pop_new : Stepped graph n s p s₂ p₂
       pop_new = record {
-        kept = turned_kept n s.states t Black (omega (arith, top_node, r.colours, r.nodes)) (apart (λ q. omega arith));
+        kept = turned_kept n s.states t Black (omega (arith, top_node, r.colours)) (apart (λ q. omega arith));
         ready = pop_ready;
-        moved = closes t (view-closes n d f s.states s.cursors s.stack p.height (omega (arith, r.colours, r.nodes)) t top_node refl some top_gray all);
+        moved = closes t (view-closes n d f s.states s.cursors s.stack p.height (omega (arith, r.colours)) t top_node refl some top_gray all);
         less = omega (arith, size_states s₂.states (put r.number t (p.finished + 2)) agree₂ d (at s.cursors) (p.height - 1), size_states s.states r.number r.states d (at s.cursors) p.height, moves.pop_size r.state (listed r.graph_in) (put r.number t (p.finished + 2)) (at s₂.order) some all (put_same r.number t (p.finished + 2)) (λ x b. put_other r.number t (p.finished + 2) x) of oo);
       }
 
-      pub pop_step : {s' : DepthFirst N} {p' : Progress} → Finished s p t s' p' → Stepped graph n s p s' p'
+      pub pop_step : {s' : Lists} {p' : Progress} → Finished s p t s' p' → Stepped graph n s p s' p'
       pop_step w = rw (w.turned, w.after) pop_new
 
     -- t's next neighbour
@@ -213,23 +211,23 @@ module _ {graph : Neighbours} {n N : ℕ} {s : DepthFirst N} {p : Progress} (r :
 
       pub visit_can : CanVisit s p t y
       visit_can = record {
-        cell = omega (arith, next_node, r.nodes);
-        next = omega (arith, top_node, r.nodes);
+        cell = omega (arith, next_node, r.colours);
+        next = omega (arith, top_node, r.passed);
         short = top_short;
-        room = λ h. omega (arith, push_fits y next_node h, r.nodes);
+        room = λ h. omega (arith, push_fits y next_node h, r.places);
       }
 
       next : Next d f (view s.states s.cursors s.stack p.height) t y
-      next = next_top n d f s.states s.cursors s.stack p.height (omega (arith, r.colours, r.nodes)) t y refl some room (sym is)
+      next = next_top n d f s.states s.cursors s.stack p.height (omega (arith, r.colours)) t y refl some room (sym is)
 
-      abbrev s₃ : Bool → DepthFirst N
+      abbrev s₃ : Bool → Lists
       s₃ b = record { states = s.states; cursors = set s.cursors t (j + 1); stack = s.stack; order = s.order; met = b }
 
       abbrev cursors₃ : List ℕ
       cursors₃ = set s.cursors t (j + 1)
 
       ut : at cursors₃ t ≡ j + 1
-      ut = get_or-set_same s.cursors t (j + 1) 0 (omega (arith, top_node, r.passed, r.nodes))
+      ut = get_or-set_same s.cursors t (j + 1) 0 (omega (arith, top_node, r.passed))
 
       uo : (x : ℕ) → x < n → (x ≡ t → ⊥) → at cursors₃ x ≡ at s.cursors x
       uo x b h = get_or-set_other s.cursors t x (j + 1) 0 h
@@ -245,7 +243,6 @@ module _ {graph : Neighbours} {n N : ℕ} {s : DepthFirst N} {p : Progress} (r :
               number = r.number;
               low = r.low;
               graph_in = r.graph_in;
-              nodes = r.nodes;
               colours = r.colours;
               passed = rw length-set r.passed;
               places = r.places;
@@ -256,7 +253,7 @@ module _ {graph : Neighbours} {n N : ℕ} {s : DepthFirst N} {p : Progress} (r :
               falls = falls;
               closes = shut;
             };
-            moved = passes t y (view-passes n d f s.states s.cursors s.stack p.height (omega (arith, r.colours, r.nodes)) t y top_node (omega (arith, r.passed, r.nodes)) next known);
+            moved = passes t y (view-passes n d f s.states s.cursors s.stack p.height (omega (arith, r.colours)) t y top_node (omega (arith, r.passed)) next known);
             less = omega (arith, size_states s.states r.number r.states d (at cursors₃) p.height, size_states s.states r.number r.states d (at s.cursors) p.height, moves.next-size r.state (listed r.graph_in) (at cursors₃) t top_node room done ut uo);
           }
 
@@ -265,7 +262,7 @@ module _ {graph : Neighbours} {n N : ℕ} {s : DepthFirst N} {p : Progress} (r :
           (cyclic_walk e (below n) (sources-below (listed r.graph_in).from)).1
           (t, falling.closed r.state (listed r.graph_in) y some next_node to_y (number_gray (r.number y) (sym (r.states y next_node) ∙ h)))
 
-      pub visit_step : {s' : DepthFirst N} {p' : Progress} → Visited s p t y s' p' → Stepped graph n s p s' p'
+      pub visit_step : {s' : Lists} {p' : Progress} → Visited s p t y s' p' → Stepped graph n s p s' p'
       visit_step {s'} {p'} w = go (state_at s.states y) refl
         where
           go : (q : State) → state_at s.states y ≡ q → Stepped graph n s p s' p'

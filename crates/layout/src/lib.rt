@@ -13,11 +13,15 @@ pub use compare::{all_below, none_above, same_numbers};
 // from there. Over a lent part each of them would have to put the part back: no plainer.
 
 // k numbers of `from`, from `start` on, are written at `at`.
+// stays: one number at a time. The library's `copy_from_slice` was tried: it calls memmove where the compiler doesn't see two lists apart, and the archive for C
+// is to need memset and memcpy alone (include/nidskalm.h).
 pub fn copy(area: &mut [u32], at: usize, from: &[u32], start: usize, k: usize)
     requires { CanCopy area.old at from.now start k }
     ensures { area.new ≡ patch at (part start k from.now) area.old }
 {
-    area[at..at + k].copy_from_slice(&from[start..start + k]);
+    for i in 0..k {
+        area[at + i] = from[start + i];
+    }
 }
 
 // v is written k times from `at` on.

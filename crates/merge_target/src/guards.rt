@@ -10,7 +10,7 @@ ghost use Rattle.merge_target.specs.Roles.{role_number, numbers};
 use crate::Lists;
 use crate::checked::Checked;
 use crate::marks::mark_list;
-use crate::roles::{Role, is_dynamic};
+use crate::roles::{Role, is_named};
 
 // A dynamic entry among the roles isn't marked.
 fn some_unmarked_entry(roles: &[Role], marks: &[u32]) -> bool
@@ -23,10 +23,11 @@ fn some_unmarked_entry(roles: &[Role], marks: &[u32]) -> bool
 }
 
 // A chunk of the list is a dynamic entry that is named.
-fn some_named(list: &[u32], roles: &[Role]) -> bool
+fn some_named(list: &[u32], roles: &[Role; 1024]) -> bool
+    requires { All (λ d. d < 1024) list.now }
     ensures { result ≡ list_any (λ d. eqb (get_or (numbers roles.now) d 0) 1) list.now }
 {
-    list.iter().any(|&d| is_dynamic(roles, d as usize))
+    list.iter().any(|&d| is_named(roles, d as usize))
 }
 
 // A number of the list isn't marked.
@@ -74,7 +75,7 @@ impl Checked<'_> {
     fn some_other_reaches(&self, t: usize) -> bool
         ensures { result ≡ list_any (λ o. not (eqb o t) && list_any (λ d. eqb (get_or (numbers self.now.roles.now) d 0) 1) (list_of (lists_of self.now.bundle.now.reached) o)) (range_with_len 0 self.now.bundle.now.chunks) }
     {
-        (0..self.bundle.chunks).any(|o| o != t && some_named(self.bundle.reached.of(o), self.roles))
+        (0..self.bundle.chunks).any(|o| o != t && some_named(self.bundle.reached.of(o), self.table))
     }
 
     // The side effects of t would leak.

@@ -118,7 +118,9 @@ impl Checked<'_> {
     }
 }
 
-// The target by the classes of the entry kinds.
+// The target by the classes of the entry kinds. A function of its own to the compiler, as `is_refused` is: as one with that it aligned no loop of either, and a
+// call's time hung on where it was linked.
+#[inline(never)]
 fn choose(bundle: &Bundle, candidate: &Candidate, classes: &[u32; 8]) -> Option<ChunkIdx>
     requires { row23 bundle.now.chunks bundle.now.modules bundle.now.kinds.now (lent_by bundle.now candidate.now) ≡ false }
     ensures value { number_of result ≡ choice classes.now bundle.now.kinds.now (number candidate.now.set) (lent_by bundle.now candidate.now) }
@@ -130,6 +132,7 @@ fn choose(bundle: &Bundle, candidate: &Candidate, classes: &[u32; 8]) -> Option<
         bundle,
         candidate,
         roles,
+        table: &table,
     };
     checked.chosen()
 }

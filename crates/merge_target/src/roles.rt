@@ -49,12 +49,12 @@ fn role_of(kinds: &[u32], classes: &[u32; 8], set: EntrySet, b: usize) -> Role
     }
 }
 
-// The role of each chunk that a bit can name.
-pub(crate) fn table(kinds: &[u32], classes: &[u32; 8], set: EntrySet) -> [Role; 256]
+// The role of each chunk: of those that no bit can name, nothing.
+pub(crate) fn table(kinds: &[u32], classes: &[u32; 8], set: EntrySet) -> [Role; 1024]
     requires { All (λ kind. kind < 9) kinds.now }
     ensures { reads (numbers result) ≡ role classes.now kinds.now (number set) }
 {
-    let mut roles = [Role::Nothing; 256]; // stays: memory is fixed, nothing is on the heap
+    let mut roles = [Role::Nothing; 1024]; // stays: memory is fixed, nothing is on the heap
     for b in 0..bits(kinds.len()) {
         roles[b] = role_of(kinds, classes, set, b);
     }
@@ -66,4 +66,12 @@ pub(crate) fn is_dynamic(roles: &[Role], d: usize) -> bool
     ensures { result ≡ eqb (get_or (numbers roles.now) d 0) 1 }
 {
     matches!(roles.get(d), Some(Role::DynamicEntry))
+}
+
+// The same by the table that has a place for each chunk.
+pub(crate) fn is_named(table: &[Role; 1024], d: usize) -> bool
+    requires { d < 1024 }
+    ensures { result ≡ eqb (get_or (numbers table.now) d 0) 1 }
+{
+    table[d] == Role::DynamicEntry
 }

@@ -63,6 +63,7 @@ fn has_bad_numbers(bundle: &Bundle, candidate: &Candidate) -> bool
 
 // Row 23 fits.
 #[tactic(auto, using(merge_choice::specs::Rows::equal_lengths), unfolding(merge_choice::specs::Find::row23))]
+#[inline(never)]
 pub(crate) fn is_refused(bundle: &Bundle, candidate: &Candidate) -> bool
     ensures { result ≡ row23 bundle.now.chunks bundle.now.modules bundle.now.kinds.now (lent_by bundle.now candidate.now) }
 {

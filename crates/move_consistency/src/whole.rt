@@ -26,7 +26,7 @@ pub fn consistent(
         return false;
     }
     if move_slots::is_small(load, n) {
-        return is_worked::<128, 129, 1024>(load, &standing, degrees);
+        return is_worked::<128, 129, 1024>(load, n, area, degrees);
     }
-    is_worked::<1024, 1025, 8448>(load, &standing, degrees)
+    is_worked::<1024, 1025, 8448>(load, n, area, degrees)
 }

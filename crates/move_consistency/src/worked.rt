@@ -31,19 +31,22 @@ fn counts_hold(area: &Area, counts: &[u32]) -> bool
 }
 
 // Whether the matrix counts the slots. They are grouped by source: `heads` has where each node's part of `list` starts. `row` is scratch.
+// stays: n and the numbers by value. Through an `Area` it was tried: the compiler then doesn't see the n that a caller has as a constant, as the program `moves`
+// has, and the rows take 1.7 times as many steps.
 fn edges_hold(
-    area: &Area,
+    n: usize,
+    numbers: &[u32],
     slots: &Slots,
     heads: &mut [u32],
     list: &mut [u32],
     row: &mut [u32],
     degrees: &mut [u32],
 ) -> bool
-    requires { CanMatch area.now.numbers.now area.now.n slots.now.count slots.now.sources.now slots.now.targets.now heads.old list.old row.old degrees.old }
-    ensures { Matched area.now.numbers.now area.now.n slots.now.count slots.now.sources.now slots.now.targets.now heads.new list.new degrees.new result }
+    requires { CanMatch numbers.now n slots.now.count slots.now.sources.now slots.now.targets.now heads.old list.old row.old degrees.old }
+    ensures { Matched numbers.now n slots.now.count slots.now.sources.now slots.now.targets.now heads.new list.new degrees.new result }
 {
-    graph_neighbours::group(slots, area.n, heads, list);
-    move_edges::rows::check(area.numbers, area.n, heads, list, row, degrees)
+    graph_neighbours::group(slots, n, heads, list);
+    move_edges::rows::check(numbers, n, heads, list, row, degrees)
 }
 
 // Whether the area has this acyclic flag and this component.
@@ -70,12 +73,14 @@ fn flags_hold(area: &Area, slots: &Slots, heads: &[u32], list: &[u32]) -> bool
 // their heads and so many slots. `degrees` has the atom counts first.
 pub fn is_worked<const NODES: usize, const HEADS: usize, const SLOTS: usize>(
     load: &Load,
-    area: &Area,
+    n: usize,
+    numbers: &[u32],
     degrees: &mut [u32],
 ) -> bool
-    requires { CanWork (lent_by load.now) area.now.n area.now.numbers.now degrees.old NODES HEADS SLOTS }
-    ensures { WorkTold (lent_by load.now) area.now.n area.now.numbers.now degrees.new result }
+    requires { CanWork (lent_by load.now) n numbers.now degrees.old NODES HEADS SLOTS }
+    ensures { WorkTold (lent_by load.now) n numbers.now degrees.new result }
 {
+    let area = &Area { n, numbers };
     let mut sources = [0u32; SLOTS];
     let mut targets = [0u32; SLOTS];
     let mut heads = [0u32; HEADS];
@@ -85,12 +90,12 @@ pub fn is_worked<const NODES: usize, const HEADS: usize, const SLOTS: usize>(
     let slots = Slots {
         sources: &sources,
         targets: &targets,
-        count: move_slots::slot_count(load, area.n),
+        count: move_slots::slot_count(load, n),
     };
     let counts_fit = counts_hold(area, degrees);
-    let chunks = move_edges::rows::count_filled(&degrees[..area.n]);
-    let edges_fit = edges_hold(area, &slots, &mut heads, &mut list, &mut row, degrees);
-    let totals_fit = totals_are(area, chunks, sum(&degrees[..area.n]));
+    let chunks = move_edges::rows::count_filled(&degrees[..n]);
+    let edges_fit = edges_hold(n, numbers, &slots, &mut heads, &mut list, &mut row, degrees);
+    let totals_fit = totals_are(area, chunks, sum(&degrees[..n]));
     let flags_fit = flags_hold(area, &slots, &heads, &list);
     counts_fit & edges_fit & totals_fit & flags_fit
 }

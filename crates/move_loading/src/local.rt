@@ -15,7 +15,9 @@ use move_load_view::Load;
 // stays: a writer has N and the list itself, as move_fixed says; `n` is the lanes' distance there, not a list's length.
 // stays: memory is fixed, nothing is on the heap: the working lists are arrays.
 
-// With lists for the heads of the nodes and for so many slots. `heads` has the atom counts first.
+// With lists for the heads of the nodes and for so many slots. `heads` has the atom counts first. A function of its own to the compiler at each size, so that a
+// small load takes no stack for the lists of a large one.
+#[inline(never)]
 fn load_in<const HEADS: usize, const SLOTS: usize>(
     load: &Load,
     n: usize,

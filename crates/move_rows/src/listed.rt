@@ -10,20 +10,21 @@ use refusals::Refusal;
 // The first of these rows that fits.
 pub fn listed_row(
     load: &Load,
+    n: usize,
     fixed: &[u32],
-    area: &Area,
+    area: &[u32],
     degrees: &mut [u32],
     order: &mut [u32],
 ) -> Result<(), Refusal>
     requires { NodeLists degrees.old order.old }
-    ensures { RowTold (lent_by load.now) fixed.now area.now.n area.now.numbers.now degrees.new order.new (row_of result) }
+    ensures { RowTold (lent_by load.now) fixed.now n area.now degrees.new order.new (row_of result) }
 {
     let fit = fixed.len() == load.atoms;
-    move_load_rows::refusal(load, area.n, fit, area.numbers.len())?;
-    if !move_fixed::keeps(area, fixed) {
+    move_load_rows::refusal(load, n, fit, area.len())?;
+    if !move_fixed::keeps(&Area { n, numbers: area }, fixed) {
         return Err(Refusal::AreaInconsistent);
     }
-    if move_consistency::consistent(load, area.n, area.numbers, degrees, order) {
+    if move_consistency::consistent(load, n, area, degrees, order) {
         Ok(())
     } else {
         Err(Refusal::AreaInconsistent)

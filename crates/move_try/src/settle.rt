@@ -11,7 +11,9 @@ use move_load_view::Load;
 
 // Moves the atom to node `to` where the graph then has no cycle, and answers how many edges came and went and how many nodes `to` then reaches; with
 // lists for so many nodes, their heads and so many slots. The moved placement's slots are grouped in `heads` and `list`; then the present one's stand in
-// `list` and `spare`, and `heads` has its atom counts.
+// `list` and `spare`, and `heads` has its atom counts. A function of its own to the compiler at each size, so that a small load's move takes no stack for the lists
+// of a large one.
+#[inline(never)]
 fn settle_in<const NODES: usize, const HEADS: usize, const SLOTS: usize>(
     load: &Load,
     n: usize,

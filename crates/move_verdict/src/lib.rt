@@ -13,7 +13,9 @@ use move_load_view::Load;
 
 // stays: memory is fixed, nothing is on the heap: the working lists are arrays.
 
-// With lists for so many nodes, their heads and so many slots. `heads` has the atom counts first.
+// With lists for so many nodes, their heads and so many slots. `heads` has the atom counts first. A function of its own to the compiler at each size, so that its
+// lists take no stack while a caller checks the area.
+#[inline(never)]
 fn search<const NODES: usize, const HEADS: usize, const SLOTS: usize>(
     load: &Load,
     area: &Area,

@@ -5,26 +5,23 @@ use Rattle.moves_load_commands.specs.declared.Machine.{Machine}
 use Rattle.moves_commands.specs.Program.{areas, State, finish, fresh}
 use Rattle.moves_commands.specs.Fits.{Ready}
 use Rattle.moves_commands.specs.Feed.{reserve, feed, finished}
-use Rattle.moves_commands.specs.Steps.{FedAs, held}
+use Rattle.moves_commands.specs.Steps.{FedTo}
 use Rattle.moves.specs.Bytes.{after, said, after-ready, feed-first, feed_some}
-use Rattle.moves_commands.specs.declared.Interpreter.{Interpreter}
 use Rattle.moves_commands.specs.declared.Fed.{Fed}
 use Rattle.moves.specs.Turns.{stopping, fed_of, Took, Answered, TookAll, TookRead, Ran, further, RanOut, StartsWith, put-taken, took_on, ran_all}
 
 -- a turn
-pub answered : (k : Interpreter) {k' : Interpreter} {input out out' : List ℕ} {fed : Fed} → Ready (held k) → (0 < length input) × (reserve ≤ length out)
-    → FedAs (feed areas (held k) input (length out)) k' out out' fed → fed.used ≤ length input → (going : Bool)
-    → Answered (held k) input (stopping going (held k')) (cond going (Ok fed) (Err fed)) out'
-answered k {k'} {input} {out} {out'} {fed} r h f inside =
-    let st = held k in
+pub answered : (st : State (List ℕ)) {st' : State (List ℕ)} {input out out' : List ℕ} {fed : Fed} → Ready st → (0 < length input) × (reserve ≤ length out)
+    → FedTo (feed areas st input (length out)) st' out out' fed → fed.used ≤ length input → (going : Bool) → Answered st input (stopping going st') (cond going (Ok fed) (Err fed)) out'
+answered st {st'} {input} {out} {out'} {fed} r h f inside =
     let b = feed-first st input (length out) r in
-    let state : held k' ≡ after st (take fed.used input) = f.after ∙ b.state ∙ ap (λ (n : ℕ). after st (take n input)) (sym f.count) in
+    let state : st' ≡ after st (take fed.used input) = f.after ∙ b.state ∙ ap (λ (n : ℕ). after st (take n input)) (sym f.count) in
     let some : 0 < fed.used = rw f.count (feed_some st input (length out) r h.0 h.1) in
     let text = put-taken (put_as (b.text ∙ ap (λ (n : ℕ). said st (take n input)) (sym f.count)) f.put) in
     (λ going. go going state some text)
   where
-    go : (going : Bool) → held k' ≡ after (held k) (take fed.used input) → 0 < fed.used → take fed.written out' ≡ said (held k) (take fed.used input)
-        → Answered (held k) input (stopping going (held k')) (cond going (Ok fed) (Err fed)) out'
+    go : (going : Bool) → st' ≡ after st (take fed.used input) → 0 < fed.used → take fed.written out' ≡ said st (take fed.used input)
+        → Answered st input (stopping going st') (cond going (Ok fed) (Err fed)) out'
     go true e p t = record { took = record { inside = inside; state = e }; some = p; text = t }
     go false e p t = record { took = record { inside = inside; state = ap (λ (s : State (List ℕ)). stopping false s) e }; some = p; text = t }
 

@@ -6,11 +6,11 @@ ghost use Rattle.std.specs.Prelude.{◌≡◌, ◌<◌, ◌≤◌, length, take}
 ghost use Rattle.std.specs.Result.{result_unwrap_or};
 ghost use Rattle.moves_commands.specs.Program.{finish, fresh};
 ghost use Rattle.moves_commands.specs.Fits.{Ready};
-ghost use Rattle.moves_commands.specs.Steps.{held};
+ghost use Rattle.moves_commands.specs.Steps.{lent_held};
 ghost use Rattle.moves.specs.Turns.{Answered, TookAll, TookRead, RanOut, StartsWith};
 
-use moves_commands::{Fed, Interpreter};
-use moves_load_commands::Machine;
+use moves_commands::Fed;
+use moves_load_commands::{LentReading, Machine};
 use std::io;
 use std::io::Read as _;
 
@@ -28,20 +28,22 @@ struct Read {
 }
 
 // Feeds as much as there is room for the replies to, and writes them. Where they can't be written the program stops.
-// stays: `Ready` is asked here and below, as the interpreter's type can't say it (moves_commands)
+// stays: `Ready` is asked here and below, as no type says it (moves_commands)
 fn feed_once(
     rt: HostRuntime,
-    interpreter: &mut Interpreter,
+    reading: &mut LentReading,
+    starts: &mut [u32],
+    area: &mut [u32],
     input: &[u8],
     out: &mut [u8; OUT],
 ) -> Result<Fed, Fed>
-    requires ready { Ready (held interpreter.old) }
+    requires ready { Ready (lent_held reading.old starts.old area.old) }
     requires input_nonzero { 0 < length input.now }
-    ensures { Answered (held interpreter.old) input.now (held interpreter.new) result out.new }
+    ensures { Answered (lent_held reading.old starts.old area.old) input.now (lent_held reading.new starts.new area.new) result out.new }
 {
-    let fed = interpreter.feed(input, out);
+    let fed = moves_commands::feed(reading, starts, area, input, out);
     if rt.write_all(&out[..fed.written]).is_err() {
-        interpreter.reading.machine.stopped = true;
+        reading.machine.stopped = true;
         return Err(fed);
     }
     Ok(fed)
@@ -51,16 +53,18 @@ fn feed_once(
 // stays: how many bytes a turn takes only the turn tells, so that a loop over a range or an iterator would be no plainer
 fn feed_block(
     rt: HostRuntime,
-    interpreter: &mut Interpreter,
+    reading: &mut LentReading,
+    starts: &mut [u32],
+    area: &mut [u32],
     input: &[u8],
     out: &mut [u8; OUT],
 ) -> Result<(), usize>
-    requires { Ready (held interpreter.old) }
-    ensures { TookAll (held interpreter.old) input.now (held interpreter.new) result }
+    requires { Ready (lent_held reading.old starts.old area.old) }
+    ensures { TookAll (lent_held reading.old starts.old area.old) input.now (lent_held reading.new starts.new area.new) result }
 {
     let mut at = 0;
     while at < input.len() {
-        match feed_once(rt, interpreter, &input[at..], out) {
+        match feed_once(rt, reading, starts, area, &input[at..], out) {
             Ok(fed) => at += fed.used,
             Err(fed) => return Err(at + fed.used),
         }
@@ -81,30 +85,34 @@ fn end(rt: HostRuntime, machine: Machine, out: &mut [u8; OUT]) -> usize
 #[tactic(auto, using(crate::proofs::Turning::read_none, crate::proofs::Turning::read_some))]
 fn feed_read(
     rt: HostRuntime,
-    interpreter: &mut Interpreter,
+    reading: &mut LentReading,
+    starts: &mut [u32],
+    area: &mut [u32],
     input: &[u8],
     out: &mut [u8; OUT],
 ) -> Result<(), usize>
-    requires { Ready (held interpreter.old) }
-    ensures { TookRead (held interpreter.old) input.now (held interpreter.new) result out.new }
+    requires { Ready (lent_held reading.old starts.old area.old) }
+    ensures { TookRead (lent_held reading.old starts.old area.old) input.now (lent_held reading.new starts.new area.new) result out.new }
 {
     if input.is_empty() {
-        end(rt, interpreter.reading.machine, out);
-        interpreter.reading.machine.stopped = true;
+        end(rt, reading.machine, out);
+        reading.machine.stopped = true;
         return Err(0);
     }
-    feed_block(rt, interpreter, input, out)
+    feed_block(rt, reading, starts, area, input, out)
 }
 
 // Reads a block and feeds it, all that the read gave. A read that fails is the end of the input.
 fn read_block(
     rt: HostRuntime,
-    interpreter: &mut Interpreter,
+    reading: &mut LentReading,
+    starts: &mut [u32],
+    area: &mut [u32],
     input: &mut [u8],
     out: &mut [u8; OUT],
 ) -> Read
-    requires { Ready (held interpreter.old) }
-    ensures took_read { TookRead (held interpreter.old) (take (result_unwrap_or result.got 0) input.new) (held interpreter.new) result.taken out.new }
+    requires { Ready (lent_held reading.old starts.old area.old) }
+    ensures took_read { TookRead (lent_held reading.old starts.old area.old) (take (result_unwrap_or result.got 0) input.new) (lent_held reading.new starts.new area.new) result.taken out.new }
     ensures in_bounds { result_unwrap_or result.got 0 ≤ length input.new }
 {
     let got = rt.stdin().read(input);
@@ -112,20 +120,27 @@ fn read_block(
         Ok(n) => *n,
         Err(_) => 0,
     };
-    let taken = feed_read(rt, interpreter, &input[..n], out);
+    let taken = feed_read(rt, reading, starts, area, &input[..n], out);
     Read { got, taken }
 }
 
 // Reads until the machine has stopped, and answers how many bytes the reads gave, modulo 2^64.
-fn run(rt: HostRuntime, interpreter: &mut Interpreter, input: &mut [u8], out: &mut [u8; OUT]) -> u64
-    requires { held interpreter.old ≡ fresh interpreter.old.area }
-    ensures { RanOut (fresh interpreter.old.area) (held interpreter.new) result }
+fn run(
+    rt: HostRuntime,
+    reading: &mut LentReading,
+    starts: &mut [u32],
+    area: &mut [u32],
+    input: &mut [u8],
+    out: &mut [u8; OUT],
+) -> u64
+    requires { lent_held reading.old starts.old area.old ≡ fresh area.old }
+    ensures { RanOut (fresh area.old) (lent_held reading.new starts.new area.new) result }
 {
     let mut bytes: u64 = 0;
     for _ in 0..READS {
-        let block = read_block(rt, interpreter, input, out);
+        let block = read_block(rt, reading, starts, area, input, out);
         bytes = bytes.wrapping_add(block.got.unwrap_or(0) as u64);
-        if interpreter.reading.machine.stopped {
+        if reading.machine.stopped {
             return bytes;
         }
     }
@@ -133,9 +148,29 @@ fn run(rt: HostRuntime, interpreter: &mut Interpreter, input: &mut [u8], out: &m
 }
 
 fn main(rt: HostRuntime) {
-    let mut interpreter = Interpreter::new();
-    // stays: memory is fixed, nothing is on the heap
+    // stays: memory is fixed, nothing is on the heap. The lists are lent one by one: an interpreter that owns them was tried, and the program then takes a third
+    // more stack, since what a function answers is copied
+    let mut sets = [0u64; 48];
+    let mut sources = [0u32; 128];
+    let mut dependencies = [0u32; 128];
+    let mut hosts = [u32::MAX; 16];
+    let mut starts = [0u32; 49];
+    let mut area = [0u32; 16384];
     let mut input = [0u8; 65536];
     let mut out = [0u8; OUT];
-    run(rt, &mut interpreter, &mut input, &mut out);
+    let mut reading = LentReading {
+        machine: Machine::new(),
+        sets: &mut sets,
+        sources: &mut sources,
+        dependencies: &mut dependencies,
+        hosts: &mut hosts,
+    };
+    run(
+        rt,
+        &mut reading,
+        &mut starts,
+        &mut area,
+        &mut input,
+        &mut out,
+    );
 }

@@ -5,12 +5,10 @@ use borrow.Rule.Slice.PartMut.{post_of}
 use Rattle.std.specs.Result.{is_err}
 use Rattle.std.proofs.lemmas.Bool.{lt-leb}
 use Rattle.graphs.specs.Tab.{tab, tab-length, tab_alike}
-use Rattle.layout.specs.Patch.{patch}
+use Rattle.layout.specs.Patch.{patch, patch_long}
 use Rattle.layout.specs.Lent.{put-patch}
 use Rattle.refusals.specs.declared.Refusal.{Refusal}
-use Rattle.move_ledger.specs.Graph as graph
 use Rattle.move_ledger.specs.Answer.{Answer, is_refused}
-use Rattle.move_area.specs.Calls as calls
 use Rattle.reduced_chunk_graph.specs.Answers.{of_load}
 use Rattle.reduced_chunk_graph.specs.declared.Verdict.{Verdict}
 use Rattle.reduced_chunk_graph.specs.declared.Verdict.TheVariants.{Acyclic, Cyclic}
@@ -19,7 +17,8 @@ use Rattle.moves_load_commands.specs.Machine.{start}
 use Rattle.moves_load_commands.proofs.Lists.{start_take}
 use Rattle.moves_replies.specs.Words.{load_reply}
 use Rattle.moves_load_commands.specs.declared.Reading.{Reading}
-use Rattle.moves_commands.specs.Program.{N, State, areas, unmarked, lent, begun, load, finish, refusal_line}
+use Rattle.moves_commands.specs.Program.{State, areas, lent, begun, load, finish, refusal_line}
+use Rattle.moves_commands.specs.Fits.{Fits}
 use Rattle.moves_commands.specs.Feed.{finished}
 
 -- a verdict that is an error is a refusal
@@ -57,14 +56,18 @@ starts_set sources starts {new} e n h b q =
     let z : n - 0 ≡ n = omega arith in
     ap (λ (k : ℕ). new ++ post_of 0 k starts) (sym z) ∙ put-patch 0 n starts new (omega arith) b (omega (arith, ap length t, tab-length (start sources e) n)) ∙ ap (λ (u : List ℕ). patch 0 u starts) t
 
+-- with the starts set the lists have as much room
+pub started_fits : {s : Reading} {starts starts' : List ℕ} (l : List ℕ) → Fits s starts → starts' ≡ patch 0 l starts → Fits s starts'
+started_fits l f e = rw e (record { roomy = f.roomy; for_starts = simp patch_long f.for_starts; atoms = f.atoms; entries = f.entries })
+
 -- the load, once the starts are set
-module _ (s : Reading) (starts area : List ℕ) {starts' : List ℕ} {a : Answer} {l : graph.Load} (e₁ : starts' ≡ patch 0 (tab (start s.sources s.machine.entries) (s.machine.atoms + 1)) starts)
-    (e₂ : l ≡ lent s starts') (e₃ : a ≡ (calls.new l (unmarked l) N (take l.A s.sets) area).answer) where
+module _ (s : Reading) (starts area : List ℕ) {starts' : List ℕ} {a : Answer} (e₁ : starts' ≡ patch 0 (tab (start s.sources s.machine.entries) (s.machine.atoms + 1)) starts)
+    (e₂ : a ≡ (areas.new (lent s starts') (take s.machine.atoms s.sets) area).answer) where
   pub load_reply_is : load_reply a ≡ (load areas (record { reading = s; starts = starts; graph = area })).reply
   unfolding load
-  load_reply_is = rw (e₃, e₂, e₁) refl
+  load_reply_is = rw (e₂, e₁) refl
 
-  pub load_after : {area' : List ℕ} {b : Bool} → area' ≡ (calls.new l (unmarked l) N (take l.A s.sets) area).area → b ≡ is_refused a
+  pub load_after : {area' : List ℕ} {b : Bool} → area' ≡ (areas.new (lent s starts') (take s.machine.atoms s.sets) area).graph → b ≡ is_refused a
       → ◌≡◌ {A = State (List ℕ)} (record { reading = record s { machine = begun s.machine b }; starts = starts'; graph = area' }) (load areas (record { reading = s; starts = starts; graph = area })).after
   unfolding load
-  load_after f g = rw (g, f, e₃, e₂, e₁) refl
+  load_after f g = rw (g, f, e₂, e₁) refl

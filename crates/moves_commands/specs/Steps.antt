@@ -5,16 +5,12 @@ use Rattle.move_rows.specs.Listed.{RowTold}
 use Rattle.moves_replies.specs.Room.{Put}
 use Rattle.moves_replies.specs.Wrote.{Wrote}
 use Rattle.moves_replies.specs.declared.Replies.{Replies}
-use Rattle.moves_load_commands.specs.declared.Machine.{Machine}
+use Rattle.moves_load_commands.specs.Lent.{shown}
+use Rattle.moves_load_commands.specs.declared.LentReading.{LentReading}
 use Rattle.moves_commands.specs.Program.{N, unmarked, State, Turn}
 use Rattle.moves_commands.specs.Feed as feed
 use Rattle.moves_commands.specs.declared.Interpreter.{Interpreter}
 use Rattle.moves_commands.specs.declared.Fed.{Fed}
-
--- no more is named than the lists have room for
-pub record CanLend (m : Machine) : Type 0 where
-  pub atoms : m.atoms ≤ 48
-  pub entries : m.entries ≤ 128
 
 -- no row from 1 to 6 nor 9 fits, and the edges can be listed by `degrees` and `order`; `known` sets are registered
 pub record CanList (load : Load) (area : List ℕ) (known : ℕ) (order degrees : List ℕ) : Type 0 where
@@ -35,13 +31,23 @@ pub record CanListEdges (load : Load) : Type 0 where
 abbrev pub held : Interpreter → State (List ℕ)
 held i = record { reading = i.reading; starts = i.starts; graph = i.area }
 
+-- the state that lent lists hold
+abbrev pub lent_held : LentReading → List ℕ → List ℕ → State (List ℕ)
+lent_held r starts area = record { reading = shown r; starts = starts; graph = area }
+
 -- the state is a turn's, and its reply is written
-pub record Stepped (t : Turn (List ℕ)) (i : Interpreter) (old new : Replies) : Type 0 where
-  pub after : held i ≡ t.after
+pub record Stepped (t : Turn (List ℕ)) (st : State (List ℕ)) (old new : Replies) : Type 0 where
+  pub after : st ≡ t.after
   pub wrote : Wrote t.reply old new
 
 -- what a block of the input did
 pub record FedAs (f : feed.Fed (List ℕ)) (i : Interpreter) (out out' : List ℕ) (fed : Fed) : Type 0 where
   pub count : fed.used ≡ f.used
   pub after : held i ≡ f.after
+  pub put : Put f.written out 0 out' fed.written
+
+-- what it did, of the state that lent lists hold
+pub record FedTo (f : feed.Fed (List ℕ)) (st : State (List ℕ)) (out out' : List ℕ) (fed : Fed) : Type 0 where
+  pub count : fed.used ≡ f.used
+  pub after : st ≡ f.after
   pub put : Put f.written out 0 out' fed.written

@@ -1,21 +1,23 @@
 // A command whose operands are read.
-ghost use Rattle.std.specs.Prelude.{◌≡◌, [], cond, ◌+◌, ◌≤◌, length};
+ghost use Rattle.std.specs.Prelude.{◌≡◌, [], cond, ◌+◌, ◌≤◌, length, take};
+ghost use Rattle.reduced_chunk_graph.specs.Answers.{of_load};
 ghost use Rattle.graphs.specs.Tab.{tab};
 ghost use Rattle.layout.specs.Patch.{patch};
 ghost use Rattle.moves_load_commands.specs.Machine.{start};
+ghost use Rattle.moves_load_commands.specs.Lent.{SameLists, shown};
 ghost use Rattle.moves_replies.specs.Wrote.{HasRoom, Wrote};
 ghost use Rattle.move_load_view.specs.View.{lent_by};
-ghost use Rattle.moves_commands.specs.Fits.{Ready};
+ghost use Rattle.moves_commands.specs.Fits.{Fits, Ready};
 ghost use Rattle.moves_commands.specs.Program as def;
 ghost use Rattle.moves_commands.specs.Program.{areas, lent, refusal_line};
-ghost use Rattle.moves_commands.specs.Steps.{CanLend, Stepped, held};
+ghost use Rattle.moves_commands.specs.Steps.{Stepped, lent_held};
 
-use crate::Interpreter;
 use crate::edge_lines::list_edges;
 use move_load_view::Load;
 use moves_answers::{put_load, put_move, put_set_answer, put_verdict};
-use moves_load_commands::{Command, Machine, Reading, fill_starts};
+use moves_load_commands::{Command, LentReading, Machine, fill_starts};
 use moves_replies::Replies;
+use reduced_chunk_graph::Verdict;
 use refusals::Refusal;
 
 // How many sets there is room for in the work area.
@@ -26,9 +28,9 @@ pub(crate) const SETS: usize = 96;
 pub(crate) static UNFIXED: [u32; 48] = [0; 48];
 
 // The load that the program lends: of starts and dependencies the part in use.
-fn lend<'l>(reading: &'l Reading, starts: &'l [u32; 49]) -> Load<'l, 'l, 'l>
-    requires { CanLend reading.now.machine }
-    ensures { lent_by result ≡ lent reading.now starts.now }
+fn lend<'l>(reading: &'l LentReading, starts: &'l [u32]) -> Load<'l, 'l, 'l>
+    requires { Fits (shown reading.now) starts.now }
+    ensures { lent_by result ≡ lent (shown reading.now) starts.now }
 {
     let machine = reading.machine;
     Load {
@@ -37,14 +39,14 @@ fn lend<'l>(reading: &'l Reading, starts: &'l [u32; 49]) -> Load<'l, 'l, 'l>
         bits: 16,
         starts: &starts[..machine.atoms + 1],
         dependencies: &reading.dependencies[..machine.entries],
-        hosts: &reading.hosts,
+        hosts: reading.hosts,
     }
 }
 
 // Where each atom's dependencies start, and the last one's end.
-fn set_starts(reading: &Reading, starts: &mut [u32; 49])
-    requires { CanLend reading.now.machine }
-    ensures { starts.new ≡ patch 0 (tab (start reading.now.sources reading.now.machine.entries) (reading.now.machine.atoms + 1)) starts.old }
+fn set_starts(reading: &LentReading, starts: &mut [u32])
+    requires { Fits (shown reading.now) starts.old }
+    ensures { starts.new ≡ patch 0 (tab (start reading.now.sources.now reading.now.machine.entries) (reading.now.machine.atoms + 1)) starts.old }
 {
     let machine = reading.machine;
     fill_starts(
@@ -53,121 +55,158 @@ fn set_starts(reading: &Reading, starts: &mut [u32; 49])
     );
 }
 
-impl Interpreter {
-    // 13: load. Then the moves begin, unless it is refused.
-    fn load(&mut self, replies: &mut Replies)
-        requires ready { Ready (held self.old) }
-        requires room { HasRoom 10240 replies.old }
-        ensures { Stepped (def.load areas (held self.old)) self.new replies.old replies.new }
-    {
-        set_starts(&self.reading, &mut self.starts);
-        let reading = &self.reading;
-        let machine = reading.machine;
-        let load = lend(reading, &self.starts);
-        let verdict = reduced_chunk_graph::new(
-            &load,
-            SETS,
-            &UNFIXED[..load.atoms],
-            &reading.sets[..load.atoms],
-            &mut self.area,
-        );
-        put_load(replies, verdict);
-        let refused = verdict.is_err();
-        self.reading.machine = Machine {
-            moving: true,
-            stopped: refused,
-            command: None,
-            ..machine
-        };
+// A machine that has stopped is a refusal.
+#[tactic(auto, using(moves_replies::specs::Wrote::wrote_none))]
+pub(crate) fn tell_refused(machine: Machine, replies: &mut Replies)
+    requires { HasRoom 64 replies.old }
+    ensures { Wrote (cond machine.stopped refusal_line []) replies.old replies.new }
+{
+    if machine.stopped {
+        replies.put_refused(Refusal::BadCommand);
     }
+}
 
-    // 20: a move.
-    fn move_atom(&mut self, command: Command, replies: &mut Replies)
-        requires ready { Ready (held self.old) }
-        requires room { HasRoom 10240 replies.old }
-        ensures { Stepped (def.move areas command (held self.old)) self.new replies.old replies.new }
-    {
-        let load = lend(&self.reading, &self.starts);
-        let moved = reduced_chunk_graph::try_move(
-            &load,
-            SETS,
-            &UNFIXED[..load.atoms],
-            &mut self.area,
-            command.x,
-            &[u64::from(command.y)],
-        );
-        put_move(replies, moved);
-        self.reading.machine.command = None;
-    }
+// The graph that the program loads, in the work area.
+fn load_graph(reading: &LentReading, starts: &[u32], area: &mut [u32]) -> Result<Verdict, Refusal>
+    requires { Fits (shown reading.now) starts.now }
+    ensures result_value { of_load result ≡ (areas.new (lent (shown reading.now) starts.now) (take reading.now.machine.atoms reading.now.sets.now) area.old).answer }
+    ensures area_after { area.new ≡ (areas.new (lent (shown reading.now) starts.now) (take reading.now.machine.atoms reading.now.sets.now) area.old).graph }
+{
+    let load = lend(reading, starts);
+    reduced_chunk_graph::new(
+        &load,
+        SETS,
+        &UNFIXED[..load.atoms],
+        &reading.sets[..load.atoms],
+        area,
+    )
+}
 
-    // 21: the edges.
-    #[tactic(auto, using(moves_replies::specs::Wrote::wrote_as), unfolding(crate::specs::Program::edges))]
-    fn edges(&mut self, replies: &mut Replies)
-        requires ready { Ready (held self.old) }
-        requires room { HasRoom 10240 replies.old }
-        ensures { Stepped (def.edges areas (held self.old)) self.new replies.old replies.new }
-    {
-        list_edges(&lend(&self.reading, &self.starts), &self.area, replies);
-        self.reading.machine.command = None;
-    }
+// The five commands from here on are functions of their own to the compiler too, so that the working lists of one stand on the stack while it runs, and not
+// those of all.
 
-    // 22: an atom's set.
-    #[tactic(auto, using(moves_replies::specs::Wrote::wrote_as), unfolding(crate::specs::Program::set_command))]
-    fn set_of(&mut self, command: Command, replies: &mut Replies)
-        requires ready { Ready (held self.old) }
-        requires room { HasRoom 10240 replies.old }
-        ensures { Stepped (def.set_command areas command (held self.old)) self.new replies.old replies.new }
-    {
-        let load = lend(&self.reading, &self.starts);
-        let fixed = &UNFIXED[..load.atoms];
-        let set = reduced_chunk_graph::atom_set(&load, SETS, fixed, &self.area, command.y);
-        put_set_answer(replies, set);
-        self.reading.machine.command = None;
-    }
+// 13: load. Then the moves begin, unless it is refused.
+#[inline(never)]
+fn load(reading: &mut LentReading, starts: &mut [u32], area: &mut [u32], replies: &mut Replies)
+    requires ready { Ready (lent_held reading.old starts.old area.old) }
+    requires room { HasRoom 10240 replies.old }
+    ensures stepped { Stepped (def.load areas (lent_held reading.old starts.old area.old)) (lent_held reading.new starts.new area.new) replies.old replies.new }
+    ensures same { SameLists reading.old reading.new }
+{
+    set_starts(reading, starts);
+    let verdict = load_graph(reading, starts, area);
+    put_load(replies, verdict);
+    let refused = verdict.is_err();
+    reading.machine = Machine {
+        moving: true,
+        stopped: refused,
+        command: None,
+        ..reading.machine
+    };
+}
 
-    // 23: whether there is a cycle.
-    #[tactic(auto, using(moves_replies::specs::Wrote::wrote_as), unfolding(crate::specs::Program::cycle))]
-    fn cycle(&mut self, replies: &mut Replies)
-        requires ready { Ready (held self.old) }
-        requires room { HasRoom 10240 replies.old }
-        ensures { Stepped (def.cycle areas (held self.old)) self.new replies.old replies.new }
-    {
-        let load = lend(&self.reading, &self.starts);
-        let fixed = &UNFIXED[..load.atoms];
-        let verdict = reduced_chunk_graph::has_cycle(&load, SETS, fixed, &self.area);
-        put_verdict(replies, verdict);
-        self.reading.machine.command = None;
-    }
+// 20: a move.
+#[inline(never)]
+fn move_atom(
+    reading: &mut LentReading,
+    starts: &[u32],
+    area: &mut [u32],
+    command: Command,
+    replies: &mut Replies,
+)
+    requires ready { Ready (lent_held reading.old starts.now area.old) }
+    requires room { HasRoom 10240 replies.old }
+    ensures stepped { Stepped (def.move areas command (lent_held reading.old starts.now area.old)) (lent_held reading.new starts.now area.new) replies.old replies.new }
+    ensures same { SameLists reading.old reading.new }
+{
+    let load = lend(reading, starts);
+    let moved = reduced_chunk_graph::try_move(
+        &load,
+        SETS,
+        &UNFIXED[..load.atoms],
+        area,
+        command.x,
+        &[u64::from(command.y)],
+    );
+    put_move(replies, moved);
+    reading.machine.command = None;
+}
 
-    // A machine that has stopped is a refusal.
-    #[tactic(auto, using(moves_replies::specs::Wrote::wrote_none))]
-    pub(crate) fn tell_refused(&self, replies: &mut Replies)
-        requires { HasRoom 64 replies.old }
-        ensures { Wrote (cond self.now.reading.machine.stopped refusal_line []) replies.old replies.new }
-    {
-        if self.reading.machine.stopped {
-            replies.put_refused(Refusal::BadCommand);
+// 21: the edges.
+#[inline(never)]
+#[tactic(auto, using(moves_replies::specs::Wrote::wrote_as), unfolding(crate::specs::Program::edges))]
+fn edges(reading: &mut LentReading, starts: &[u32], area: &[u32], replies: &mut Replies)
+    requires ready { Ready (lent_held reading.old starts.now area.now) }
+    requires room { HasRoom 10240 replies.old }
+    ensures stepped { Stepped (def.edges areas (lent_held reading.old starts.now area.now)) (lent_held reading.new starts.now area.now) replies.old replies.new }
+    ensures same { SameLists reading.old reading.new }
+{
+    list_edges(&lend(reading, starts), area, replies);
+    reading.machine.command = None;
+}
+
+// 22: an atom's set.
+#[inline(never)]
+#[tactic(auto, using(moves_replies::specs::Wrote::wrote_as), unfolding(crate::specs::Program::set_command))]
+fn set_of(
+    reading: &mut LentReading,
+    starts: &[u32],
+    area: &[u32],
+    command: Command,
+    replies: &mut Replies,
+)
+    requires ready { Ready (lent_held reading.old starts.now area.now) }
+    requires room { HasRoom 10240 replies.old }
+    ensures stepped { Stepped (def.set_command areas command (lent_held reading.old starts.now area.now)) (lent_held reading.new starts.now area.now) replies.old replies.new }
+    ensures same { SameLists reading.old reading.new }
+{
+    let load = lend(reading, starts);
+    let fixed = &UNFIXED[..load.atoms];
+    let set = reduced_chunk_graph::atom_set(&load, SETS, fixed, area, command.y);
+    put_set_answer(replies, set);
+    reading.machine.command = None;
+}
+
+// 23: whether there is a cycle.
+#[inline(never)]
+#[tactic(auto, using(moves_replies::specs::Wrote::wrote_as), unfolding(crate::specs::Program::cycle))]
+fn cycle(reading: &mut LentReading, starts: &[u32], area: &[u32], replies: &mut Replies)
+    requires ready { Ready (lent_held reading.old starts.now area.now) }
+    requires room { HasRoom 10240 replies.old }
+    ensures stepped { Stepped (def.cycle areas (lent_held reading.old starts.now area.now)) (lent_held reading.new starts.now area.now) replies.old replies.new }
+    ensures same { SameLists reading.old reading.new }
+{
+    let load = lend(reading, starts);
+    let fixed = &UNFIXED[..load.atoms];
+    let verdict = reduced_chunk_graph::has_cycle(&load, SETS, fixed, area);
+    put_verdict(replies, verdict);
+    reading.machine.command = None;
+}
+
+// A command by its number.
+// stays: a table of functions would need an index made of the number and a proof of its bound, where the match needs neither: no plainer
+#[tactic(auto, using(std::proofs::lemmas::Bool::Decides::nat_tests), unfolding(crate::specs::Program::execute))]
+pub(crate) fn execute(
+    reading: &mut LentReading,
+    starts: &mut [u32],
+    area: &mut [u32],
+    command: Command,
+    replies: &mut Replies,
+)
+    requires ready { Ready (lent_held reading.old starts.old area.old) }
+    requires room { HasRoom 10240 replies.old }
+    ensures stepped { Stepped (def.execute areas command (lent_held reading.old starts.old area.old)) (lent_held reading.new starts.new area.new) replies.old replies.new }
+    ensures same { SameLists reading.old reading.new }
+{
+    match command.number {
+        0..=0x12 => {
+            reading.read(command);
+            tell_refused(reading.machine, replies);
         }
-    }
-
-    // A command by its number.
-    // stays: a table of functions would need an index made of the number and a proof of its bound, where the match needs neither: no plainer
-    #[tactic(auto, using(std::proofs::lemmas::Bool::Decides::nat_tests), unfolding(crate::specs::Program::execute))]
-    pub(crate) fn execute(&mut self, command: Command, replies: &mut Replies)
-        requires ready { Ready (held self.old) }
-        requires room { HasRoom 10240 replies.old }
-        ensures { Stepped (def.execute areas command (held self.old)) self.new replies.old replies.new }
-    {
-        match command.number {
-            0..=0x12 => {
-                self.reading.read(command);
-                self.tell_refused(replies);
-            }
-            0x13 => self.load(replies),
-            0x20 => self.move_atom(command, replies),
-            0x21 => self.edges(replies),
-            0x22 => self.set_of(command, replies),
-            _ => self.cycle(replies),
-        }
+        0x13 => load(reading, starts, area, replies),
+        0x20 => move_atom(reading, starts, area, command, replies),
+        0x21 => edges(reading, starts, area, replies),
+        0x22 => set_of(reading, starts, area, command, replies),
+        _ => cycle(reading, starts, area, replies),
     }
 }

@@ -78,11 +78,7 @@ pub(crate) fn list_edges(load: &Load, area: &[u32], replies: &mut Replies)
     let mut degrees = [0u32; 1024];
     let mut order = [0u32; 1024];
     let fixed = &UNFIXED[..load.atoms];
-    let standing = Area {
-        n: SETS,
-        numbers: area,
-    };
-    if let Err(refusal) = listed_row(load, fixed, &standing, &mut degrees, &mut order) {
+    if let Err(refusal) = listed_row(load, SETS, fixed, area, &mut degrees, &mut order) {
         replies.put_refused(refusal);
         return;
     }

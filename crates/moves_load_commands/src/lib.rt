@@ -5,7 +5,8 @@ ghost use Rattle.std.specs.Prelude.{◌≡◌, ◌+◌, ◌^◌, ◌≤◌, ◌<
 ghost use Rattle.graphs.specs.Tab.{tab};
 ghost use Rattle.layout.specs.Patch.{patch};
 ghost use Rattle.moves_load_commands.specs.Machine as def;
-ghost use Rattle.moves_load_commands.specs.Lists.{Roomy, within};
+ghost use Rattle.moves_load_commands.specs.Lists.{Roomy, within, roomy};
+ghost use Rattle.moves_load_commands.specs.Lent.{SameLists, shown};
 
 // A command whose operands are being read.
 #[derive(Clone, Copy, PartialEq, Eq, Debug)]
@@ -41,6 +42,16 @@ pub struct Reading {
     // u32::MAX for a bit that has none
     // stays: the C interface: a load is lent to the library with this number, and the program lends this list itself
     pub hosts: [u32; 16],
+}
+
+// The same over lists that are lent, each of any length.
+#[derive(Drop)]
+pub struct LentReading<'l> {
+    pub machine: Machine,
+    pub sets: &'l mut [u64],
+    pub sources: &'l mut [u32],
+    pub dependencies: &'l mut [u32],
+    pub hosts: &'l mut [u32],
 }
 
 // Whether a byte is a command of this phase: 10 to 13 before the load, 20 to 23 after it.
@@ -115,6 +126,19 @@ impl Command {
 }
 
 impl Machine {
+    // Before the first byte.
+    pub fn new() -> Self
+        ensures { result ≡ def.new_machine }
+    {
+        Machine {
+            moving: false,
+            stopped: false,
+            command: None,
+            atoms: 0,
+            entries: 0,
+        }
+    }
+
     // The machine once a byte is read.
     #[tactic(auto, unfolding(crate::specs::Machine::taken))]
     pub fn taken(self, b: u8) -> Self
@@ -134,6 +158,14 @@ impl Machine {
                 ..self
             },
         }
+    }
+
+    // Whether no more is named than the program has room for.
+    #[tactic(auto, using(std::proofs::lemmas::Bool::Decides::nat_tests))]
+    pub fn is_within(self) -> bool
+        ensures { result ≡ within self }
+    {
+        self.atoms <= 48 && self.entries <= 128
     }
 }
 
@@ -160,13 +192,7 @@ impl Reading {
         ensures { result ≡ def.new_reading }
     {
         Reading {
-            machine: Machine {
-                moving: false,
-                stopped: false,
-                command: None,
-                atoms: 0,
-                entries: 0,
-            },
+            machine: Machine::new(),
             sets: [0; 48],
             sources: [0; 128],
             dependencies: [0; 128],
@@ -175,18 +201,47 @@ impl Reading {
     }
 
     // Whether no more is named than the lists have room for, whose lengths their types tell.
-    #[tactic(auto, using(std::proofs::lemmas::Bool::Decides::nat_tests))]
     pub fn fits(&self) -> bool
         ensures value { result ≡ within self.now.machine }
         ensures lists { Roomy self.now.sets self.now.sources self.now.dependencies self.now.hosts }
     {
-        self.machine.atoms <= 48 && self.machine.entries <= 128
+        self.machine.is_within()
+    }
+
+    // 10, 11 or 12, over these lists.
+    pub fn read(&mut self, command: Command)
+        ensures { self.new ≡ def.read command self.old }
+    {
+        let mut lent = LentReading {
+            machine: self.machine,
+            sets: &mut self.sets,
+            sources: &mut self.sources,
+            dependencies: &mut self.dependencies,
+            hosts: &mut self.hosts,
+        };
+        lent.read(command);
+        self.machine = lent.machine;
+    }
+}
+
+impl LentReading<'_> {
+    // Whether the lists have room for the program's limits.
+    #[tactic(auto, using(std::proofs::lemmas::Bool::Decides::nat_tests))]
+    pub fn has_room(&self) -> bool
+        ensures { result ≡ roomy (shown self.now) }
+    {
+        48 <= self.sets.len()
+            && 128 <= self.sources.len()
+            && 128 <= self.dependencies.len()
+            && 16 <= self.hosts.len()
     }
 
     // 10: the next atom and its set.
     #[tactic(auto, using(std::proofs::lemmas::Bool::Decides::nat_tests), unfolding(crate::specs::Machine::add_atom))]
     fn add_atom(&mut self, command: Command)
-        ensures { self.new ≡ def.add_atom command self.old }
+        requires { 48 ≤ length self.old.sets.now }
+        ensures after { shown self.new ≡ def.add_atom command (shown self.old) }
+        ensures same { SameLists self.old self.new }
     {
         let i = self.machine.atoms;
         if 48 <= i {
@@ -201,7 +256,9 @@ impl Reading {
     // 11: the second atom goes behind the dependencies of the first.
     #[tactic(auto, using(std::proofs::lemmas::Bool::Decides::nat_tests), unfolding(crate::specs::Machine::depend))]
     fn depend(&mut self, command: Command)
-        ensures { self.new ≡ def.depend command self.old }
+        requires { (128 ≤ length self.old.sources.now) × (128 ≤ length self.old.dependencies.now) }
+        ensures after { shown self.new ≡ def.depend command (shown self.old) }
+        ensures same { SameLists self.old self.new }
     {
         let a = command.x as usize;
         let b = command.y as usize;
@@ -210,9 +267,10 @@ impl Reading {
             self.machine.stopped = true;
             return;
         }
-        let p = start(&self.sources[..d], a + 1);
-        insert(&mut self.sources, p, d, command.x);
-        insert(&mut self.dependencies, p, d, command.y);
+        let sources = &mut *self.sources;
+        let p = start(&sources[..d], a + 1);
+        insert(sources, p, d, command.x);
+        insert(self.dependencies, p, d, command.y);
         self.machine.entries = d + 1;
         self.machine.command = None;
     }
@@ -220,7 +278,9 @@ impl Reading {
     // 12: the host of a bit.
     #[tactic(auto, using(std::proofs::lemmas::Bool::Decides::nat_tests), unfolding(crate::specs::Machine::add_host))]
     fn add_host(&mut self, command: Command)
-        ensures { self.new ≡ def.add_host command self.old }
+        requires { 16 ≤ length self.old.hosts.now }
+        ensures after { shown self.new ≡ def.add_host command (shown self.old) }
+        ensures same { SameLists self.old self.new }
     {
         let e = command.x as usize;
         let a = command.y as usize;
@@ -236,7 +296,9 @@ impl Reading {
     // stays: a table of functions would need an index made of the number and a proof of its bound, where the match needs neither: no plainer
     #[tactic(auto, using(std::proofs::lemmas::Bool::Decides::nat_tests), unfolding(crate::specs::Machine::read))]
     pub fn read(&mut self, command: Command)
-        ensures { self.new ≡ def.read command self.old }
+        requires { Roomy self.old.sets.now self.old.sources.now self.old.dependencies.now self.old.hosts.now }
+        ensures after { shown self.new ≡ def.read command (shown self.old) }
+        ensures same { SameLists self.old self.new }
     {
         match command.number {
             0x10 => self.add_atom(command),

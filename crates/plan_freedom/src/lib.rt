@@ -16,6 +16,6 @@ pub fn freedom(load: &Load, n: usize, fixed: &[u32], area: &[u32]) -> Result<Cou
     ensures { of_freedom result ≡ told (lent_by load.now) fixed.now n area.now }
 {
     let area = Area { n, numbers: area };
-    move_rows::check::later_row(load, fixed, &area)?;
+    move_rows::check::later_row(load, n, fixed, area.numbers)?;
     Ok(move_freedom::how_free(load, fixed, &area))
 }

@@ -17,7 +17,7 @@ pub fn has_cycle(load: &Load, n: usize, fixed: &[u32], area: &[u32]) -> Result<V
     ensures { of_load result ≡ asked (lent_by load.now) fixed.now n area.now ledger.has_cycle }
 {
     let area = Area { n, numbers: area };
-    move_rows::check::later_row(load, fixed, &area)?;
+    move_rows::check::later_row(load, n, fixed, area.numbers)?;
     if move_verdict::has_cycle(load, &area) {
         return Ok(Verdict::Cyclic);
     }

@@ -52,7 +52,6 @@ pub fn try_move(
     ensures result_value { of_move result ≡ (calls.try_move (lent_by load.now) fixed.now n area.old atom bits.now).answer }
     ensures area_after { area.new ≡ (calls.try_move (lent_by load.now) fixed.now n area.old atom bits.now).area }
 {
-    let standing = Area { n, numbers: area };
-    move_rows::check::later_row(load, fixed, &standing)?;
+    move_rows::check::later_row(load, n, fixed, area)?;
     go_on(load, n, fixed, area, atom as usize, bits)
 }

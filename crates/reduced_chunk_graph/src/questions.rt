@@ -29,7 +29,7 @@ pub fn atom_set(
     ensures { of_set result ≡ asked (lent_by load.now) fixed.now n area.now (ledger.atom_set atom) }
 {
     let area = Area { n, numbers: area };
-    later_row(load, fixed, &area)?;
+    later_row(load, n, fixed, area.numbers)?;
     let i = atom as usize;
     if load.atoms <= i {
         return Err(Refusal::NoSuchAtom);
@@ -48,7 +48,7 @@ pub fn atom_count(
     ensures { of_number result ≡ asked (lent_by load.now) fixed.now n area.now (ledger.atom_count bits.now) }
 {
     let area = Area { n, numbers: area };
-    later_row(load, fixed, &area)?;
+    later_row(load, n, fixed, area.numbers)?;
     let set = lent_set(bits, load.bits)?;
     let count = move_questions::atom_count(&area, registered(&area), set);
     Ok(u64::from(count))
@@ -66,7 +66,7 @@ pub fn multiplicity(
     ensures { of_number result ≡ asked (lent_by load.now) fixed.now n area.now (ledger.multiplicity from.now to.now) }
 {
     let area = Area { n, numbers: area };
-    later_row(load, fixed, &area)?;
+    later_row(load, n, fixed, area.numbers)?;
     let source = lent_set(from, load.bits)?;
     let target = lent_set(to, load.bits)?;
     let count = move_questions::multiplicity(&area, registered(&area), source, target);
@@ -78,7 +78,7 @@ pub fn edge_count(load: &Load, n: usize, fixed: &[u32], area: &[u32]) -> Result<
     ensures { of_number result ≡ asked (lent_by load.now) fixed.now n area.now ledger.edge_count }
 {
     let area = Area { n, numbers: area };
-    later_row(load, fixed, &area)?;
+    later_row(load, n, fixed, area.numbers)?;
     Ok(move_questions::edge_count(&area))
 }
 
@@ -87,7 +87,7 @@ pub fn chunk_count(load: &Load, n: usize, fixed: &[u32], area: &[u32]) -> Result
     ensures { of_number result ≡ asked (lent_by load.now) fixed.now n area.now ledger.chunk_count }
 {
     let area = Area { n, numbers: area };
-    later_row(load, fixed, &area)?;
+    later_row(load, n, fixed, area.numbers)?;
     Ok(move_questions::chunk_count(&area))
 }
 
@@ -104,6 +104,6 @@ pub fn edge_at(
     let mut degrees = [0u32; 1024];
     let mut order = [0u32; 1024];
     let area = Area { n, numbers: area };
-    listed_row(load, fixed, &area, &mut degrees, &mut order)?;
+    listed_row(load, n, fixed, area.numbers, &mut degrees, &mut order)?;
     Ok(move_questions::edge_at(&area, registered(&area), &order, &degrees, k))
 }

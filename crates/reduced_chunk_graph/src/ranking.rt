@@ -6,7 +6,6 @@ ghost use Rattle.move_load_view.specs.View.{lent_by};
 ghost use Rattle.move_rank.specs.Ranking.{ranking};
 ghost use Rattle.reduced_chunk_graph.specs.Answers.{of_rank};
 
-use move_area::Area;
 use move_load_view::Load;
 use move_rows::check::later_row;
 use refusals::Refusal;
@@ -22,7 +21,7 @@ pub fn rank(
 ) -> Result<Ordering, Refusal>
     ensures { of_rank result ≡ ranking (lent_by load.now) fixed.now n first.now second.now }
 {
-    later_row(load, fixed, &Area { n, numbers: first })?;
-    later_row(load, fixed, &Area { n, numbers: second })?;
+    later_row(load, n, fixed, first)?;
+    later_row(load, n, fixed, second)?;
     Ok(move_rank::rank(first, second, n, load.atoms))
 }

@@ -65,6 +65,6 @@ pub fn start_order(
     let mut degrees = [0u32; 1024];
     let mut order = [0u32; 1024];
     let area = Area { n, numbers: area };
-    listed_row(load, fixed, &area, &mut degrees, &mut order)?;
+    listed_row(load, n, fixed, area.numbers, &mut degrees, &mut order)?;
     go_on(load, &area, bit, &order, &mut degrees, chunks)
 }

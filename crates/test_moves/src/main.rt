@@ -2,18 +2,30 @@
 // length, two bytes, low byte first.
 #![tactic(auto)]
 
-use moves_commands::Interpreter;
+use moves_load_commands::{LentReading, Machine};
 use program_input::read_full;
 
 // stays: memory is fixed, nothing is on the heap: the arrays of this file
 
 fn run_case(rt: HostRuntime, input: &[u8]) {
-    let mut interpreter = Interpreter::new();
+    let mut sets = [0u64; 48];
+    let mut sources = [0u32; 128];
+    let mut dependencies = [0u32; 128];
+    let mut hosts = [u32::MAX; 16];
+    let mut starts = [0u32; 49];
+    let mut area = [0u32; 16384];
+    let mut reading = LentReading {
+        machine: Machine::new(),
+        sets: &mut sets,
+        sources: &mut sources,
+        dependencies: &mut dependencies,
+        hosts: &mut hosts,
+    };
     let mut out = [0u8; 65536];
-    let n = interpreter.feed(input, &mut out).written;
+    let n = moves_commands::feed(&mut reading, &mut starts, &mut area, input, &mut out).written;
     let _ = rt.write_all(&out[..n]);
     let mut last = [0u8; 64];
-    let k = moves_commands::finish(interpreter.reading.machine, &mut last);
+    let k = moves_commands::finish(reading.machine, &mut last);
     let _ = rt.write_all(&last[..k]);
 }
 

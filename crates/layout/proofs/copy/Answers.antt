@@ -1,13 +1,13 @@
--- `layout::copy`: a lent part that is back is a patch, and what was read is a part. Assumes nothing.
-use Rattle.std.proofs.Common.{arith, rules, ap, ◌≡◌, ◌∙◌, List, ℕ, ◌+◌, ◌-◌}
-use Rattle.layout.specs.Patch.{patch, part}
-use Rattle.layout.specs.Lent.{mid_part, put-patch}
+-- `layout::copy`: one number more at each turn. Assumes nothing.
+use Rattle.std.proofs.Common.{arith}
+use Rattle.layout.proofs.Writes.{copy_none, copy_more, copy_done}
 use Rattle.layout.proofs.copy.Goals as goal
 
+pub loop-i-init : goal.loop-i-init
+loop-i-init c = copy_none
+
+pub loop-i-preserved : goal.loop-i-preserved
+loop-i-preserved c = copy_more c.loop-i.invariant c.loop-i-test.true c.requires.inside
+
 pub returns : goal.returns
-returns c =
-    let s = c.args in
-    let read = mid_part s.start (s.start + s.k) s.from.now (omega arith) (omega arith) in
-    let long : s.start + s.k - s.start ≡ s.k = omega arith in
-    put-patch s.at (s.at + s.k) s.area.now c.copy_from_slice.new.self (omega arith) (omega arith) (search rules)
-    ∙ ap (λ (v : List ℕ). patch s.at v s.area.now) (c.copy_from_slice.ensures.after ∙ read ∙ ap (λ (k : ℕ). part s.start k s.from.now) long)
+returns c = copy_done c.loop-i.invariant (omega arith)

@@ -8,17 +8,17 @@ pub loop-init : goal.loop-init
 loop-init c = rw c.requires begun
 
 pub read_block-block-requires : goal.read_block-block-requires
-read_block-block-requires c = reading-ready c.loop.invariant (fresh-ready c.args.interpreter.now.area)
+read_block-block-requires c = reading-ready c.loop.invariant (fresh-ready c.args.area.now)
 
-pub returns-then-interpreter : goal.returns-then-interpreter
-returns-then-interpreter c =
+pub returns-then-reading : goal.returns-then-reading
+returns-then-reading c =
     let r = c.read_block-block.ensures in
-    reading-ends c.loop.invariant c.read_block-block.result.taken _ r.took_read r.in_bounds (ap (λ m. (c.loop.bytes + m) % 2 ^ 64) c.unwrap_or.ensures) c.if-interpreter.true
+    reading-ends c.loop.invariant c.read_block-block.result.taken _ r.took_read r.in_bounds (ap (λ m. (c.loop.bytes + m) % 2 ^ 64) c.unwrap_or.ensures) c.if-reading.true
 
 pub loop-preserved : goal.loop-preserved
 loop-preserved c =
     let r = c.read_block-block.ensures in
-    reading_on c.loop.invariant c.read_block-block.result.taken _ r.took_read r.in_bounds (ap (λ m. (c.loop.bytes + m) % 2 ^ 64) c.unwrap_or.ensures) c.if-interpreter.false
+    reading_on c.loop.invariant c.read_block-block.result.taken _ r.took_read r.in_bounds (ap (λ m. (c.loop.bytes + m) % 2 ^ 64) c.unwrap_or.ensures) c.if-reading.false
 
 pub returns : goal.returns
 returns c = reading-out c.loop.invariant (omega arith)

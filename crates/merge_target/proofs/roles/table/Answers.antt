@@ -7,7 +7,7 @@ use Rattle.merge_target.specs.Roles.{role_number, numbers}
 use Rattle.merge_target.proofs.roles.table.Goals as goal
 
 pub loop-b-init : goal.loop-b-init
-loop-b-init c = named_none (zeros 256)
+loop-b-init c = named_none (zeros 1024)
 
 pub role_of-requires : goal.role_of-requires
 role_of-requires c =

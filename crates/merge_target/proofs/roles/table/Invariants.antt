@@ -6,4 +6,4 @@ use Rattle.merge_target.specs.Roles.{numbers}
 use Rattle.merge_target.proofs.roles.table.Given as goal
 
 abbrev pub invariant-loop-b : goal.invariant-loop-b
-invariant-loop-b l = Named l.classes l.kinds (number l.set) (replicate 256 0) (numbers l.roles) l.b
+invariant-loop-b l = Named l.classes l.kinds (number l.set) (replicate 1024 0) (numbers l.roles) l.b

@@ -12,13 +12,13 @@ returns-in_err-refusal c =
     rw (p.1, p.2) (row_first c.in_err-refusal.ensures (row_some _))
 
 pub keeps-requires : goal.keeps-requires
-keeps-requires c = can_keep (lent_by c.args.load.now) c.args.fixed.now c.args.area.now.n c.args.area.now.numbers.now (sym c.in_ok-refusal.ensures)
+keeps-requires c = can_keep (lent_by c.args.load.now) c.args.fixed.now c.args.n c.args.area.now (sym c.in_ok-refusal.ensures)
 
 pub returns-then-not-keeps : goal.returns-then-not-keeps
 returns-then-not-keeps c = row_unkept (sym c.in_ok-refusal.ensures) c.keeps.ensures c.if-not-keeps.true
 
 pub consistent-requires : goal.consistent-requires
-consistent-requires c = can_check (lent_by c.args.load.now) c.args.fixed.now c.args.area.now.n c.args.area.now.numbers.now (sym c.in_ok-refusal.ensures) (search rules)
+consistent-requires c = can_check (lent_by c.args.load.now) c.args.fixed.now c.args.n c.args.area.now (sym c.in_ok-refusal.ensures) (search rules)
 
 pub returns-then-consistent : goal.returns-then-consistent
 returns-then-consistent c = row-none (sym c.in_ok-refusal.ensures) c.keeps.ensures c.consistent.ensures (search rules) (search rules) c.if-not-keeps.false c.if-consistent.true
