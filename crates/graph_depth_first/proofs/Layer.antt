@@ -20,7 +20,7 @@ use Rattle.graph_colours.specs.declared.State.TheVariants.{White, Gray, Black}
 use Rattle.graph_colours.specs.States.{code}
 use Rattle.graph_colours.specs.Colours.{colour_of, view, held, Next, opens, passes, closes}
 use Rattle.graph_depth_first.specs.declared.Progress.{Progress}
-use Rattle.graph_depth_first.specs.Lists.{Lists}
+use Rattle.graph_depth_first.specs.Lists.{Lists, Long}
 use Rattle.graph_depth_first.specs.Search.{Falls}
 use Rattle.graph_depth_first.specs.Steps.{at, state_at, CanDiscover, Discovered, CanFinish, Finished, CanVisit, Visited, Ready, Kept, Stepped}
 use Rattle.graph_depth_first.proofs.Whites.{room_for}
@@ -34,6 +34,12 @@ kept_refl n l = record { known = λ x b h. h }
 
 pub kept_trans : {n : ℕ} {a b c : List State} → Kept n a b → Kept n b c → Kept n a c
 kept_trans p q = record { known = λ x b h. q.known x b (p.known x b h) }
+
+pub long_refl : (s : Lists) → Long s s
+long_refl s = record { states = refl; cursors = refl; stack = refl; order = refl }
+
+pub long_trans : {a b c : Lists} → Long a b → Long b c → Long a c
+long_trans p q = record { states = q.states ∙ p.states; cursors = q.cursors ∙ p.cursors; stack = q.stack ∙ p.stack; order = q.order ∙ p.order }
 
 -- a node whose state changes is not white afterwards
 turned_kept : (n : ℕ) (l : List State) (j : ℕ) (q : State) → j < length l → (q ≡ White → ⊥) → Kept n l (set l j q)
@@ -103,6 +109,7 @@ module _ {graph : Neighbours} {n : ℕ} {s : Lists} {p : Progress} (r : Ready gr
         ready = push_ready;
         moved = opens j (view_opens n d f s.states s.cursors s.stack p.height (omega (arith, r.colours)) j jn (omega (arith, r.places, push_fits)) white from);
         less = omega (arith, size_states s₁.states (put r.number j 1) agree₁ d (at s.cursors) (p.height + 1), size_states s.states r.number r.states d (at s.cursors) p.height, moves.push_size r.state (listed r.graph_in) (put r.number j 1) (at s₁.stack) (put r.low j p.finished) j jn new after (put_same r.number j 1) (λ x b. put_other r.number j 1 x) sj so (put_same r.low j p.finished) (λ x b. put_other r.low j p.finished x));
+        long = record { states = rw length-set refl; cursors = refl; stack = rw length-set refl; order = refl };
       }
 
       module _ {s' : Lists} {p' : Progress} (w : Discovered s p j s' p') where
@@ -196,6 +203,7 @@ module _ {graph : Neighbours} {n : ℕ} {s : Lists} {p : Progress} (r : Ready gr
         ready = pop_ready;
         moved = closes t (view-closes n d f s.states s.cursors s.stack p.height (omega (arith, r.colours)) t top_node refl some top_gray all);
         less = omega (arith, size_states s₂.states (put r.number t (p.finished + 2)) agree₂ d (at s.cursors) (p.height - 1), size_states s.states r.number r.states d (at s.cursors) p.height, moves.pop_size r.state (listed r.graph_in) (put r.number t (p.finished + 2)) (at s₂.order) some all (put_same r.number t (p.finished + 2)) (λ x b. put_other r.number t (p.finished + 2) x) of oo);
+        long = record { states = rw length-set refl; cursors = refl; stack = refl; order = rw length-set refl };
       }
 
       pub pop_step : {s' : Lists} {p' : Progress} → Finished s p t s' p' → Stepped graph n s p s' p'
@@ -255,6 +263,7 @@ module _ {graph : Neighbours} {n : ℕ} {s : Lists} {p : Progress} (r : Ready gr
             };
             moved = passes t y (view-passes n d f s.states s.cursors s.stack p.height (omega (arith, r.colours)) t y top_node (omega (arith, r.passed)) next known);
             less = omega (arith, size_states s.states r.number r.states d (at cursors₃) p.height, size_states s.states r.number r.states d (at s.cursors) p.height, moves.next-size r.state (listed r.graph_in) (at cursors₃) t top_node room done ut uo);
+            long = record { states = refl; cursors = rw length-set refl; stack = refl; order = refl };
           }
 
       cycle : state_at s.states y ≡ Gray → cyclic e (below n) ≡ true

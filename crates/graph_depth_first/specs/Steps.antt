@@ -10,7 +10,7 @@ use Rattle.graph_colours.specs.declared.State.TheVariants.{White, Gray, Black}
 use Rattle.graph_colours.specs.States.{code}
 use Rattle.graph_colours.specs.Colours.{colour_of, view, Step, Run}
 use Rattle.graph_depth_first.specs.declared.Progress.{Progress}
-use Rattle.graph_depth_first.specs.Lists.{Lists}
+use Rattle.graph_depth_first.specs.Lists.{Lists, Long}
 use Rattle.graph_depth_first.specs.Order.{Ordered}
 use Rattle.graph_depth_first.specs.Search.{Search, Falls, size}
 
@@ -85,6 +85,7 @@ pub record Stepped (graph : Neighbours) (n : ℕ) (s : Lists) (p : Progress) (s'
   pub ready : Ready graph n s' p'
   pub moved : Step n (deg graph.starts.now) (nb graph.starts.now (followed graph)) (view s.states s.cursors s.stack p.height) (view s'.states s'.cursors s'.stack p'.height)
   pub less : left graph n s' p' < left graph n s p
+  pub long : Long s s'
 
 -- no node is gray, and root is a node
 pub record CanSearch (graph : Neighbours) (n root : ℕ) (s : Lists) (p : Progress) : Type 0 where
@@ -99,6 +100,7 @@ pub record Searched (graph : Neighbours) (n root : ℕ) (s s' : Lists) (p' : Pro
   pub ran : Run n (deg graph.starts.now) (nb graph.starts.now (followed graph)) (view s.states s.cursors s.stack 0) (view s'.states s'.cursors s'.stack 0)
   pub ready : Ready graph n s' p'
   pub empty : p'.height ≡ 0
+  pub long : Long s s'
 
 -- with lists of N numbers
 pub record CanWalk (starts list : List ℕ) (n N : ℕ) : Type 0 where

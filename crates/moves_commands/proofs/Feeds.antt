@@ -1,6 +1,7 @@
 -- What the loop over a block of the input keeps. Assumes nothing.
-use Rattle.std.proofs.Common.{◌≡◌, refl, sym, ap, subst, ◌∙◌, List, [], ◌∷◌, ◌++◌, true, append_assoc, append-nil, ℕ, ◌+◌, ◌-◌, ◌≤◌, ◌<◌, false, length, get_or, drop, arith, add-one, zero-add, add-zero}
+use Rattle.std.proofs.Common.{◌≡◌, refl, sym, ap, subst, ◌∙◌, List, [], ◌∷◌, ◌++◌, true, append_assoc, append-nil, ℕ, ◌+◌, ◌-◌, ◌≤◌, ◌<◌, false, length, get_or, drop, arith, le-leb, add-one, zero-add, add-zero}
 use Rattle.std.proofs.Math.Seq.{drop-cons, drop-length}
+use Rattle.moves_load_commands.specs.Lists.{Roomy, within}
 use Rattle.moves_load_commands.specs.Lent.{SameLists}
 use Rattle.moves_load_commands.specs.declared.LentReading.{LentReading}
 use Rattle.moves_replies.specs.Room.{put-none, put_as}
@@ -93,13 +94,37 @@ pub fed_none : (s : State (List ℕ)) (input out : List ℕ) → fits s.reading 
 unfolding feed
 fed_none s input out e = rw e (record { count = refl; after = refl; put = put-none out 0 (omega arith) })
 
+-- an interpreter's lists have room, by their types: what is left to ask is that no more is named than there is room for
+module _ (k : Interpreter) (l : Roomy k.reading.sets k.reading.sources k.reading.dependencies k.reading.hosts) (h : 49 ≤ length k.starts) where
+  pub fits_within : fits k.reading k.starts ≡ within k.reading.machine
+  fits_within =
+      rw (le-leb 48 _ l.for_sets, le-leb 128 _ l.for_sources, le-leb 128 _ l.for_dependencies, le-leb 16 _ l.for_hosts, le-leb 49 _ h) refl
+
 -- the state is the one that an interpreter holds
 pub fed_held : {f : Fed (List ℕ)} {k : Interpreter} {st : State (List ℕ)} {out out' : List ℕ} {fed : code.Fed} → held k ≡ st → FedTo f st out out' fed → FedAs f k out out' fed
 fed_held e v = record { count = v.count; after = e ∙ v.after; put = v.put }
 
--- the lists stay those that were lent
+-- the lists stay those that were lent, each as long as it was
 pub same_none : (r : LentReading) → SameLists r r
-same_none r = record { sets = refl; sources = refl; dependencies = refl; hosts = refl }
+same_none r = record {
+  sets = refl;
+  sources = refl;
+  dependencies = refl;
+  hosts = refl;
+  long_sets = refl;
+  long_sources = refl;
+  long_dependencies = refl;
+  long_hosts = refl;
+}
 
 pub same_then : {r s t : LentReading} → SameLists r s → SameLists s t → SameLists r t
-same_then a b = record { sets = b.sets ∙ a.sets; sources = b.sources ∙ a.sources; dependencies = b.dependencies ∙ a.dependencies; hosts = b.hosts ∙ a.hosts }
+same_then a b = record {
+  sets = b.sets ∙ a.sets;
+  sources = b.sources ∙ a.sources;
+  dependencies = b.dependencies ∙ a.dependencies;
+  hosts = b.hosts ∙ a.hosts;
+  long_sets = b.long_sets ∙ a.long_sets;
+  long_sources = b.long_sources ∙ a.long_sources;
+  long_dependencies = b.long_dependencies ∙ a.long_dependencies;
+  long_hosts = b.long_hosts ∙ a.long_hosts;
+}

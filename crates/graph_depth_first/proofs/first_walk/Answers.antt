@@ -5,6 +5,7 @@ use Rattle.graph_colours.specs.declared.State.TheVariants.{White}
 use Rattle.graph_colours.specs.Colours.{none}
 use Rattle.graph_depth_first.specs.Lent.{same_lists, same_then}
 use Rattle.graph_depth_first.proofs.Views.{held_none, run_join}
+use Rattle.graph_depth_first.proofs.Layer.{long_refl, long_trans}
 use Rattle.graph_depth_first.proofs.Rounds.{cleared, cleared_can, round_first, round_more, round_done, round_ran}
 use Rattle.graph_depth_first.proofs.first_walk.Goals as goal
 
@@ -17,6 +18,7 @@ loop-root-init c = record {
   };
   round = round_first (cleared_can c.requires (search rules) (search rules)) (cleared c.args.n White c.args.states.now (search rules)) (cleared c.args.n 0 c.args.cursors.now (search rules)) refl;
   ran = none;
+  long = long_refl _;
   same = same_lists _;
 }
 
@@ -27,7 +29,7 @@ pub loop-root-preserved : goal.loop-root-preserved
 loop-root-preserved c =
     let v = c.loop-root.invariant in
     let w = c.search-progress.ensures in
-    record { starts = v.starts; round = round_more v.round c.loop-root-test.true w.moves; ran = run_join v.ran w.moves.ran; same = same_then v.same w.same }
+    record { starts = v.starts; round = round_more v.round c.loop-root-test.true w.moves; ran = run_join v.ran w.moves.ran; long = long_trans v.long w.moves.long; same = same_then v.same w.same }
 
 pub returns-clause-walked : goal.returns-clause-walked
 returns-clause-walked c =

@@ -1,4 +1,4 @@
--- What is still to come after the bytes up to i is all that is left, and the lists are those that were lent. Assumes nothing.
+-- What is still to come after the bytes up to i is all that is left, and the lists are those that were lent, each as long as it was. Assumes nothing.
 use Rattle.moves_load_commands.specs.Lent.{SameLists}
 use Rattle.moves_commands.specs.Steps.{lent_held}
 use Rattle.moves_commands.proofs.Feeds.{Feeding}

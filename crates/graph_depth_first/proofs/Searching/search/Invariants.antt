@@ -1,8 +1,9 @@
--- The state of the search, and the run so far. Assumes nothing.
+-- The state of the search, and the run so far, in the lists that are lent, each as long as it was. Assumes nothing.
 use Rattle.graph_neighbours.specs.Followed.{followed}
 use Rattle.graph_neighbours.specs.Lists.{deg, nb}
 use Rattle.graph_colours.specs.Colours.{view, Run}
 use Rattle.graph_depth_first.specs.Lent.{lists, SameLists}
+use Rattle.graph_depth_first.specs.Lists.{Long}
 use Rattle.graph_depth_first.specs.Steps.{Ready, Kept, left}
 use Rattle.graph_depth_first.proofs.Searching.search.Given as goal
 
@@ -12,6 +13,7 @@ invariant-loop-progress l = record {
   kept : Kept l.n l.initial.self.states.now l.self.states.now;
   ran : Run l.n (deg l.graph.starts.now) (nb l.graph.starts.now (followed l.graph)) (view l.initial.self.states.now l.initial.self.cursors.now l.initial.self.stack.now l.initial.progress.height)
       (view l.self.states.now l.self.cursors.now l.self.stack.now l.progress.height);
+  long : Long (lists l.initial.self) (lists l.self);
   same : SameLists l.initial.self l.self;
 }
 
