@@ -100,7 +100,6 @@ pub record Searched (graph : Neighbours) (n root : ℕ) (s s' : Lists) (p' : Pro
   pub ran : Run n (deg graph.starts.now) (nb graph.starts.now (followed graph)) (view s.states s.cursors s.stack 0) (view s'.states s'.cursors s'.stack 0)
   pub ready : Ready graph n s' p'
   pub empty : p'.height ≡ 0
-  pub long : Long s s'
 
 -- with lists of N numbers
 pub record CanWalk (starts list : List ℕ) (n N : ℕ) : Type 0 where

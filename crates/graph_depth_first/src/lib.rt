@@ -8,6 +8,7 @@ ghost use Rattle.graph_neighbours.specs.Followed.{followed};
 ghost use Rattle.graph_neighbours.specs.Lists.{deg, nb, edge};
 ghost use Rattle.graph_colours.specs.Colours.{view, Starts, Ran};
 ghost use Rattle.graph_depth_first.specs.Lent.{lists, SameLists};
+ghost use Rattle.graph_depth_first.specs.Lists.{Long};
 ghost use Rattle.graph_depth_first.specs.Steps.{CanDiscover, Discovered, CanFinish, Finished, CanVisit, Visited, Ready, Stepped, CanSearch, Searched, CanWalk, CanWalkIn, Walked};
 
 use graph_colours::State;
@@ -105,6 +106,7 @@ impl<'l> Searching<'l> {
     fn search(&mut self, graph: &Neighbours, n: usize, root: usize, from: Progress) -> Progress
         requires { CanSearch graph.now n root (lists self.old) from }
         ensures moves { Searched graph.now n root (lists self.old) (lists self.new) result }
+        ensures long { Long (lists self.old) (lists self.new) }
         ensures same { SameLists self.old self.new }
     {
         if self.states[root] != State::White {

@@ -104,27 +104,9 @@ module _ (k : Interpreter) (l : Roomy k.reading.sets k.reading.sources k.reading
 pub fed_held : {f : Fed (List ℕ)} {k : Interpreter} {st : State (List ℕ)} {out out' : List ℕ} {fed : code.Fed} → held k ≡ st → FedTo f st out out' fed → FedAs f k out out' fed
 fed_held e v = record { count = v.count; after = e ∙ v.after; put = v.put }
 
--- the lists stay those that were lent, each as long as it was
+-- the lists stay those that were lent
 pub same_none : (r : LentReading) → SameLists r r
-same_none r = record {
-  sets = refl;
-  sources = refl;
-  dependencies = refl;
-  hosts = refl;
-  long_sets = refl;
-  long_sources = refl;
-  long_dependencies = refl;
-  long_hosts = refl;
-}
+same_none r = record { sets = refl; sources = refl; dependencies = refl; hosts = refl }
 
 pub same_then : {r s t : LentReading} → SameLists r s → SameLists s t → SameLists r t
-same_then a b = record {
-  sets = b.sets ∙ a.sets;
-  sources = b.sources ∙ a.sources;
-  dependencies = b.dependencies ∙ a.dependencies;
-  hosts = b.hosts ∙ a.hosts;
-  long_sets = b.long_sets ∙ a.long_sets;
-  long_sources = b.long_sources ∙ a.long_sources;
-  long_dependencies = b.long_dependencies ∙ a.long_dependencies;
-  long_hosts = b.long_hosts ∙ a.long_hosts;
-}
+same_then a b = record { sets = b.sets ∙ a.sets; sources = b.sources ∙ a.sources; dependencies = b.dependencies ∙ a.dependencies; hosts = b.hosts ∙ a.hosts }

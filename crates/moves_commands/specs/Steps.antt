@@ -1,5 +1,5 @@
 -- What the interpreter's functions ask and show. Assumes nothing.
-use Rattle.std.specs.Prelude.{◌≡◌, List, ℕ, ◌+◌, ◌*◌, ◌≤◌, get_or}
+use Rattle.std.specs.Prelude.{◌≡◌, List, ℕ, ◌+◌, ◌*◌, ◌≤◌, length, get_or}
 use Rattle.move_ledger.specs.Graph.{Load}
 use Rattle.move_rows.specs.Listed.{RowTold}
 use Rattle.moves_replies.specs.Room.{Put}
@@ -7,6 +7,7 @@ use Rattle.moves_replies.specs.Wrote.{Wrote}
 use Rattle.moves_replies.specs.declared.Replies.{Replies}
 use Rattle.moves_load_commands.specs.Lent.{shown}
 use Rattle.moves_load_commands.specs.declared.LentReading.{LentReading}
+use Rattle.moves_load_commands.specs.declared.Reading.{Reading}
 use Rattle.moves_commands.specs.Program.{N, unmarked, State, Turn}
 use Rattle.moves_commands.specs.Feed as feed
 use Rattle.moves_commands.specs.declared.Interpreter.{Interpreter}
@@ -34,6 +35,13 @@ held i = record { reading = i.reading; starts = i.starts; graph = i.area }
 -- the state that lent lists hold
 abbrev pub lent_held : LentReading → List ℕ → List ℕ → State (List ℕ)
 lent_held r starts area = record { reading = shown r; starts = starts; graph = area }
+
+-- each list of a reading is as long as it was
+pub record Long (s s' : Reading) : Type 0 where
+  pub sets : length s'.sets ≡ length s.sets
+  pub sources : length s'.sources ≡ length s.sources
+  pub dependencies : length s'.dependencies ≡ length s.dependencies
+  pub hosts : length s'.hosts ≡ length s.hosts
 
 -- the state is a turn's, and its reply is written
 pub record Stepped (t : Turn (List ℕ)) (st : State (List ℕ)) (old new : Replies) : Type 0 where

@@ -29,7 +29,7 @@ pub loop-root-preserved : goal.loop-root-preserved
 loop-root-preserved c =
     let v = c.loop-root.invariant in
     let w = c.search-progress.ensures in
-    record { starts = v.starts; round = round_more v.round c.loop-root-test.true w.moves; ran = run_join v.ran w.moves.ran; long = long_trans v.long w.moves.long; same = same_then v.same w.same }
+    record { starts = v.starts; round = round_more v.round c.loop-root-test.true w.moves; ran = run_join v.ran w.moves.ran; long = long_trans v.long w.long; same = same_then v.same w.same }
 
 pub returns-clause-walked : goal.returns-clause-walked
 returns-clause-walked c =

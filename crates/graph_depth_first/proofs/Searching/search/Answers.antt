@@ -14,7 +14,8 @@ pub returns-then-ne : goal.returns-then-ne
 returns-then-ne c =
     let known : get_or c.args.self.now.states.now c.args.root White ≡ White → ⊥ = search rules in
     record {
-      moves = record { kept = kept_refl _ _; known = known; ran = none; ready = c.requires.ready; empty = c.requires.empty; long = long_refl _ };
+      moves = record { kept = kept_refl _ _; known = known; ran = none; ready = c.requires.ready; empty = c.requires.empty };
+      long = long_refl _;
       same = same_lists _;
     }
 
@@ -53,7 +54,7 @@ returns c =
         ran = rw (c.requires.empty, z) at (run_join (more none first.moved) v.ran);
         ready = v.ready;
         empty = z;
-        long = long_trans first.long v.long;
       };
+      long = long_trans first.long v.long;
       same = same_then c.discover-progress.ensures.same v.same;
     }
